@@ -1,0 +1,32 @@
+-- What a word adds to C is at most 1, and C at most the number of words. Assumes nothing.
+use mathlib.Core.Bool.{Bool, true, false, cond, _&&_}
+use Prim.Native.Nat.{ℕ, _+_, _*_, _/_, _%_, _≤_}
+use native.Mathlib.Omega.{arith}
+use lib.Dec.{eqb}
+use Rattle.graph.specs.Graph.{Graph, mark}
+use Rattle.graph.specs.Count.{C, adds, nodeAdds, outAdds, wordAdds}
+use Rattle.graph.proofs.Finite.{sum-le}
+
+cond-le : (b : Bool) (x y n : ℕ) → x ≤ n → y ≤ n → cond b x y ≤ n
+cond-le true x y n h k = h
+cond-le false x y n h k = k
+
+pub adds-le : (x : ℕ) → adds x ≤ 1
+unfolding adds
+adds-le x = cond-le (eqb (x / 2) 0) 0 (x % 2) 1 (omega arith) (omega arith)
+
+pub wordAdds-le : (j x : ℕ) → wordAdds j x ≤ 1
+unfolding wordAdds
+wordAdds-le j x = cond-le (eqb (j % 3) 2 && eqb x mark) 0 (adds x) 1 (omega arith) (adds-le x)
+
+pub nodeAdds-le : (g : Graph) (j : ℕ) → nodeAdds g j ≤ 1
+unfolding nodeAdds
+nodeAdds-le g j = wordAdds-le _ _
+
+pub outAdds-le : (g : Graph) (j : ℕ) → outAdds g j ≤ 1
+unfolding outAdds
+outAdds-le g j = adds-le _
+
+pub C-le : (g : Graph) → C g ≤ 3 * g .N + g .O
+unfolding C
+C-le g = omega (arith, sum-le (nodeAdds g) (nodeAdds-le g) (3 * g .N), sum-le (outAdds g) (outAdds-le g) (g .O))

@@ -1,0 +1,10 @@
+pub mod Cases
+pub mod Finite
+pub mod Sweep
+pub mod Turn
+pub mod Tests
+pub mod Steps
+pub mod Answers
+pub mod Adds
+pub mod Admit
+pub mod Values

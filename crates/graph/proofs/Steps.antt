@@ -1,0 +1,65 @@
+-- The first fault of a table, one node or one output further on, and one that was met stays the first. From the laws on tests.
+use mathlib.Core.Path.{_≡_, refl, sym, _∙_}
+use mathlib.Core.Bool.{Bool, true, false, cond, not}
+use Prim.Native.Nat.{ℕ, zero, suc, _+_, _*_, _/_, _%_, _≤_, _<_}
+use native.Mathlib.Decide.{le-ind}
+use native.Mathlib.Numerals.{add-one}
+use native.Mathlib.Omega.{arith}
+use lib.Dec.{eqb}
+use borrow.Author.Tests.{eq-eqb, ne-eqb}
+use Rattle.graph.specs.Finite.{ifLess, ifEqual, first, firstOf}
+use Rattle.graph.specs.Graph.{Graph, mark, node, word, out, isEdge}
+use Rattle.graph.specs.Admission.{wordNumber, outNumber}
+use Rattle.graph.proofs.Tests.{fault, none}
+
+pub first-assoc : (a b d : ℕ) → first (first a b) d ≡ first a (first b d)
+unfolding first
+first-assoc zero b d = refl
+first-assoc (suc a) b d = refl
+
+-- a fault among the first m is that of any longer stretch
+pub stays : (m n : ℕ) (f : ℕ → ℕ) → (firstOf m f ≡ 0 → ⊥) → m ≤ n → firstOf n f ≡ firstOf m f
+unfolding firstOf
+stays m n f z h =
+    le-ind (λ (i : ℕ). firstOf i f ≡ firstOf m f) refl
+    (λ i k s. sym (fault (firstOf i f) (f i) (sym s) (λ e. z (sym s ∙ e)))) n h
+
+cond-not : {A : Type 0} (b : Bool) (x y : A) → cond (not b) x y ≡ cond b y x
+cond-not true x y = refl
+cond-not false x y = refl
+
+-- what the three words of the node with this index come to
+abbrev pub nodeWords : ℕ → ℕ → ℕ → ℕ → ℕ
+nodeWords index x y z = first (ifLess (x / 2) index 0 5) (first (ifLess (y / 2) index 0 5) (ifEqual z mark 0 (ifLess (z / 2) index 0 5)))
+
+module _ (g : Graph) where
+  word-plain : (j v : ℕ) → j % 3 < 2 → j / 3 ≡ v → wordNumber g j ≡ ifLess (word g j / 2) (node g v) 0 5
+  unfolding wordNumber isEdge
+  word-plain j v h e = simp (ne-eqb (j % 3) 2 (omega arith), e)
+
+  word-third : (j v : ℕ) → j % 3 ≡ 2 → j / 3 ≡ v → wordNumber g j ≡ ifEqual (word g j) mark 0 (ifLess (word g j / 2) (node g v) 0 5)
+  unfolding wordNumber isEdge ifEqual
+  word-third j v h e = simp (eq-eqb (j % 3) 2 h, e, cond-not)
+
+  node-words : (v : ℕ) → first (wordNumber g (3 * v)) (first (wordNumber g (3 * v + 1)) (wordNumber g (3 * v + 2))) ≡ nodeWords (node g v) (word g (3 * v)) (word g (3 * v + 1)) (word g (3 * v + 2))
+  node-words v =
+      rw (
+        word-plain (3 * v) v (omega arith) (omega arith),
+        word-plain (3 * v + 1) v (omega arith) (omega arith),
+        word-third (3 * v + 2) v (omega arith) (omega arith),
+      )
+
+  pub node-next : (v k : ℕ) → firstOf (3 * v) (wordNumber g) ≡ 0
+      → k ≡ nodeWords (node g v) (word g (3 * v)) (word g (3 * v + 1)) (word g (3 * v + 2)) → k ≡ firstOf (3 * (v + 1)) (wordNumber g)
+  unfolding firstOf first
+  node-next v k z e =
+      let s : 3 * (v + 1) ≡ suc (suc (suc (3 * v))) = omega arith in
+      let s₁ : suc (3 * v) ≡ 3 * v + 1 = omega arith in
+      let s₂ : suc (suc (3 * v)) ≡ 3 * v + 2 = omega arith in
+      let w : ℕ → ℕ = wordNumber g in
+      let f : k ≡ first (first (w (3 * v)) (w (suc (3 * v)))) (w (suc (suc (3 * v)))) = rw (s₂, s₁, first-assoc) (e ∙ sym (node-words v)) in
+      rw (s, z) f
+
+  pub out-next : (j k : ℕ) → firstOf j (outNumber g) ≡ 0 → k ≡ ifLess (out g j / 2) (node g (g .N)) 0 5 → k ≡ firstOf (j + 1) (outNumber g)
+  unfolding firstOf outNumber
+  out-next j k z e = rw (add-one j) (none _ _ z e)

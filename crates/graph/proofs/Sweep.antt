@@ -1,0 +1,52 @@
+-- A table rewritten in place from the front: place i holds f i below j, and what it held from j on.
+use mathlib.Core.Path.{_≡_, refl, sym, ap, _∙_}
+use mathlib.Core.Bool.{Bool, true, false, cond}
+use mathlib.Core.Logic.{⊎-elim}
+use mathlib.Core.List.{List}
+use Prim.Native.Nat.{ℕ, zero, suc, _+_, _≤_, _<_}
+use native.Mathlib.Omega.{arith}
+use native.Mathlib.Nat.{eq-or-lt-of-le}
+use borrow.Author.Tests.{lt-ltb, le-ltb}
+use lib.Dec.{ltb}
+use lib.Seq.{ext-getD, getD-set-same, getD-set-other}
+use lib.ListN.{length, getD, set, length-set}
+use Rattle.graph.specs.Finite.{tab}
+use Rattle.graph.proofs.Cases.{lt-or-le}
+use Rattle.graph.proofs.Finite.{length-tab, getD-tab, tab-same}
+
+pub swept : (ℕ → ℕ) → List ℕ → ℕ → List ℕ
+swept f l j = tab (length l) (λ i. cond (ltb i j) (f i) (getD l i 0))
+
+module _ (f : ℕ → ℕ) (l : List ℕ) where
+  pub swept-is : (j : ℕ) → swept f l j ≡ tab (length l) (λ i. cond (ltb i j) (f i) (getD l i 0))
+  unfolding swept
+  swept-is j = refl
+
+  pub length-swept : (j : ℕ) → length (swept f l j) ≡ length l
+  unfolding swept
+  length-swept j = length-tab _ _
+
+  pub swept-done : (j i : ℕ) → i < length l → i < j → getD (swept f l j) i 0 ≡ f i
+  unfolding swept
+  swept-done j i h k = getD-tab _ _ i h ∙ rw (lt-ltb i j k)
+
+  pub swept-left : (j i : ℕ) → i < length l → j ≤ i → getD (swept f l j) i 0 ≡ getD l i 0
+  unfolding swept
+  swept-left j i h k = getD-tab _ _ i h ∙ rw (le-ltb i j k)
+
+  pub swept-zero : l ≡ swept f l 0
+  swept-zero = ext-getD 0 _ _ (sym (length-swept 0)) (λ i h. sym (swept-left 0 i h (omega arith)))
+
+  pub swept-suc : (j : ℕ) → j < length l → set (swept f l j) j (f j) ≡ swept f l (suc j)
+  swept-suc j h =
+      ext-getD 0 _ _ (simp (length-set, length-swept))
+      (λ i k.
+      let b : i < length l = simp (length-set, length-swept) at k in
+      ⊎-elim
+      (λ (p : i < j). getD-set-other (swept f l j) j i (f j) 0 (omega arith) ∙ swept-done j i b p ∙ sym (swept-done (suc j) i b (omega arith)))
+      (λ (p : j ≤ i).
+      ⊎-elim
+      (λ (e : j ≡ i). rw (← e) (getD-set-same (swept f l j) j (f j) 0 (rw length-swept h) ∙ sym (swept-done (suc j) j h (omega arith))))
+      (λ (q : j < i). getD-set-other (swept f l j) j i (f j) 0 (omega arith) ∙ swept-left j i b p ∙ sym (swept-left (suc j) i b q))
+      (eq-or-lt-of-le p))
+      (lt-or-le i j))

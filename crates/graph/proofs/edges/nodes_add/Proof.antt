@@ -1,0 +1,79 @@
+-- `nodes_add` meets its contract: the sum over the words passed, at most one a word. From what a word adds.
+use mathlib.Core.Path.{_≡_, refl, sym, ap, _∙_}
+use mathlib.Core.List.{List}
+use Prim.Native.Nat.{ℕ, _+_, _*_, _-_, _≤_}
+use native.Mathlib.Omega.{arith}
+use native.Mathlib.Numerals.{add-one}
+use borrow.Author.Needs.{needs}
+use lib.ListN.{getD}
+use Rattle.graph.specs.Finite.{sum}
+use Rattle.graph.specs.Graph.{Graph, graphOf}
+use Rattle.graph.specs.Count.{nodeAdds}
+use Rattle.graph.proofs.Adds.{wordAdds-le}
+use Rattle.graph.proofs.edges.nodes_add.Statement.{statement}
+use Rattle.graph.proofs.edges.nodes_add.Tie as tie
+
+abbrev Inv-loop : tie.InvT-loop
+Inv-loop nodes node-table words c₀ j₀ c j = (j ≤ words) × (words ≡ 3 * nodes) × (c ≤ j) × ((i o : ℕ) (os : List ℕ) → c ≡ sum j (nodeAdds (graphOf i nodes o node-table os)))
+
+abbrev μ-loop : tie.MeasureT-loop
+μ-loop nodes node-table words c₀ j₀ c j = words - j
+
+mul-words : tie.Need-mul-words Inv-loop μ-loop
+mul-words c = omega arith
+
+loop-holds : tie.Need-loop-holds Inv-loop μ-loop
+unfolding sum
+loop-holds c = (omega arith, refl, omega arith, (λ i o os. refl))
+
+mul-word-adds : tie.Need-mul-word-adds Inv-loop μ-loop
+mul-word-adds c = omega arith
+
+shared-slice-read-word-adds : tie.Need-shared-slice-read-word-adds Inv-loop μ-loop
+shared-slice-read-word-adds c = omega arith
+
+word-adds-requires : tie.Need-word-adds-requires Inv-loop μ-loop
+word-adds-requires c κs = search needs
+
+add-c : tie.Need-add-c Inv-loop μ-loop
+add-c c =
+    let l = c .before .before .before in
+    let a = l .before .before .args in
+    omega (arith, c .word-adds .ensures, wordAdds-le (l .loop .j) (getD (a .node-table .now) (l .loop .j) 0))
+
+add-j : tie.Need-add-j Inv-loop μ-loop
+add-j c = omega arith
+
+loop-less : tie.Need-loop-less Inv-loop μ-loop
+loop-less c = omega arith
+
+loop-again : tie.Need-loop-again Inv-loop μ-loop
+unfolding sum nodeAdds
+loop-again c =
+    let l = c .before .before .before in
+    let a = l .before .before .args in
+    (omega arith, l .loop .inv .1, omega (arith, c .word-adds .ensures, wordAdds-le (l .loop .j) (getD (a .node-table .now) (l .loop .j) 0)), (λ i o os. rw add-one (omega (arith, c .word-adds .ensures, l .loop .inv .3 i o os))))
+
+returns : tie.Need-returns Inv-loop μ-loop
+returns c i o os =
+    let l = c .before in
+    let a = l .before .before .args in
+    let e : l .loop .j ≡ 3 * a .nodes = omega arith in
+    l .loop .inv .3 i o os ∙ ap (λ (k : ℕ). sum k (nodeAdds (graphOf i (a .nodes) o (a .node-table .now) os))) e
+
+pub nodes-add-spec : {M : Type 1} → statement M
+nodes-add-spec =
+    tie.close
+    (tie.spec
+    Inv-loop
+    μ-loop
+    mul-words
+    loop-holds
+    mul-word-adds
+    shared-slice-read-word-adds
+    word-adds-requires
+    add-c
+    add-j
+    loop-less
+    loop-again
+    returns)

@@ -1,0 +1,65 @@
+-- What calls answer: document 01's number, and the values returned.
+use mathlib.Core.Path.{_≡_}
+use mathlib.Core.List.{List, [], _∷_}
+use Prim.Native.Nat.{ℕ, zero, suc}
+use Rattle.graph.specs.Graph.{Graph}
+use Rattle.graph.specs.declared.Refusal.{Refusal}
+use Rattle.graph.specs.declared.Refusal.the-variants.{MissingBytes, WrongField, OverLimit, ShortSlice, BadLiteral, ExtraBytes, NoSuchNode, ShortScratch, ShortBuffer}
+use Rattle.graph.specs.declared.Admission.{Admission}
+use Rattle.graph.specs.declared.Admission.the-variants as admission
+use Rattle.graph.specs.declared.Count.{Count}
+use Rattle.graph.specs.declared.Count.the-variants as counted
+
+-- document 01's number of each refusal
+abbrev pub numberOf : Refusal → ℕ
+numberOf MissingBytes = 1
+numberOf WrongField = 2
+numberOf OverLimit = 3
+numberOf ShortSlice = 4
+numberOf BadLiteral = 5
+numberOf ExtraBytes = 6
+numberOf NoSuchNode = 7
+numberOf ShortScratch = 8
+numberOf ShortBuffer = 9
+
+-- a call's answer: the number, 0 where it is accepted, and the values that it then returns beside it
+pub record Answer : Type 0 where
+  pub number : ℕ
+  pub values : List ℕ
+
+abbrev pub accepted : List ℕ → Answer
+accepted vs = record { number = 0; values = vs }
+
+abbrev pub refused : ℕ → Answer
+refused k = record { number = k; values = [] }
+
+-- a call that would be refused by k, 0 being no fault, and else answers a
+unfoldable pub unless : ℕ → Answer → Answer
+unless zero a = a
+unless (suc k) a = refused (suc k)
+
+-- what an admission check and a count of complemented edges answer
+abbrev pub admissionAnswer : Admission → Answer
+admissionAnswer admission.Admitted = accepted []
+admissionAnswer (admission.Refused r) = refused (numberOf r)
+
+abbrev pub countAnswer : Count → Answer
+countAnswer (counted.Edges c) = accepted (c ∷ [])
+countAnswer (counted.Refused r) = refused (numberOf r)
+
+-- an answer with the graph as the call leaves it
+pub record Outcome : Type 0 where
+  pub answer : Answer
+  pub graph : Graph
+
+abbrev pub outcome : Answer → Graph → Outcome
+outcome a g = record { answer = a; graph = g }
+
+-- a call on g that would be refused by k, 0 being no fault, and else has the outcome o: a refusal changes nothing
+unfoldable pub guarded : ℕ → Graph → Outcome → Outcome
+guarded zero g o = o
+guarded (suc k) g o = outcome (refused (suc k)) g
+
+-- scratch is free after an accepted call, and as it was after a refusal
+abbrev pub ScratchKept : Answer → List ℕ → List ℕ → Type 0
+ScratchKept a before after = (a .number ≡ 0 → ⊥) → after ≡ before

@@ -1,0 +1,7 @@
+pub mod Finite
+pub mod Graph
+pub mod Value
+pub mod Count
+pub mod Admission
+pub mod Answer
+pub mod Decimal

@@ -1,0 +1,73 @@
+// Document 01's C: how many counting edges are complemented.
+ghost use mathlib.Core.Path.{_≡_};
+ghost use mathlib.Core.List.{List};
+ghost use Prim.Native.Nat.{ℕ, _*_, _≤_};
+ghost use lib.ListN.{length};
+ghost use Rattle.graph.specs.Finite.{sum};
+ghost use Rattle.graph.specs.Graph.{graphOf};
+ghost use Rattle.graph.specs.Count.{adds, wordAdds, nodeAdds, outAdds, C};
+ghost use Rattle.graph.specs.Admission.{Admitted};
+use crate::literal::MARK;
+
+// What a literal adds to C.
+pub fn literal_adds(x: u32) -> u32
+    ensures { λ r. ⌜ r ≡ adds x ⌝ }
+{
+    if x / 2 == 0 {
+        return 0;
+    }
+    x % 2
+}
+
+// What the word at place j of a node table adds to C.
+pub fn word_adds(j: usize, x: u32) -> u32
+    ensures { λ r. ⌜ r ≡ wordAdds j x ⌝ }
+{
+    if j % 3 != 2 {
+        return literal_adds(x);
+    }
+    if x == MARK {
+        return 0;
+    }
+    literal_adds(x)
+}
+
+pub fn nodes_add(nodes: u32, node_table: &[u32]) -> u32
+    requires { ⌜ (nodes ≤ 100000) × (3 * nodes ≤ length (now «node_table»)) ⌝ }
+    ensures { λ r. ⌜ ((i o : ℕ) (os : List ℕ) → r ≡ sum (3 * nodes) (nodeAdds (graphOf i nodes o (now («node_table» .entry)) os))) ⌝ }
+{
+    let words = 3 * nodes as usize;
+    let mut c: u32 = 0;
+    let mut j: usize = 0;
+    while j < words {
+        c += word_adds(j, node_table[j]);
+        j += 1;
+    }
+    c
+}
+
+pub fn outs_add(outputs: u32, output_table: &[u32]) -> u32
+    requires { ⌜ outputs ≤ length (now «output_table») ⌝ }
+    ensures { λ r. ⌜ ((i n : ℕ) (ns : List ℕ) → r ≡ sum outputs (outAdds (graphOf i n outputs ns (now («output_table» .entry))))) ⌝ }
+{
+    let mut c: u32 = 0;
+    let mut j: u32 = 0;
+    while j < outputs {
+        c += literal_adds(output_table[j as usize]);
+        j += 1;
+    }
+    c
+}
+
+pub fn complemented(
+    inputs: u32,
+    nodes: u32,
+    outputs: u32,
+    node_table: &[u32],
+    output_table: &[u32],
+) -> u32
+    requires { ⌜ Admitted (graphOf inputs nodes outputs (now «node_table») (now «output_table»)) ⌝ }
+    ensures { λ r. ⌜ (r ≡ C (graphOf inputs nodes outputs (now («node_table» .entry)) (now («output_table» .entry)))) × (r ≤ 304096) ⌝ }
+{
+    nodes_add(nodes, node_table) + outs_add(outputs, output_table)
+}

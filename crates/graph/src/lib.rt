@@ -1,0 +1,69 @@
+ghost use mathlib.Core.Path.{_≡_};
+ghost use mathlib.Core.List.{[], _∷_};
+ghost use Rattle.graph.specs.Graph.{graphOf};
+ghost use Rattle.graph.specs.Count.{C};
+ghost use Rattle.graph.specs.Admission.{admissionNumber};
+ghost use Rattle.graph.specs.Answer.{accepted, unless, admissionAnswer, countAnswer};
+
+pub mod checks;
+pub mod edges;
+pub mod literal;
+
+// Why a call is refused: the causes of document 01's table, in its order.
+pub enum Refusal {
+    MissingBytes,
+    WrongField,
+    OverLimit,
+    ShortSlice,
+    BadLiteral,
+    ExtraBytes,
+    NoSuchNode,
+    ShortScratch,
+    ShortBuffer,
+}
+
+// What the admission check answers.
+pub enum Admission {
+    Admitted,
+    Refused(Refusal),
+}
+
+// What the count of complemented edges answers.
+pub enum Count {
+    Edges(u32),
+    Refused(Refusal),
+}
+
+// Whether a graph in lent tables is one, by its limits, its tables' lengths and its literals, in that order.
+pub fn admit_graph(
+    inputs: u32,
+    nodes: u32,
+    outputs: u32,
+    node_table: &[u32],
+    output_table: &[u32],
+) -> Admission
+    ensures { λ r. ⌜ admissionAnswer r ≡ unless (admissionNumber (graphOf inputs nodes outputs (now («node_table» .entry)) (now («output_table» .entry)))) (accepted []) ⌝ }
+{
+    let k = checks::admission_number(inputs, nodes, outputs, node_table, output_table);
+    if k != 0 {
+        return Admission::Refused(checks::refused_by(k));
+    }
+    Admission::Admitted
+}
+
+// How many edges are complemented: document 01's C.
+pub fn complemented_edges(
+    inputs: u32,
+    nodes: u32,
+    outputs: u32,
+    node_table: &[u32],
+    output_table: &[u32],
+) -> Count
+    ensures { λ r. ⌜ countAnswer r ≡ unless (admissionNumber (graphOf inputs nodes outputs (now («node_table» .entry)) (now («output_table» .entry)))) (accepted (C (graphOf inputs nodes outputs (now («node_table» .entry)) (now («output_table» .entry))) ∷ [])) ⌝ }
+{
+    let k = checks::admission_number(inputs, nodes, outputs, node_table, output_table);
+    if k != 0 {
+        return Count::Refused(checks::refused_by(k));
+    }
+    Count::Edges(edges::complemented(inputs, nodes, outputs, node_table, output_table))
+}
