@@ -1,0 +1,127 @@
+-- Two choices one after the other.
+use mathlib.Core.Path.{_≡_, refl, sym, ap, _∙_}
+use mathlib.Core.Bool.{Bool, true, false, cond}
+use mathlib.Core.Logic.{⊎-elim}
+use mathlib.Core.List.{List}
+use Prim.Native.Nat.{ℕ, zero, suc, _+_, _-_, _*_, _/_, _%_, _≤_, _<_}
+use native.Mathlib.Omega.{arith}
+use borrow.Author.Tests.{lt-ltb, le-ltb}
+use lib.Dec.{ltb, eqb}
+use lib.Seq.{ext-getD}
+use lib.ListN.{length, getD}
+use Rattle.graph.specs.Admission.{Admitted}
+use Rattle.graph.specs.Graph.{Graph, turn, isEdge, isXor}
+use Rattle.moves.specs.Apply.{Choice, apply, turns, outTurns, own, seen, compose, Permitted}
+use Rattle.moves.specs.Rows.{flag, combined, arity}
+use Rattle.graph.proofs.Cases.{lt-or-le, true-or-false, cond-same}
+use Rattle.graph.proofs.Turn.{turn-half, turn-zero, turn-turn, turn-same}
+use Rattle.moves.proofs.Apply.{length-nodes, length-outs, node-at, out-at, wiring, out-wiring, same-xor, same-edge, admitted, turns-past, turns-mark, turns-edge, outTurns-past, outTurns-at}
+use Rattle.moves.proofs.Flags.{flag-both}
+
+module _ (g : Graph) (m : Choice) where
+  pub seen-low : (u : ℕ) → u ≤ g .I → seen g m u ≡ 0
+  unfolding seen
+  seen-low u h = rw (le-ltb (g .I) u h)
+
+  pub seen-high : (u : ℕ) → g .I + 1 + g .N ≤ u → seen g m u ≡ 0
+  unfolding seen
+  seen-high u h = rw (lt-ltb (g .I) u (omega arith), le-ltb u (g .I + 1 + g .N) h)
+
+  pub seen-node : (v : ℕ) → v < g .N → seen g m (g .I + 1 + v) ≡ flag (isXor g v) (m (g .I + 1 + v)) 3
+  unfolding seen
+  seen-node v h =
+      let e : g .I + 1 + v - (g .I + 1) ≡ v = omega arith in
+      rw (lt-ltb (g .I) (g .I + 1 + v) (omega arith), lt-ltb (g .I + 1 + v) (g .I + 1 + g .N) (omega arith), e)
+
+-- a fact of every index: of those that are no node, and of each node
+pub by-index : (g : Graph) (P : ℕ → Type 0) → ((u : ℕ) → ((m : Choice) → seen g m u ≡ 0) → P u) → ((v : ℕ) → v < g .N → P (g .I + 1 + v)) → (u : ℕ) → P u
+by-index g P other node u =
+    ⊎-elim
+    (λ (h : g .I < u).
+    ⊎-elim
+    (λ (l : u < g .I + 1 + g .N).
+    let e : g .I + 1 + (u - (g .I + 1)) ≡ u = omega arith in
+    rw e at (node (u - (g .I + 1)) (omega arith)))
+    (λ (l : g .I + 1 + g .N ≤ u). other u (λ m. seen-high g m u l))
+    (lt-or-le u (g .I + 1 + g .N)))
+    (λ (h : u ≤ g .I). other u (λ m. seen-low g m u h))
+    (lt-or-le (g .I) u)
+
+-- moves leave kinds and wiring, so turns too
+module _ (g : Graph) (m : Choice) (adm : Admitted g) (n : Choice) where
+  pub same-seen : (u : ℕ) → seen (apply g m) n u ≡ seen g n u
+  unfolding seen apply
+  same-seen u = rw (same-xor g m adm)
+
+  pub same-own : (j : ℕ) → own (apply g m) n j ≡ own g n j
+  unfolding own apply
+  same-own j = rw (same-xor g m adm)
+
+  pub same-turns : (j : ℕ) → turns (apply g m) n j ≡ turns g n j
+  unfolding turns apply
+  same-turns j = rw (same-edge g m adm j, wiring g m adm j, same-own j, same-seen)
+
+  pub same-outTurns : (j : ℕ) → outTurns (apply g m) n j ≡ outTurns g n j
+  unfolding outTurns apply
+  same-outTurns j = rw (out-wiring g m adm j, same-seen)
+
+parity : (a b c d : ℕ) → ((a + b) % 2 + (c + d) % 2) % 2 ≡ (a + c + (b + d)) % 2
+parity a b c d = omega arith
+
+pub same-graph : (i n o : ℕ) {ns ns′ os os′ : List ℕ} → ns ≡ ns′ → os ≡ os′ → _≡_ {A = Graph} (record { I = i; N = n; O = o; nodes = ns; outs = os }) (record { I = i; N = n; O = o; nodes = ns′; outs = os′ })
+same-graph i n o p q = λ k. record { I = i; N = n; O = o; nodes = p k; outs = q k }
+
+module _ (g : Graph) (m n : Choice) where
+  join-at : (v : ℕ) → compose g m n (g .I + 1 + v) ≡ combined (isXor g v) (m (g .I + 1 + v)) (n (g .I + 1 + v))
+  unfolding compose
+  join-at v = let e : g .I + 1 + v - (g .I + 1) ≡ v = omega arith in rw e
+
+module _ (g : Graph) (m n : Choice) (vm : Permitted g m) (vn : Permitted g n) where
+  flag-join : (v k : ℕ) → v < g .N → k < 4 → flag (isXor g v) (compose g m n (g .I + 1 + v)) k ≡ (flag (isXor g v) (m (g .I + 1 + v)) k + flag (isXor g v) (n (g .I + 1 + v)) k) % 2
+  flag-join v k h l = rw (join-at g m n v) (flag-both (isXor g v) _ _ k (vm v h) (vn v h) l)
+
+  pub seen-join : (u : ℕ) → seen g (compose g m n) u ≡ (seen g m u + seen g n u) % 2
+  seen-join =
+      by-index g (λ u. seen g (compose g m n) u ≡ (seen g m u + seen g n u) % 2)
+      (λ u z. rw (z m, z n, z (compose g m n)))
+      (λ v h. rw (seen-node g m v h, seen-node g n v h, seen-node g (compose g m n) v h) (flag-join v 3 h (omega arith)))
+
+  pub own-join : (j : ℕ) → j < 3 * g .N → own g (compose g m n) j ≡ (own g m j + own g n j) % 2
+  unfolding own
+  own-join j h = flag-join (j / 3) (j % 3) (omega arith) (omega arith)
+
+  pub turns-join : (j : ℕ) → turns g (compose g m n) j % 2 ≡ (turns g m j + turns g n j) % 2
+  turns-join j =
+      ⊎-elim
+      (λ (h : j < 3 * g .N).
+      ⊎-elim
+      (λ (e : isEdge g j ≡ true). rw (turns-edge g m j h e, turns-edge g n j h e, turns-edge g (compose g m n) j h e, own-join j h, seen-join) (parity _ _ _ _))
+      (λ (e : isEdge g j ≡ false). rw (turns-mark g m j e, turns-mark g n j e, turns-mark g (compose g m n) j e))
+      (true-or-false (isEdge g j)))
+      (λ (h : 3 * g .N ≤ j). rw (turns-past g m j h, turns-past g n j h, turns-past g (compose g m n) j h))
+      (lt-or-le j (3 * g .N))
+
+  pub outTurns-join : (j : ℕ) → outTurns g (compose g m n) j % 2 ≡ (outTurns g m j + outTurns g n j) % 2
+  outTurns-join j =
+      ⊎-elim
+      (λ (h : j < g .O). omega (arith, outTurns-at g m j h, outTurns-at g n j h, outTurns-at g (compose g m n) j h, seen-join (getD (g .outs) j 0 / 2)))
+      (λ (h : g .O ≤ j). rw (outTurns-past g m j h, outTurns-past g n j h, outTurns-past g (compose g m n) j h))
+      (lt-or-le j (g .O))
+
+  module _ (adm : Admitted g) where
+    pub compose-node : (j : ℕ) → getD (apply (apply g m) n .nodes) j 0 ≡ getD (apply g (compose g m n) .nodes) j 0
+    compose-node j =
+        rw (node-at (apply g m) n (admitted g m adm .long-nodes) j, node-at g m (adm .long-nodes) j, node-at g (compose g m n) (adm .long-nodes) j, same-turns g m adm n j, turn-turn)
+        (turn-same _ _ _ (sym (turns-join j)))
+
+    pub compose-out : (j : ℕ) → getD (apply (apply g m) n .outs) j 0 ≡ getD (apply g (compose g m n) .outs) j 0
+    compose-out j =
+        rw (out-at (apply g m) n (admitted g m adm .long-outs) j, out-at g m (adm .long-outs) j, out-at g (compose g m n) (adm .long-outs) j, same-outTurns g m adm n j, turn-turn)
+        (turn-same _ _ _ (sym (outTurns-join j)))
+
+    pub apply-apply : apply (apply g m) n ≡ apply g (compose g m n)
+    unfolding apply
+    apply-apply =
+        same-graph (g .I) (g .N) (g .O)
+        (ext-getD 0 _ _ (length-nodes (apply g m) n ∙ length-nodes g m ∙ sym (length-nodes g (compose g m n))) (λ j h. compose-node j))
+        (ext-getD 0 _ _ (length-outs (apply g m) n ∙ length-outs g m ∙ sym (length-outs g (compose g m n))) (λ j h. compose-out j))

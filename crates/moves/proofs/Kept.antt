@@ -1,0 +1,159 @@
+-- What rewriting keeps: an admitted graph stays one, with its wiring and the value of every output, and C falls by the saving.
+-- The best list of moves is least; where it saves nothing, nothing changes. From the laws of `apply`, of values and of `best`.
+use mathlib.Core.Path.{_≡_, refl, sym, ap, _∙_}
+use mathlib.Core.Bool.{Bool, true, false, cond}
+use mathlib.Core.List.{List, [], _∷_, map}
+use mathlib.Core.Logic.{⊎-elim, _≢_}
+use Prim.Native.Nat.{ℕ, zero, suc, _+_, _-_, _*_, _/_, _≤_, _<_}
+use native.Mathlib.Omega.{arith}
+use lib.Seq.{ext-getD}
+use lib.ListN.{length, getD}
+use Rattle.graph.specs.Finite.{tab}
+use Rattle.graph.specs.Graph.{Graph, Wiring, node, word, out, isXor, isEdge, index, mark, turn, wire, outWire, wiring}
+use Rattle.graph.specs.Value.{Assignment, outValue}
+use Rattle.graph.specs.Count.{C}
+use Rattle.graph.specs.Admission.{Admitted}
+use Rattle.graph.specs.Answer.{Answer, Outcome}
+use Rattle.graph.proofs.Cases.{lt-or-le, eq-or-ne, true-or-false}
+use Rattle.graph.proofs.Finite.{tab-same}
+use Rattle.graph.proofs.Turn.{turn-zero}
+use Rattle.choice.specs.Choice.{best, Fits, zeros}
+use Rattle.choice.proofs.Best.{best-is, best-zeros}
+use Rattle.moves.specs.Rows.{arity, movesAt}
+use Rattle.moves.specs.Apply.{Choice, none, at, put, Permitted, turns, outTurns, apply}
+use Rattle.moves.specs.Call.{moved, movedC, bestAt, rewrite}
+use Rattle.moves.proofs.Apply as applied
+use Rattle.moves.proofs.Compose.{same-graph}
+use Rattle.moves.proofs.Changed.{at-same, at-other, seen-none, own-none}
+use Rattle.moves.proofs.Values.{out-kept}
+use Rattle.moves.proofs.TreeBest.{movesAt-node, movesAt-fit, arity-pos}
+
+same-wiring : (i n o : ℕ) {ns ns′ os os′ : List ℕ} → ns ≡ ns′ → os ≡ os′
+    → _≡_ {A = Wiring} (record { I = i; N = n; O = o; nodes = ns; outs = os }) (record { I = i; N = n; O = o; nodes = ns′; outs = os′ })
+same-wiring i n o p q = λ k. record { I = i; N = n; O = o; nodes = p k; outs = q k }
+
+-- h comes from g by moves that save so much
+pub record Kept (g h : Graph) (saved : ℕ) : Type 0 where
+  pub admitted : Admitted h
+  pub same-I : h .I ≡ g .I
+  pub same-N : h .N ≡ g .N
+  pub same-O : h .O ≡ g .O
+  pub wired : wiring h ≡ wiring g
+  pub outputs : (a : Assignment) (j : ℕ) → j < g .O → outValue h a j ≡ outValue g a j
+  pub count : C h + saved ≡ C g
+
+pub kept-none : (g : Graph) → Admitted g → Kept g g 0
+kept-none g adm =
+    record { admitted = adm; same-I = refl; same-N = refl; same-O = refl; wired = refl; outputs = λ a j h. refl; count = omega arith }
+
+pub kept-then : (g h k : Graph) (s t : ℕ) → Kept g h s → Kept h k t → Kept g k (s + t)
+kept-then g h k s t p q =
+    record {
+      admitted = q .admitted;
+      same-I = q .same-I ∙ p .same-I;
+      same-N = q .same-N ∙ p .same-N;
+      same-O = q .same-O ∙ p .same-O;
+      wired = q .wired ∙ p .wired;
+      outputs = λ a j h. q .outputs a j (omega (arith, p .same-O)) ∙ p .outputs a j h;
+      count = omega (arith, p .count, q .count);
+    }
+
+module _ (g : Graph) (m : Choice) (adm : Admitted g) where
+  wire-kept : (j : ℕ) → wire (apply g m) j ≡ wire g j
+  unfolding wire
+  wire-kept j = rw (applied.same-edge g m adm j, applied.wiring g m adm j)
+
+  outWire-kept : (j : ℕ) → outWire (apply g m) j ≡ outWire g j
+  unfolding outWire
+  outWire-kept j = applied.out-wiring g m adm j
+
+  pub wiring-kept : wiring (apply g m) ≡ wiring g
+  unfolding wiring apply
+  wiring-kept =
+      same-wiring (g .I) (g .N) (g .O) (tab-same (3 * g .N) _ _ (λ j h. wire-kept j)) (tab-same (g .O) _ _ (λ j h. outWire-kept j))
+
+  pub apply-kept : C (apply g m) ≤ C g → Kept g (apply g m) (C g - C (apply g m))
+  unfolding apply
+  apply-kept h =
+      record {
+        admitted = applied.admitted g m adm;
+        same-I = refl;
+        same-N = refl;
+        same-O = refl;
+        wired = wiring-kept;
+        outputs = λ a j l. out-kept g m adm a j l;
+        count = omega arith;
+      }
+
+-- a choice that moves nothing changes nothing
+module _ (g : Graph) (m : Choice) (adm : Admitted g) (idle : (u : ℕ) → m u ≡ 0) where
+  turns-idle : (j : ℕ) → turns g m j ≡ 0
+  turns-idle j =
+      ⊎-elim
+      (λ (h : j < 3 * g .N).
+      ⊎-elim
+      (λ (e : isEdge g j ≡ true).
+      applied.turns-edge g m j h e ∙ omega (arith, own-none g m j (idle (node g (j / 3))), seen-none g m (word g j / 2) (idle (word g j / 2))))
+      (λ (e : isEdge g j ≡ false). applied.turns-mark g m j e)
+      (true-or-false (isEdge g j)))
+      (λ (h : 3 * g .N ≤ j). applied.turns-past g m j h)
+      (lt-or-le j (3 * g .N))
+
+  outTurns-idle : (j : ℕ) → outTurns g m j ≡ 0
+  outTurns-idle j =
+      ⊎-elim
+      (λ (h : j < g .O). applied.outTurns-at g m j h ∙ seen-none g m (out g j / 2) (idle (out g j / 2)))
+      (λ (h : g .O ≤ j). applied.outTurns-past g m j h)
+      (lt-or-le j (g .O))
+
+  pub apply-idle : apply g m ≡ g
+  unfolding apply
+  apply-idle =
+      same-graph (g .I) (g .N) (g .O)
+      (ext-getD 0 _ _ (applied.length-nodes g m) (λ j h. applied.node-at g m (adm .long-nodes) j ∙ rw (turns-idle j) (turn-zero _)))
+      (ext-getD 0 _ _ (applied.length-outs g m) (λ j h. applied.out-at g m (adm .long-outs) j ∙ rw (outTurns-idle j) (turn-zero _)))
+
+put-zeros : (ns us : List ℕ) (d : Choice) → ((u : ℕ) → d u ≡ 0) → (u : ℕ) → put d us (zeros ns) u ≡ 0
+unfolding put
+put-zeros ns [] d h u = h u
+put-zeros [] (w ∷ us) d h u = h u
+put-zeros (n ∷ ns) (w ∷ us) d h u =
+    put-zeros ns us (at d w 0)
+    (λ x. ⊎-elim (λ (e : x ≡ w). rw e (at-same d w 0)) (λ (e : x ≢ w). at-other d w 0 x e ∙ h x) (eq-or-ne x w)) u
+
+-- the best list of moves at some nodes
+module _ (g : Graph) (adm : Admitted g) (us : List ℕ) where
+  abbrev counts : List ℕ
+  counts = map (movesAt g) us
+
+  zeros-nothing : moved g us (zeros counts) ≡ g
+  unfolding moved
+  zeros-nothing = apply-idle g (put none us (zeros counts)) adm (put-zeros counts us none (λ u. refl))
+
+  -- no choice of moves there has less C
+  pub best-lowest : (ms : List ℕ) → Fits counts ms → C (moved g us (bestAt g us)) ≤ C (moved g us ms)
+  unfolding bestAt movedC
+  best-lowest ms h = best-is (movedC g us) counts (zeros counts) (movesAt-fit g us) .none-less ms h
+
+  pub best-fits : Fits counts (bestAt g us)
+  unfolding bestAt
+  best-fits = best-is (movedC g us) counts (zeros counts) (movesAt-fit g us) .fits
+
+  pub best-no-more : C (moved g us (bestAt g us)) ≤ C g
+  best-no-more = omega (arith, best-lowest (zeros counts) (movesAt-fit g us), ap C zeros-nothing)
+
+  -- a call that saves nothing changes nothing, and then no choice of moves there lowers C
+  pub best-idle : C g ≤ C (moved g us (bestAt g us)) → moved g us (bestAt g us) ≡ g
+  unfolding bestAt movedC
+  best-idle h =
+      let z : best (movedC g us) counts ≡ zeros counts =
+      best-zeros (movedC g us) counts (movesAt-fit g us) (omega (arith, ap C zeros-nothing)) in
+      ap (moved g us) z ∙ zeros-nothing
+
+  pub rewrite-graph : rewrite g us .graph ≡ moved g us (bestAt g us)
+  unfolding rewrite
+  rewrite-graph = refl
+
+  pub rewrite-kept : Kept g (moved g us (bestAt g us)) (C g - C (moved g us (bestAt g us)))
+  unfolding moved
+  rewrite-kept = apply-kept g (put none us (bestAt g us)) adm best-no-more

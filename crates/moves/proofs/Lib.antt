@@ -1,0 +1,14 @@
+pub mod Flags
+pub mod Apply
+pub mod Compose
+pub mod Values
+pub mod Count
+pub mod Readers
+pub mod Changed
+pub mod Local
+pub mod Potential
+pub mod Root
+pub mod Shown
+pub mod TreeBest
+pub mod Written
+pub mod Kept

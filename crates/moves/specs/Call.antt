@@ -1,0 +1,78 @@
+-- The node, pair and tree calls: one notion of best, at three lists of nodes.
+use mathlib.Core.Bool.{Bool, true, false, cond, _&&_}
+use mathlib.Core.List.{List, [], _∷_, map}
+use Prim.Native.Nat.{ℕ, _+_, _-_, _*_}
+use lib.Dec.{ltb, leb}
+use Rattle.graph.specs.Finite.{ifLess, first}
+use Rattle.graph.specs.Graph.{Graph, node, word, index, isXor}
+use Rattle.graph.specs.Count.{C}
+use Rattle.graph.specs.Admission.{admissionNumber}
+use Rattle.graph.specs.Answer.{Answer, accepted, Outcome, outcome, guarded}
+use Rattle.choice.specs.Choice.{best}
+use Rattle.moves.specs.Rows.{movesAt}
+use Rattle.moves.specs.Apply.{none, put, apply}
+use Rattle.moves.specs.Tree.{isRoot, tree}
+
+-- the graph after the moves ms at the nodes us
+unfoldable pub moved : Graph → List ℕ → List ℕ → Graph
+moved g us ms = apply g (put none us ms)
+
+-- C after them
+unfoldable pub movedC : Graph → List ℕ → List ℕ → ℕ
+movedC g us ms = C (moved g us ms)
+
+-- of all lists of moves at the nodes us, the first with the least C
+unfoldable pub bestAt : Graph → List ℕ → List ℕ
+bestAt g us = best (movedC g us) (map (movesAt g) us)
+
+-- those moves made; the saving is C before less C after
+unfoldable pub rewrite : Graph → List ℕ → Outcome
+rewrite g us = let h = moved g us (bestAt g us) in outcome (accepted ((C g - C h) ∷ [])) h
+
+-- u is the index of a node
+unfoldable pub isNode : Graph → ℕ → Bool
+isNode g u = ltb (g .I) u && ltb u (node g (g .N))
+
+-- 7: not a node
+unfoldable pub nodeFault : Graph → ℕ → ℕ
+nodeFault g u = cond (isNode g u) 0 7
+
+-- 7: no such word of the node, which has three words, an XOR two
+unfoldable pub wordFault : Graph → ℕ → ℕ → ℕ
+wordFault g u k = cond (leb 1 k && leb k (cond (isXor g (u - (g .I + 1))) 2 3)) 0 7
+
+-- 7: not a root
+unfoldable pub rootFault : Graph → ℕ → ℕ
+rootFault g r = cond (isRoot g r) 0 7
+
+-- 8: scratch of s words, where 8 × N are needed
+unfoldable pub scratchFault : Graph → ℕ → ℕ
+scratchFault g s = ifLess s (8 * g .N) 8 0
+
+-- the node call
+unfoldable pub nodeNumber : Graph → ℕ → ℕ
+nodeNumber g u = first (admissionNumber g) (nodeFault g u)
+
+unfoldable pub nodeCall : Graph → ℕ → Outcome
+nodeCall g u = guarded (nodeNumber g u) g (rewrite g (u ∷ []))
+
+-- the index that word k (1 to 3) of node u names
+unfoldable pub namedBy : Graph → ℕ → ℕ → ℕ
+namedBy g u k = index (word g (3 * (u - (g .I + 1)) + (k - 1)))
+
+-- the pair call: the named node's move is compared first; a word that names no node changes nothing
+unfoldable pub pairNumber : Graph → ℕ → ℕ → ℕ
+pairNumber g u k = first (admissionNumber g) (first (nodeFault g u) (wordFault g u k))
+
+unfoldable pub pairRewrite : Graph → ℕ → ℕ → Outcome
+pairRewrite g u k = cond (isNode g (namedBy g u k)) (rewrite g (namedBy g u k ∷ u ∷ [])) (outcome (accepted (0 ∷ [])) g)
+
+unfoldable pub pairCall : Graph → ℕ → ℕ → Outcome
+pairCall g u k = guarded (pairNumber g u k) g (pairRewrite g u k)
+
+-- the tree call, with s words of scratch
+unfoldable pub treeNumber : Graph → ℕ → ℕ → ℕ
+treeNumber g s r = first (admissionNumber g) (first (nodeFault g r) (first (rootFault g r) (scratchFault g s)))
+
+unfoldable pub treeCall : Graph → ℕ → ℕ → Outcome
+treeCall g s r = guarded (treeNumber g s r) g (rewrite g (tree g r))

@@ -1,0 +1,72 @@
+-- What a tree costs, node by node. c u s is the cost of the non-root u whose reader shows it the bit s.
+use mathlib.Core.Path.{_≡_}
+use mathlib.Core.Bool.{Bool, true, false, not, cond, _&&_}
+use mathlib.Core.List.{List, [], _∷_, _++_, map}
+use mathlib.Core.Logic.{_≢_}
+use Prim.Native.Nat.{ℕ, zero, suc, _+_, _-_, _*_, _/_, _%_, _≤_, _<_, min}
+use lib.Dec.{ltb, eqb}
+use lib.ListN.{length, getD}
+use Rattle.graph.specs.Count.{named, outNamed}
+use Rattle.graph.specs.Finite.{sum}
+use Rattle.graph.specs.Graph.{Graph, isEdge, isXor, node, word, out}
+use Rattle.moves.specs.Apply.{Choice, own}
+use Rattle.moves.specs.Rows.{arity, flag}
+use Rattle.moves.specs.Tree.{isRoot, rootOf, place}
+use Rattle.choice.specs.Choice.{least, from, FirstBelow}
+
+-- a node that is no root
+unfoldable pub inner : Graph → ℕ → Bool
+inner g u = ltb (g .I) u && not (isRoot g u)
+
+-- what an edge that names u costs, its bit being b after its own node's move
+-- (t tells the non-roots)
+unfoldable pub edgeCost : (ℕ → Bool) → (ℕ → ℕ → ℕ) → ℕ → ℕ → ℕ
+edgeCost t c u b = cond (eqb u 0) 0 (cond (t u) (c u b) b)
+
+-- word i of node v under v's move k
+unfoldable pub wordCost : Graph → (ℕ → Bool) → (ℕ → ℕ → ℕ) → ℕ → ℕ → ℕ → ℕ
+wordCost g t c v k i = cond (isEdge g (3 * v + i)) (edgeCost t c (word g (3 * v + i) / 2) ((word g (3 * v + i) + flag (isXor g v) k i) % 2)) 0
+
+unfoldable pub ownCost : Graph → (ℕ → Bool) → (ℕ → ℕ → ℕ) → ℕ → ℕ → ℕ
+ownCost g t c v k = wordCost g t c v k 0 + wordCost g t c v k 1 + wordCost g t c v k 2
+
+-- non-root v, shown s, under its move k
+unfoldable pub moveCost : Graph → (ℕ → Bool) → (ℕ → ℕ → ℕ) → ℕ → ℕ → ℕ → ℕ
+moveCost g t c v s k = (s + flag (isXor g v) k 3) % 2 + ownCost g t c v k
+
+-- the first least move
+unfoldable pub pick : (ℕ → ℕ) → ℕ → ℕ
+pick f n = least f 0 (from 0 n)
+
+unfoldable pub nodeCost : Graph → (ℕ → Bool) → (ℕ → ℕ → ℕ) → ℕ → ℕ → ℕ
+nodeCost g t c v s = moveCost g t c v s (pick (moveCost g t c v s) (arity (isXor g v)))
+
+-- how many readers of u are odd, all of them turned f times
+unfoldable pub shown : Graph → ℕ → ℕ → ℕ
+shown g u f = sum (3 * g .N) (λ j. cond (named g u j) ((word g j + f) % 2) 0) + sum (g .O) (λ j. cond (outNamed g u j) ((out g j + f) % 2) 0)
+
+-- root v under its move k
+unfoldable pub rootCost : Graph → (ℕ → Bool) → (ℕ → ℕ → ℕ) → ℕ → ℕ → ℕ
+rootCost g t c v k = shown g (node g v) (flag (isXor g v) k 3) + ownCost g t c v k
+
+-- c has the costs of all non-roots, each up to a number o of its own, which no bit changes
+abbrev pub Costs : Graph → (ℕ → ℕ → ℕ) → (ℕ → ℕ) → Type 0
+Costs g c o = (v s : ℕ) → v < g .N → s < 2 → isRoot g (node g v) ≡ false → c (node g v) s + o v ≡ nodeCost g (inner g) c v s
+
+-- the bit that u's reader shows it, once d has decided the reader
+unfoldable pub shows : Graph → Choice → ℕ → ℕ
+shows g d u = (word g (place g u) + own g d (place g u)) % 2
+
+-- d has the first least move at each node of the tree of r; elsewhere it is free
+pub record Decided (g : Graph) (c : ℕ → ℕ → ℕ) (r : ℕ) (d : Choice) : Type 0 where
+  pub top : (v : ℕ) → node g v ≡ r → FirstBelow (rootCost g (inner g) c v) (arity (isXor g v)) (d r)
+  pub rest : (v : ℕ) → v < g .N → rootOf g (node g v) ≡ r → node g v ≢ r
+      → FirstBelow (moveCost g (inner g) c v (shows g d (node g v))) (arity (isXor g v)) (d (node g v))
+
+-- what both bits cost
+unfoldable pub baseCost : Graph → (ℕ → Bool) → (ℕ → ℕ → ℕ) → ℕ → ℕ
+baseCost g t c v = min (nodeCost g t c v 0) (nodeCost g t c v 1)
+
+-- what a bit costs besides: 0 or 1
+unfoldable pub bitCost : Graph → (ℕ → Bool) → (ℕ → ℕ → ℕ) → ℕ → ℕ → ℕ
+bitCost g t c v s = nodeCost g t c v s - baseCost g t c v

@@ -1,0 +1,6 @@
+pub mod Rows
+pub mod Apply
+pub mod Tree
+pub mod Call
+pub mod Cost
+pub mod Decide

@@ -1,0 +1,37 @@
+-- Document 01's table of moves.
+use mathlib.Core.Bool.{Bool, true, false, cond}
+use mathlib.Core.List.{List, [], _∷_}
+use Prim.Native.Nat.{ℕ, _+_, _-_, _*_, _/_, _%_}
+use lib.ListN.{getD}
+use Rattle.graph.specs.Finite.{ifLess}
+use Rattle.graph.specs.Graph.{Graph, isXor}
+
+-- the six rows: whether words 1 to 3, and every reader, are turned. A majority's two, then an XOR's four
+unfoldable pub rows : List (List ℕ)
+rows =
+    (0 ∷ 0 ∷ 0 ∷ 0 ∷ [])
+    ∷ (1 ∷ 1 ∷ 1 ∷ 1 ∷ [])
+    ∷ (0 ∷ 0 ∷ 0 ∷ 0 ∷ [])
+    ∷ (1 ∷ 1 ∷ 0 ∷ 0 ∷ [])
+    ∷ (1 ∷ 0 ∷ 0 ∷ 1 ∷ [])
+    ∷ (0 ∷ 1 ∷ 0 ∷ 1 ∷ [])
+    ∷ []
+
+-- where the rows of a kind begin (true for an XOR), and how many it has
+unfoldable pub firstRow : Bool → ℕ
+firstRow x = cond x 2 0
+
+unfoldable pub arity : Bool → ℕ
+arity x = cond x 4 2
+
+-- whether a kind's move m turns word k + 1, or every reader (k = 3); a move that the kind lacks turns nothing
+unfoldable pub flag : Bool → ℕ → ℕ → ℕ
+flag x m k = ifLess m (arity x) (getD (getD rows (firstRow x + m) []) k 0) 0
+
+-- how many moves the node with index u has: move numbers are those below
+unfoldable pub movesAt : Graph → ℕ → ℕ
+movesAt g u = arity (isXor g (u - (g .I + 1)))
+
+-- two moves of one kind, made one after the other, are one move
+unfoldable pub combined : Bool → ℕ → ℕ → ℕ
+combined x m n = cond x ((m + n) % 2 + 2 * ((m / 2 + n / 2) % 2)) ((m + n) % 2)
