@@ -1,0 +1,116 @@
+-- What one call of a list does, of each of the four kinds. From the laws of calls (crates moves and settling).
+use mathlib.Core.Path.{_≡_, refl, sym, ap, _∙_}
+use mathlib.Core.Bool.{Bool, true, false, cond}
+use mathlib.Core.List.{List, [], _∷_, map}
+use Prim.Native.Nat.{ℕ, zero, suc, _+_, _-_, _*_, _≤_, _<_}
+use native.Mathlib.Omega.{arith}
+use lib.ListN.{length, getD}
+use Rattle.graph.specs.Finite.{first, ifLess}
+use Rattle.graph.specs.Graph.{Graph}
+use Rattle.graph.specs.Count.{C}
+use Rattle.graph.specs.Admission.{Admitted, admissionNumber}
+use Rattle.graph.specs.Answer.{Answer, accepted, Outcome, outcome, guarded}
+use Rattle.graph.proofs.Tests.{none, off}
+use Rattle.graph.proofs.Admit.{admission-none}
+use Rattle.moves.specs.Tree.{tree}
+use Rattle.moves.specs.Call.{rewrite, nodeFault, wordFault, rootFault, scratchFault, isNode, namedBy, nodeNumber, nodeCall, pairNumber, pairRewrite, pairCall, treeNumber, treeCall}
+use Rattle.moves.proofs.Kept.{Kept, kept-none, best-lowest}
+use Rattle.settling.specs.Round.{savingOf}
+use Rattle.settling.specs.Settle.{Rounds, settle, settleNumber, settleCall, NothingLowers}
+use Rattle.settling.proofs.Calls.{node-honest, pair-honest, tree-honest}
+use Rattle.settling.proofs.Rounds.{Ended, settle-ended}
+use Rattle.promises.specs.Demand.{Call, nodeAt, pairAt, treeAt, settling, step, reported, fault, Beside, Made, RoundsReported}
+
+-- a call guarded by k, that else answers a without a fault
+module _ (g : Graph) (o : Outcome) (fine : o .answer .number ≡ 0) where
+  guarded-number : (k : ℕ) → guarded k g o .answer .number ≡ k
+  unfolding guarded
+  guarded-number zero = fine
+  guarded-number (suc k) = refl
+
+  guarded-refused : (k : ℕ) → (k ≡ 0 → ⊥) → (guarded k g o .graph ≡ g) × (guarded k g o .answer .values ≡ [])
+  unfolding guarded
+  guarded-refused zero h = absurd (h refl)
+  guarded-refused (suc k) h = (refl, refl)
+
+  guarded-accepted : (k : ℕ) → k ≡ 0 → guarded k g o ≡ o
+  unfolding guarded
+  guarded-accepted zero e = refl
+  guarded-accepted (suc k) e = absurd (omega arith)
+
+-- an admitted graph is refused by nothing but the call's own fault
+passed : (g : Graph) → Admitted g → (k : ℕ) → first (admissionNumber g) k ≡ k
+passed g adm k = sym (none (admissionNumber g) k (admission-none g adm) refl)
+
+module _ (g : Graph) (adm : Admitted g) where
+  -- what a guarded call whose number comes to the fault f promises
+  made : (c : Call) (k : ℕ) (o : Outcome) → step g c ≡ guarded k g o → o .answer .number ≡ 0 → k ≡ fault g c
+      → (fault g c ≡ 0 → Beside g c o) → Made g c
+  made c k o e fine q b =
+      record {
+        admitted = adm;
+        number = rw e (guarded-number g o fine k ∙ q);
+        refused = λ h. rw e (guarded-refused g o fine k (λ z. h (sym q ∙ z)));
+        accepted = λ z. rw (e, guarded-accepted g o fine k (q ∙ z)) (b z);
+      }
+
+  pair-fine : (u k : ℕ) (b : Bool) → cond b (rewrite g (namedBy g u k ∷ u ∷ [])) (outcome (accepted (0 ∷ [])) g) .answer .number ≡ 0
+  unfolding rewrite
+  pair-fine u k true = refl
+  pair-fine u k false = refl
+
+  node-made : (u : ℕ) → Made g (nodeAt u)
+  unfolding nodeCall nodeNumber rewrite
+  node-made u = made (nodeAt u) (nodeNumber g u) (rewrite g (u ∷ [])) refl refl (passed g adm (nodeFault g u)) (λ z. tt)
+
+  pair-made : (u k : ℕ) → Made g (pairAt u k)
+  unfolding pairCall pairNumber pairRewrite
+  pair-made u k =
+      made (pairAt u k) (pairNumber g u k) (pairRewrite g u k) refl (pair-fine u k (isNode g (namedBy g u k)))
+      (passed g adm (first (nodeFault g u) (wordFault g u k))) (λ z. tt)
+
+  tree-made : (r : ℕ) (scratch : List ℕ) → Made g (treeAt r scratch)
+  unfolding treeCall treeNumber rewrite
+  tree-made r scratch =
+      made (treeAt r scratch) (treeNumber g (length scratch) r) (rewrite g (tree g r)) refl refl
+      (passed g adm (first (nodeFault g r) (first (rootFault g r) (scratchFault g (length scratch)))))
+      (λ z ms f. best-lowest g adm (tree g r) ms f)
+
+  enough : (scratch : List ℕ) → scratchFault g (length scratch) ≡ 0 → 8 * g .N ≤ length scratch
+  unfolding scratchFault
+  enough scratch e = off (length scratch) (8 * g .N) 7 0 e .0
+
+  -- what settling leaves where it is accepted
+  settles : (scratch : List ℕ) → Outcome
+  settles scratch = let r = settle (length scratch) g in outcome (accepted (r .rounds ∷ C g ∷ C (r .graph) ∷ [])) (r .graph)
+
+  settling-made : (scratch : List ℕ) → Made g (settling scratch)
+  unfolding settleCall settleNumber settles
+  settling-made scratch =
+      made (settling scratch) (settleNumber g (length scratch)) (settles scratch) refl refl (passed g adm (scratchFault g (length scratch)))
+      (λ z.
+      let e = settle-ended (length scratch) g adm (enough scratch z) in
+      ((e .lowest), record { values = refl; few = e .few }))
+
+  pub call-made : (c : Call) → Made g c
+  call-made (nodeAt u) = node-made u
+  call-made (pairAt u k) = pair-made u k
+  call-made (treeAt r scratch) = tree-made r scratch
+  call-made (settling scratch) = settling-made scratch
+
+  guarded-kept : (scratch : List ℕ) (k : ℕ) → (k ≡ 0 → 8 * g .N ≤ length scratch)
+      → Kept g (guarded k g (settles scratch) .graph) (reported (settling scratch) (guarded k g (settles scratch) .answer))
+  unfolding guarded settles
+  guarded-kept scratch zero h = settle-ended (length scratch) g adm (h refl) .keeps
+  guarded-kept scratch (suc k) h = kept-none g adm
+
+  settling-kept : (scratch : List ℕ) → Kept g (step g (settling scratch) .graph) (reported (settling scratch) (step g (settling scratch) .answer))
+  unfolding settleCall settleNumber settles
+  settling-kept scratch =
+      guarded-kept scratch (settleNumber g (length scratch)) (λ z. enough scratch (sym (passed g adm (scratchFault g (length scratch))) ∙ z))
+
+  pub call-kept : (c : Call) → Kept g (step g c .graph) (reported c (step g c .answer))
+  call-kept (nodeAt u) = node-honest (λ x. u) .keeps g adm
+  call-kept (pairAt u k) = pair-honest (λ x. u) k .keeps g adm
+  call-kept (treeAt r scratch) = tree-honest (λ x. r) (length scratch) .keeps g adm
+  call-kept (settling scratch) = settling-kept scratch

@@ -1,0 +1,51 @@
+-- A round (document 01's term): the tree call at each root by rising index, the node call at each node by rising index, then
+-- the pair call at each node by rising index with its words in order.
+use mathlib.Core.Bool.{cond}
+use Prim.Native.Nat.{ℕ, zero, suc, _+_}
+use lib.Dec.{eqb}
+use lib.ListN.{getD}
+use Rattle.graph.specs.Graph.{Graph, node}
+use Rattle.graph.specs.Answer.{Answer, Outcome}
+use Rattle.moves.specs.Tree.{isRoot}
+use Rattle.moves.specs.Call.{nodeCall, pairCall, treeCall, wordFault}
+
+-- the saving that a node, pair or tree call reports; a refused one reports none
+unfoldable pub savingOf : Answer → ℕ
+savingOf a = getD (a .values) 0 0
+
+-- calls made one after the other: what they have saved so far, and the graph as they leave it
+pub record Progress : Type 0 where
+  pub saved : ℕ
+  pub graph : Graph
+
+unfoldable pub start : Graph → Progress
+start g = record { saved = 0; graph = g }
+
+-- one more call
+unfoldable pub after : (Graph → Outcome) → Progress → Progress
+after call p =
+    record { saved = p .saved + savingOf (call (p .graph) .answer); graph = call (p .graph) .graph }
+
+-- a step for each of the first n nodes, by rising index
+unfoldable pub each : (ℕ → Progress → Progress) → ℕ → Progress → Progress
+each step zero p = p
+each step (suc n) p = step n (each step n p)
+
+-- the tree call at node v, where it is a root, with s words of scratch
+unfoldable pub treeAt : ℕ → ℕ → Progress → Progress
+treeAt s v p = cond (isRoot (p .graph) (node (p .graph) v)) (after (λ g. treeCall g s (node g v)) p) p
+
+-- the node call at node v
+unfoldable pub nodeAt : ℕ → Progress → Progress
+nodeAt v p = after (λ g. nodeCall g (node g v)) p
+
+-- the pair call at word k of node v, where the node has one: an XOR has two, a majority three
+unfoldable pub pairAt : ℕ → ℕ → Progress → Progress
+pairAt v k p = cond (eqb (wordFault (p .graph) (node (p .graph) v) k) 0) (after (λ g. pairCall g (node g v) k) p) p
+
+-- at its words in order
+unfoldable pub pairsAt : ℕ → Progress → Progress
+pairsAt v p = pairAt v 3 (pairAt v 2 (pairAt v 1 p))
+
+unfoldable pub round : ℕ → Graph → Progress
+round s g = each pairsAt (g .N) (each nodeAt (g .N) (each (treeAt s) (g .N) (start g)))
