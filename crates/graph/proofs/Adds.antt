@@ -1,15 +1,12 @@
 -- What a word adds to C is at most 1, and C at most the number of words. Assumes nothing.
-use mathlib.Core.Bool.{Bool, true, false, cond, _&&_}
+use mathlib.Core.Bool.{_&&_}
 use Prim.Native.Nat.{ℕ, _+_, _*_, _/_, _%_, _≤_}
 use native.Mathlib.Omega.{arith}
 use lib.Dec.{eqb}
 use Rattle.graph.specs.Graph.{Graph, mark}
 use Rattle.graph.specs.Count.{C, adds, nodeAdds, outAdds, wordAdds}
+use Rattle.graph.proofs.Cases.{cond-le}
 use Rattle.graph.proofs.Finite.{sum-le}
-
-cond-le : (b : Bool) (x y n : ℕ) → x ≤ n → y ≤ n → cond b x y ≤ n
-cond-le true x y n h k = h
-cond-le false x y n h k = k
 
 pub adds-le : (x : ℕ) → adds x ≤ 1
 unfolding adds

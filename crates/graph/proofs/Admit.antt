@@ -1,11 +1,10 @@
 -- The number of an admission is 0 just where the graph is admitted. From the laws on tests.
-use mathlib.Core.Path.{_≡_, refl, sym, _∙_}
-use mathlib.Core.Bool.{Bool, true, false, cond}
-use Prim.Native.Nat.{ℕ, _+_, _*_, _/_, _≤_, _<_}
+use mathlib.Core.Path.{_≡_, refl, sym}
+use mathlib.Core.Bool.{true, false}
+use Prim.Native.Nat.{ℕ, _*_, _/_, _≤_, _<_}
 use native.Mathlib.Omega.{arith}
 use mathlib.Core.Logic.{⊎-elim}
 use lib.ListN.{length}
-use Rattle.graph.specs.Finite.{ifLess, first, firstOf}
 use Rattle.graph.specs.Graph.{Graph, word, out, isEdge, node}
 use Rattle.graph.specs.Admission.{limitNumber, tableNumber, wordNumber, outNumber, literalNumber, admissionNumber, Admitted}
 use Rattle.graph.proofs.Cases.{true-or-false}
@@ -63,7 +62,7 @@ module _ (g : Graph) where
   admitted e =
       let a = both _ _ e in
       let b = both _ _ (a .1) in
-      admitted-by (a .0) (b .0) (b .1)
+      admitted-by (a .0) (omega arith) (omega arith)
 
   module _ (adm : Admitted g) where
     pub limits-none : limitNumber g ≡ 0
@@ -83,4 +82,7 @@ module _ (g : Graph) where
 
     pub admission-none : admissionNumber g ≡ 0
     unfolding admissionNumber
-    admission-none = sym (none _ _ limits-none (none _ _ tables-none (sym literals-none)))
+    admission-none =
+        let t = tables-none in
+        let l = literals-none in
+        sym (none _ _ limits-none (none _ _ (omega arith) (omega arith)))

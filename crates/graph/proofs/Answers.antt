@@ -1,13 +1,13 @@
 -- Answers that go by a number: what they come to at a fault and without one, and that the numbers of an admission are at most 5.
 -- Assumes nothing.
-use mathlib.Core.Path.{_≡_, refl, sym, ap, _∙_}
-use mathlib.Core.Bool.{Bool, true, false, cond}
-use Prim.Native.Nat.{ℕ, zero, suc, _*_, _≤_}
+use mathlib.Core.Path.{_≡_, refl, ap}
+use Prim.Native.Nat.{ℕ, zero, suc, _≤_}
 use native.Mathlib.Omega.{arith}
 use lib.Dec.{ltb}
 use Rattle.graph.specs.Finite.{ifLess, first, firstOf}
 use Rattle.graph.specs.Graph.{Graph, isEdge}
 use Rattle.graph.specs.Admission.{limitNumber, tableNumber, wordNumber, outNumber, literalNumber, admissionNumber}
+use Rattle.graph.proofs.Cases.{cond-le}
 use Rattle.graph.specs.Answer.{Answer, Outcome, refused, outcome, unless, guarded}
 
 -- a call that is refused by k, and one that is not
@@ -33,10 +33,6 @@ accepted-outcome zero g o e = refl
 accepted-outcome (suc m) g o e = absurd (omega arith)
 
 -- bounds of numbers
-cond-le : (t : Bool) (x y n : ℕ) → x ≤ n → y ≤ n → cond t x y ≤ n
-cond-le true x y n h k = h
-cond-le false x y n h k = k
-
 pub ifLess-le : (a b x y n : ℕ) → x ≤ n → y ≤ n → ifLess a b x y ≤ n
 unfolding ifLess
 ifLess-le a b x y n h k = cond-le (ltb a b) x y n h k
@@ -74,7 +70,10 @@ module _ (g : Graph) where
 
   pub admission-le : admissionNumber g ≤ 5
   unfolding admissionNumber
-  admission-le = first-le _ _ _ limit-le (first-le _ _ _ table-le literal-le)
+  admission-le =
+      let t = table-le in
+      let l = literal-le in
+      first-le _ _ _ limit-le (first-le _ _ _ (omega arith) (omega arith))
 
   -- what `refused_by` asks of the number
   pub admission-range : (k : ℕ) → k ≡ admissionNumber g → (k ≡ 0 → ⊥) → (1 ≤ k) × (k ≤ 9)

@@ -8,3 +8,5 @@ pub mod Answers
 pub mod Adds
 pub mod Admit
 pub mod Values
+pub mod Digits
+pub mod Worked

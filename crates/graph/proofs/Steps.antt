@@ -1,15 +1,14 @@
 -- The first fault of a table, one node or one output further on, and one that was met stays the first. From the laws on tests.
 use mathlib.Core.Path.{_≡_, refl, sym, _∙_}
-use mathlib.Core.Bool.{Bool, true, false, cond, not}
 use Prim.Native.Nat.{ℕ, zero, suc, _+_, _*_, _/_, _%_, _≤_, _<_}
 use native.Mathlib.Decide.{le-ind}
 use native.Mathlib.Numerals.{add-one}
 use native.Mathlib.Omega.{arith}
-use lib.Dec.{eqb}
 use borrow.Author.Tests.{eq-eqb, ne-eqb}
 use Rattle.graph.specs.Finite.{ifLess, ifEqual, first, firstOf}
 use Rattle.graph.specs.Graph.{Graph, mark, node, word, out, isEdge}
 use Rattle.graph.specs.Admission.{wordNumber, outNumber}
+use Rattle.graph.proofs.Cases.{cond-not}
 use Rattle.graph.proofs.Tests.{fault, none}
 
 pub first-assoc : (a b d : ℕ) → first (first a b) d ≡ first a (first b d)
@@ -23,10 +22,6 @@ unfolding firstOf
 stays m n f z h =
     le-ind (λ (i : ℕ). firstOf i f ≡ firstOf m f) refl
     (λ i k s. sym (fault (firstOf i f) (f i) (sym s) (λ e. z (sym s ∙ e)))) n h
-
-cond-not : {A : Type 0} (b : Bool) (x y : A) → cond (not b) x y ≡ cond b y x
-cond-not true x y = refl
-cond-not false x y = refl
 
 -- what the three words of the node with this index come to
 abbrev pub nodeWords : ℕ → ℕ → ℕ → ℕ → ℕ

@@ -1,9 +1,10 @@
--- A table rewritten in place from the front: place i holds f i below j, and what it held from j on.
-use mathlib.Core.Path.{_≡_, refl, sym, ap, _∙_}
-use mathlib.Core.Bool.{Bool, true, false, cond}
+-- A table rewritten in place from the front: place i holds f i below j, and what it held from j on. From the laws on
+-- tables.
+use mathlib.Core.Path.{_≡_, refl, sym, _∙_}
+use mathlib.Core.Bool.{cond}
 use mathlib.Core.Logic.{⊎-elim}
 use mathlib.Core.List.{List}
-use Prim.Native.Nat.{ℕ, zero, suc, _+_, _≤_, _<_}
+use Prim.Native.Nat.{ℕ, suc, _≤_, _<_}
 use native.Mathlib.Omega.{arith}
 use native.Mathlib.Nat.{eq-or-lt-of-le}
 use borrow.Author.Tests.{lt-ltb, le-ltb}
@@ -12,7 +13,7 @@ use lib.Seq.{ext-getD, getD-set-same, getD-set-other}
 use lib.ListN.{length, getD, set, length-set}
 use Rattle.graph.specs.Finite.{tab}
 use Rattle.graph.proofs.Cases.{lt-or-le}
-use Rattle.graph.proofs.Finite.{length-tab, getD-tab, tab-same}
+use Rattle.graph.proofs.Finite.{length-tab, getD-tab}
 
 pub swept : (ℕ → ℕ) → List ℕ → ℕ → List ℕ
 swept f l j = tab (length l) (λ i. cond (ltb i j) (f i) (getD l i 0))

@@ -6,6 +6,7 @@ ghost use Rattle.graph.specs.Admission.{admissionNumber};
 ghost use Rattle.graph.specs.Answer.{accepted, unless, admissionAnswer, countAnswer};
 
 pub mod checks;
+pub mod decimal;
 pub mod edges;
 pub mod literal;
 

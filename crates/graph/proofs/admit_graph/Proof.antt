@@ -1,5 +1,5 @@
 -- `admit_graph` meets its contract. From the contracts of `admission_number` and `refused_by`.
-use mathlib.Core.Path.{_≡_, sym, _∙_}
+use mathlib.Core.Path.{sym, _∙_}
 use borrow.Author.Needs.{needs}
 use Rattle.graph.specs.Graph.{Graph, graphOf}
 use Rattle.graph.proofs.Answers.{refused-is, accepted-is, admission-range}

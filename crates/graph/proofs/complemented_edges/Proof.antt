@@ -1,5 +1,5 @@
 -- `complemented_edges` meets its contract. From the contracts of `admission_number`, `refused_by` and `complemented`.
-use mathlib.Core.Path.{_≡_, sym, ap, _∙_}
+use mathlib.Core.Path.{sym, ap, _∙_}
 use mathlib.Core.List.{[], _∷_}
 use Prim.Native.Nat.{ℕ}
 use borrow.Author.Needs.{needs}

@@ -1,7 +1,7 @@
 -- `admission_number` meets its contract: the first of the three numbers that is not 0. From its callees' contracts.
-use mathlib.Core.Path.{_≡_, sym, _∙_}
+use mathlib.Core.Path.{sym, _∙_}
 use borrow.Author.Needs.{needs}
-use Rattle.graph.specs.Graph.{Graph, graphOf}
+use Rattle.graph.specs.Graph.{graphOf}
 use Rattle.graph.specs.Admission.{admissionNumber}
 use Rattle.graph.proofs.Tests.{fault, none}
 use Rattle.graph.proofs.Admit.{limits-are}

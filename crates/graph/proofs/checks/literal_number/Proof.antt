@@ -1,6 +1,5 @@
 -- `literal_number` meets its contract: the node table's first fault, else the output table's. From its callees' contracts.
-use mathlib.Core.Path.{_≡_, sym, _∙_}
-use Rattle.graph.specs.Graph.{Graph, graphOf}
+use mathlib.Core.Path.{sym, _∙_}
 use Rattle.graph.specs.Admission.{literalNumber}
 use Rattle.graph.proofs.Tests.{fault, none}
 use Rattle.graph.proofs.Admit.{limits-are, tables-are}

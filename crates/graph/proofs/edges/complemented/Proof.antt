@@ -1,6 +1,4 @@
 -- `complemented` meets its contract. From the two sums' contracts and the bound of C.
-use mathlib.Core.Path.{_≡_}
-use Prim.Native.Nat.{_+_}
 use native.Mathlib.Omega.{arith}
 use borrow.Author.Needs.{needs}
 use Rattle.graph.specs.Graph.{Graph, graphOf}

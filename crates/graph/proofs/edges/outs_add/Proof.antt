@@ -1,13 +1,13 @@
 -- `outs_add` meets its contract: the sum over the outputs passed, at most one an output. From what a literal adds.
-use mathlib.Core.Path.{_≡_, refl, sym, ap, _∙_}
+use mathlib.Core.Path.{_≡_, refl, ap, _∙_}
 use mathlib.Core.List.{List}
-use Prim.Native.Nat.{ℕ, _+_, _*_, _-_, _≤_}
+use Prim.Native.Nat.{ℕ, _-_, _≤_}
 use native.Mathlib.Omega.{arith}
 use native.Mathlib.Numerals.{add-one}
 use borrow.Author.Needs.{needs}
 use lib.ListN.{getD}
 use Rattle.graph.specs.Finite.{sum}
-use Rattle.graph.specs.Graph.{Graph, graphOf}
+use Rattle.graph.specs.Graph.{graphOf}
 use Rattle.graph.specs.Count.{outAdds}
 use Rattle.graph.proofs.Adds.{adds-le}
 use Rattle.graph.proofs.edges.outs_add.Statement.{statement}

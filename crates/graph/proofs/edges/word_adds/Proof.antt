@@ -2,7 +2,7 @@
 use borrow.Author.Tests.{eq-eqb, ne-eqb}
 use mathlib.Core.Bool.{and-false}
 use borrow.Author.Needs.{needs}
-use Rattle.graph.specs.Count.{adds, wordAdds}
+use Rattle.graph.specs.Count.{wordAdds}
 use Rattle.graph.proofs.edges.word_adds.Statement.{statement}
 use Rattle.graph.proofs.edges.word_adds.Tie as tie
 
