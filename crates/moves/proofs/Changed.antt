@@ -53,7 +53,7 @@ module _ (g : Graph) (d : Choice) where
       rw (q, r)
 
 -- move 0 turns nothing
-flag-zero : (x : Bool) (i : ℕ) → flag x 0 i ≡ 0
+pub flag-zero : (x : Bool) (i : ℕ) → flag x 0 i ≡ 0
 unfolding flag rows firstRow arity ifLess
 flag-zero true i = zeros i
 flag-zero false i = zeros i

@@ -12,3 +12,8 @@ pub mod Shown
 pub mod TreeBest
 pub mod Written
 pub mod Kept
+pub mod Scan
+pub mod Deciding
+pub mod Tally
+pub mod Step
+pub mod NodeBest

@@ -7,11 +7,18 @@ use Rattle.graph.specs.Finite.{ifLess, first}
 use Rattle.graph.specs.Graph.{Graph, node, word, index, isXor}
 use Rattle.graph.specs.Count.{C}
 use Rattle.graph.specs.Admission.{admissionNumber}
-use Rattle.graph.specs.Answer.{Answer, accepted, Outcome, outcome, guarded}
+use Rattle.graph.specs.Answer.{Answer, accepted, refused, numberOf, Outcome, outcome, guarded}
 use Rattle.choice.specs.Choice.{best}
 use Rattle.moves.specs.Rows.{movesAt}
 use Rattle.moves.specs.Apply.{none, put, apply}
 use Rattle.moves.specs.Tree.{isRoot, tree}
+use Rattle.moves.specs.declared.Saving.{Saving}
+use Rattle.moves.specs.declared.Saving.the-variants.{Saved, Refused}
+
+-- what a node, pair or tree call answers
+abbrev pub savingAnswer : Saving → Answer
+savingAnswer (Saved c) = accepted (c ∷ [])
+savingAnswer (Refused r) = refused (numberOf r)
 
 -- the graph after the moves ms at the nodes us
 unfoldable pub moved : Graph → List ℕ → List ℕ → Graph

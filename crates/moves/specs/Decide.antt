@@ -1,10 +1,15 @@
 -- Deciding from a few numbers of a node: what the inner functions compute, and no promise to a caller.
-use mathlib.Core.Bool.{Bool}
-use mathlib.Core.List.{List}
-use Prim.Native.Nat.{ℕ, _+_, _-_}
+use mathlib.Core.Path.{_≡_}
+use mathlib.Core.Bool.{Bool, cond}
+use mathlib.Core.List.{List, [], _∷_}
+use Prim.Native.Nat.{ℕ, _+_, _-_, _*_, _/_, _%_, _≤_, _<_}
 use lib.ListN.{getD}
-use Rattle.graph.specs.Finite.{ifEqual}
+use Rattle.graph.specs.Finite.{ifEqual, sum}
+use Rattle.graph.specs.Graph.{Graph, node, word, turn, isEdge, isXor}
+use Rattle.graph.specs.Count.{adds, nodeReaders, readers}
+use Rattle.moves.specs.Cost.{shown}
 use Rattle.moves.specs.Rows.{flag}
+use Rattle.moves.specs.declared.decide.NodeNumbers.{NodeNumbers}
 
 -- what r readers add, d of them complemented, once all are turned f times
 unfoldable pub readersCost : ℕ → ℕ → ℕ → ℕ
@@ -14,3 +19,73 @@ readersCost f r d = ifEqual f 0 d (r - d)
 -- adds turned; the node has r readers, d of them complemented
 unfoldable pub costWith : Bool → List ℕ → ℕ → ℕ → ℕ → ℕ
 costWith x z r d m = getD z (flag x m 0) 0 + getD z (2 + flag x m 1) 0 + getD z (4 + flag x m 2) 0 + readersCost (flag x m 3) r d
+
+-- such numbers, as they can be: each word adds at most 1
+pub record Numbers (z : List ℕ) (r d : ℕ) : Type 0 where
+  pub bits : (i : ℕ) → getD z i 0 ≤ 1
+  pub some : d ≤ r
+  pub few : r ≤ 304096
+
+-- what word i + 1 of node v adds, turned t times
+unfoldable pub wordAfter : Graph → ℕ → ℕ → ℕ → ℕ
+wordAfter g v i t = cond (isEdge g (3 * v + i)) (adds (turn t (word g (3 * v + i)))) 0
+
+-- what the words of node v add, each as it stands and turned
+unfoldable pub ownCosts : Graph → ℕ → List ℕ
+ownCosts g v = wordAfter g v 0 0 ∷ wordAfter g v 0 1 ∷ wordAfter g v 1 0 ∷ wordAfter g v 1 1 ∷ wordAfter g v 2 0 ∷ wordAfter g v 2 1 ∷ []
+
+-- of the first n words of a table, c name index u, and d of these are complemented
+pub record Tallied (l : List ℕ) (n u c d : ℕ) : Type 0 where
+  pub names : c ≡ sum n (λ j. ifEqual (getD l j 0 / 2) u 1 0)
+  pub odd : d ≡ sum n (λ j. ifEqual (getD l j 0 / 2) u (getD l j 0 % 2) 0)
+
+-- index u has a readers, n of them in the node table, and d of all are complemented
+pub record Read (g : Graph) (u a n d : ℕ) : Type 0 where
+  pub all : a ≡ readers g u
+  pub in-nodes : n ≡ nodeReaders g u
+  pub odd : d ≡ shown g u 0
+
+-- the words' costs once they have been turned a, b and c times (0 or 1)
+unfoldable pub swapped : List ℕ → ℕ → ℕ → ℕ → List ℕ
+swapped z a b c = getD z a 0 ∷ getD z (1 - a) 0 ∷ getD z (2 + b) 0 ∷ getD z (3 - b) 0 ∷ getD z (4 + c) 0 ∷ getD z (5 - c) 0 ∷ []
+
+-- the words' costs once a move has been made at the node that some of them name: w has 1 for those words, and f tells
+-- whether that move turns its readers
+unfoldable pub given : List ℕ → List ℕ → ℕ → List ℕ
+given z w f = swapped z (ifEqual f 0 0 (getD w 0 0)) (ifEqual f 0 0 (getD w 1 0)) (ifEqual f 0 0 (getD w 2 0))
+
+-- what the three words add, each turned once more
+unfoldable pub others : List ℕ → ℕ
+others z = getD z 1 0 + getD z 3 0 + getD z 5 0
+
+-- the same for the struct of a node's numbers
+abbrev pub costOf : NodeNumbers → ℕ → ℕ
+costOf n m = costWith (n .xor) (n .costs) (n .readers) (n .odd) m
+
+abbrev pub Counted : NodeNumbers → Type 0
+Counted n = Numbers (n .costs) (n .readers) (n .odd)
+
+-- the move k of a node once move a has been made at the node p that its words w name
+unfoldable pub costGiven : NodeNumbers → NodeNumbers → List ℕ → ℕ → ℕ → ℕ
+costGiven p n w a k = costWith (n .xor) (given (n .costs) w (flag (p .xor) a 3)) (n .readers) (n .odd) k
+
+-- move a at the node p and k at the node whose words w name it, up to a number that no move changes. The words w stand in
+-- both costs, as readers and as words: what they, and the other words, add is taken off by adding what they do not add
+unfoldable pub pairCost : NodeNumbers → NodeNumbers → List ℕ → ℕ → ℕ → ℕ
+pairCost p n w a k = costOf p a + costGiven p n w a k + others (given (n .costs) w (flag (p .xor) a 3))
+
+-- (a, k) is the first pair below (m, n), by a and then by k, at which f is least
+pub record FirstPair (f : ℕ → ℕ → ℕ) (m n a k : ℕ) : Type 0 where
+  pub below : a < m
+  pub fits : k < n
+  pub low : (b l : ℕ) → b < m → l < n → f a k ≤ f b l
+  pub first : (b l : ℕ) → b < a → l < n → f a k < f b l
+  pub second : (l : ℕ) → l < k → f a k < f a l
+
+-- the numbers of node v
+unfoldable pub numbersOf : Graph → ℕ → NodeNumbers
+numbersOf g v = record { xor = isXor g v; costs = ownCosts g v; readers = readers g (node g v); odd = shown g (node g v) 0 }
+
+-- which words of node v name index u
+unfoldable pub naming : Graph → ℕ → ℕ → List ℕ
+naming g v u = ifEqual (word g (3 * v + 0) / 2) u 1 0 ∷ ifEqual (word g (3 * v + 1) / 2) u 1 0 ∷ ifEqual (word g (3 * v + 2) / 2) u 1 0 ∷ []

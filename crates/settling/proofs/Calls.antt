@@ -71,7 +71,7 @@ unfolding treeCall
 tree-honest at s = by-each (λ g. treeCall g s (at g)) (λ g adm. guarded-honest (treeNumber g s (at g)) g (rewrite g (tree g (at g))) adm (rewrite-honest g adm (tree g (at g))))
 
 -- a call that is not refused, and saves nothing: no choice of moves at its nodes lowers C
-guarded-none : (k : ℕ) (g : Graph) (o : Outcome) → k ≡ 0 → guarded k g o ≡ o
+pub guarded-none : (k : ℕ) (g : Graph) (o : Outcome) → k ≡ 0 → guarded k g o ≡ o
 unfolding guarded
 guarded-none zero g o e = refl
 guarded-none (suc k) g o e = absurd (omega arith)
@@ -89,25 +89,38 @@ module _ (g : Graph) (adm : Admitted g) where
   unfolding nodeFault
   no-node-fault v h = rw (is-node v h)
 
+  -- none of a round's calls is refused
+  pub node-passes : (v : ℕ) → v < g .N → nodeNumber g (node g v) ≡ 0
+  unfolding nodeNumber
+  node-passes v h = sym (none _ _ (admission-none g adm) (sym (no-node-fault v h)))
+
+  pub pair-passes : (v k : ℕ) → v < g .N → wordFault g (node g v) k ≡ 0 → pairNumber g (node g v) k ≡ 0
+  unfolding pairNumber
+  pair-passes v k h w = sym (none _ _ (admission-none g adm) (none _ _ (no-node-fault v h) (sym w)))
+
+  pub tree-passes : (s v : ℕ) → v < g .N → isRoot g (node g v) ≡ true → 8 * g .N ≤ s → treeNumber g s (node g v) ≡ 0
+  unfolding treeNumber rootFault scratchFault
+  tree-passes s v h r l =
+      sym (none _ _ (admission-none g adm) (none _ _ (no-node-fault v h) (none _ _ (rw r) (no-less s (8 * g .N) 8 0 l refl))))
+
   pub node-nothing : (v : ℕ) → v < g .N → savingOf (nodeCall g (node g v) .answer) ≡ 0
       → (m : ℕ) → m < movesAt g (node g v) → C g ≤ C (moved g (node g v ∷ []) (m ∷ []))
-  unfolding nodeCall nodeNumber
+  unfolding nodeCall
   node-nothing v h e m l =
-      let z : nodeNumber g (node g v) ≡ 0 = sym (none _ _ (admission-none g adm) (sym (no-node-fault v h))) in
+      let z = node-passes v h in
       rewrite-nothing (node g v ∷ []) (rw (guarded-none _ g (rewrite g (node g v ∷ [])) z) at e) (m ∷ []) (l, tt)
 
   pub pair-nothing : (v k : ℕ) → v < g .N → wordFault g (node g v) k ≡ 0 → isNode g (namedBy g (node g v) k) ≡ true
       → savingOf (pairCall g (node g v) k .answer) ≡ 0 → (a b : ℕ) → a < movesAt g (namedBy g (node g v) k) → b < movesAt g (node g v)
       → C g ≤ C (moved g (namedBy g (node g v) k ∷ node g v ∷ []) (a ∷ b ∷ []))
-  unfolding pairCall pairNumber pairRewrite
+  unfolding pairCall pairRewrite
   pair-nothing v k h w i e a b la lb =
-      let z : pairNumber g (node g v) k ≡ 0 = sym (none _ _ (admission-none g adm) (none _ _ (no-node-fault v h) (sym w))) in
+      let z = pair-passes v k h w in
       rewrite-nothing (namedBy g (node g v) k ∷ node g v ∷ []) (rw (guarded-none _ g (pairRewrite g (node g v) k) z, i) at e) (a ∷ b ∷ []) (la, (lb, tt))
 
   pub tree-nothing : (s v : ℕ) → v < g .N → isRoot g (node g v) ≡ true → 8 * g .N ≤ s → savingOf (treeCall g s (node g v) .answer) ≡ 0
       → (ms : List ℕ) → Fits (map (movesAt g) (tree g (node g v))) ms → C g ≤ C (moved g (tree g (node g v)) ms)
-  unfolding treeCall treeNumber rootFault scratchFault
+  unfolding treeCall
   tree-nothing s v h r l e ms f =
-      let z : treeNumber g s (node g v) ≡ 0 =
-      sym (none _ _ (admission-none g adm) (none _ _ (no-node-fault v h) (none _ _ (rw r) (no-less s (8 * g .N) 8 0 l refl)))) in
+      let z = tree-passes s v h r l in
       rewrite-nothing (tree g (node g v)) (rw (guarded-none _ g (rewrite g (tree g (node g v))) z) at e) ms f

@@ -1,0 +1,84 @@
+-- `pair_cost` meets its contract. From the laws on costs.
+use native.Mathlib.Omega.{arith}
+use borrow.Author.Needs.{needs}
+use mathlib.Core.Path.{ap, _∙_}
+use Prim.Native.Nat.{ℕ, _≤_}
+use lib.ListN.{getD}
+use Rattle.moves.specs.Decide.{given}
+use Rattle.moves.proofs.Deciding.{given-numbers, pair-is}
+use Rattle.moves.proofs.decide.pair_cost.Statement.{statement}
+use Rattle.moves.proofs.decide.pair_cost.Tie as tie
+
+move-cost-requires : tie.Need-move-cost-requires
+move-cost-requires c κs = search needs
+
+flag-of-requires : tie.Need-flag-of-requires
+flag-of-requires c κs = search needs
+
+given-costs-requires : tie.Need-given-costs-requires
+given-costs-requires c κs = search needs
+
+move-cost-requires-2 : tie.Need-move-cost-requires-2
+move-cost-requires-2 c κs =
+    let a = c .before .before .before .before .before in
+    (rw (c .given-costs .ensures) (given-numbers (a .args .node .costs) (a .args .which) (c .before .before .flag-of .result) (a .args .node .readers) (a .args .node .odd) (a .pre .1)), a .pre .4)
+
+add-result : tie.Need-add-result
+add-result c =
+    let a = c .before .before .before .before .before .before in
+    let n = given-numbers (a .args .node .costs) (a .args .which) (c .before .before .before .flag-of .result) (a .args .node .readers) (a .args .node .odd) (a .pre .1) in
+    let b : (i : ℕ) → getD (c .before .given-costs .result) i 0 ≤ 1 = rw (c .before .given-costs .ensures) (n .bits) in
+    omega (arith, b 1, b 3, b 5, c .before .before .before .before .move-cost .ensures .1, c .move-cost2 .ensures .1, a .pre .0 .few, a .pre .1 .few)
+
+array-read-result : tie.Need-array-read-result
+array-read-result c = search needs
+
+array-read-result-2 : tie.Need-array-read-result-2
+array-read-result-2 c = search needs
+
+add-result-2 : tie.Need-add-result-2
+add-result-2 c =
+    let a = c .before .before .before .before .before .before in
+    let n = given-numbers (a .args .node .costs) (a .args .which) (c .before .before .before .flag-of .result) (a .args .node .readers) (a .args .node .odd) (a .pre .1) in
+    let b : (i : ℕ) → getD (c .before .given-costs .result) i 0 ≤ 1 = rw (c .before .given-costs .ensures) (n .bits) in
+    omega (arith, b 1, b 3, b 5, c .before .before .before .before .move-cost .ensures .1, c .move-cost2 .ensures .1, a .pre .0 .few, a .pre .1 .few)
+
+array-read-result-3 : tie.Need-array-read-result-3
+array-read-result-3 c = search needs
+
+add-result-3 : tie.Need-add-result-3
+add-result-3 c =
+    let a = c .before .before .before .before .before .before in
+    let n = given-numbers (a .args .node .costs) (a .args .which) (c .before .before .before .flag-of .result) (a .args .node .readers) (a .args .node .odd) (a .pre .1) in
+    let b : (i : ℕ) → getD (c .before .given-costs .result) i 0 ≤ 1 = rw (c .before .given-costs .ensures) (n .bits) in
+    omega (arith, b 1, b 3, b 5, c .before .before .before .before .move-cost .ensures .1, c .move-cost2 .ensures .1, a .pre .0 .few, a .pre .1 .few)
+
+add-result-4 : tie.Need-add-result-4
+add-result-4 c =
+    let a = c .before .before .before .before .before .before in
+    let n = given-numbers (a .args .node .costs) (a .args .which) (c .before .before .before .flag-of .result) (a .args .node .readers) (a .args .node .odd) (a .pre .1) in
+    let b : (i : ℕ) → getD (c .before .given-costs .result) i 0 ≤ 1 = rw (c .before .given-costs .ensures) (n .bits) in
+    omega (arith, b 1, b 3, b 5, c .before .before .before .before .move-cost .ensures .1, c .move-cost2 .ensures .1, a .pre .0 .few, a .pre .1 .few)
+
+returns : tie.Need-returns
+returns c =
+    let a = c .before .before .before .before .before .before .args in
+    pair-is (a .named) (a .node) (a .which) (a .a) (a .k) _ _ _ (c .before .given-costs .ensures ∙ ap (given (a .node .costs) (a .which)) (c .before .before .before .flag-of .ensures .0))
+    (c .before .before .before .before .move-cost .ensures .0) (c .move-cost2 .ensures .0)
+
+pub pair-cost-spec : {M : Type 1} → statement M
+pair-cost-spec =
+    tie.close
+    (tie.spec
+    move-cost-requires
+    flag-of-requires
+    given-costs-requires
+    move-cost-requires-2
+    add-result
+    array-read-result
+    array-read-result-2
+    add-result-2
+    array-read-result-3
+    add-result-3
+    add-result-4
+    returns)

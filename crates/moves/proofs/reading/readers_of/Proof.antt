@@ -1,0 +1,45 @@
+-- `readers_of` meets its contract. From the laws on tallies.
+use native.Mathlib.Omega.{arith}
+use Prim.Native.Nat.{_*_}
+use Rattle.graph.specs.Graph.{Graph, graphOf}
+use Rattle.moves.proofs.Tally.{tally-le, read-is}
+use borrow.Author.Needs.{needs}
+use Rattle.moves.proofs.reading.readers_of.Statement.{statement}
+use Rattle.moves.proofs.reading.readers_of.Tie as tie
+
+mul-count-names : tie.Need-mul-count-names
+mul-count-names c = search needs
+
+count-names-requires : tie.Need-count-names-requires
+count-names-requires c κs = search needs
+
+count-names-requires-2 : tie.Need-count-names-requires-2
+count-names-requires-2 c κs = search needs
+
+add-t11 : tie.Need-add-t11
+add-t11 c =
+    let s = c .before .before in
+    let a = s .before .before .before .before .args in
+    let n = tally-le (a .node-table .now) (a .u) (3 * a .nodes) (s .before .count-names .result .count) (s .before .count-names .result .odd) (s .before .count-names .ensures) in
+    let o = tally-le (a .output-table .now) (a .u) (a .outputs) (s .count-names2 .result .count) (s .count-names2 .result .odd) (s .count-names2 .ensures) in
+    omega (arith, s .before .before .before .before .pre)
+
+add-t12 : tie.Need-add-t12
+add-t12 c =
+    let s = c .before .before .before .before in
+    let a = s .before .before .before .before .args in
+    let n = tally-le (a .node-table .now) (a .u) (3 * a .nodes) (s .before .count-names .result .count) (s .before .count-names .result .odd) (s .before .count-names .ensures) in
+    let o = tally-le (a .output-table .now) (a .u) (a .outputs) (s .count-names2 .result .count) (s .count-names2 .result .odd) (s .count-names2 .ensures) in
+    omega (arith, s .before .before .before .before .pre)
+
+returns : tie.Need-returns
+returns c =
+    let s = c .before .before .before .before in
+    let a = s .before .before .before .before .args in
+    let g : Graph = graphOf (a .inputs) (a .nodes) (a .outputs) (a .node-table .now) (a .output-table .now) in
+    read-is g (a .u) (s .before .before .before .before .pre .4) _ _ _ _ (s .before .count-names .ensures) (s .count-names2 .ensures)
+
+pub readers-of-spec : {M : Type 1} → statement M
+readers-of-spec =
+    tie.close
+    (tie.spec mul-count-names count-names-requires count-names-requires-2 add-t11 add-t12 returns)

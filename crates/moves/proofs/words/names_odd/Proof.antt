@@ -1,0 +1,14 @@
+-- `names_odd` meets its contract. From the laws on tests.
+use mathlib.Core.Path.{refl}
+use Rattle.graph.proofs.Tests.{equal, unequal}
+use Rattle.moves.proofs.words.names_odd.Statement.{statement}
+use Rattle.moves.proofs.words.names_odd.Tie as tie
+
+returns : tie.Need-returns
+returns c = equal _ _ _ _ (c .if1 .taken) refl
+
+returns-2 : tie.Need-returns-2
+returns-2 c = unequal _ _ _ _ (c .if1 .left) refl
+
+pub names-odd-spec : {M : Type 1} → statement M
+names-odd-spec = tie.close (tie.spec returns returns-2)

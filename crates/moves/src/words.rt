@@ -1,0 +1,82 @@
+// What the words of a node add to C, as they stand and turned.
+ghost use mathlib.Core.Path.{_≡_};
+ghost use mathlib.Core.List.{List};
+ghost use Prim.Native.Nat.{ℕ, _+_, _*_, _/_, _%_, _≤_, _<_};
+ghost use lib.ListN.{length, getD};
+ghost use Rattle.graph.specs.Finite.{ifEqual};
+ghost use Rattle.graph.specs.Graph.{graphOf, turn, mark};
+ghost use Rattle.graph.specs.Count.{adds};
+ghost use Rattle.moves.specs.Decide.{ownCosts, naming};
+use graph::edges;
+use graph::literal;
+use graph::literal::MARK;
+
+// What a literal adds, turned t times.
+pub fn turned_adds(x: u32, t: u32) -> u32
+    requires { ⌜ t ≤ 1 ⌝ }
+    ensures { λ r. ⌜ r ≡ adds (turn t x) ⌝ }
+{
+    edges::literal_adds(literal::turned(t, x))
+}
+
+// A third word may be the mark, which adds nothing.
+pub fn third_adds(x: u32, t: u32) -> u32
+    requires { ⌜ t ≤ 1 ⌝ }
+    ensures { λ r. ⌜ r ≡ ifEqual x mark 0 (adds (turn t x)) ⌝ }
+{
+    if x == MARK {
+        return 0;
+    }
+    turned_adds(x, t)
+}
+
+// What each word of node v adds, as it stands and turned.
+pub fn own_costs(node_table: &[u32], v: usize) -> [u32; 6]
+    requires { ⌜ (3 * v + 2 < length (now «node_table»)) × (v ≤ 100000) ⌝ }
+    ensures { λ r. ⌜ ((i n o : ℕ) (os : List ℕ) → r ≡ ownCosts (graphOf i n o (now («node_table» .entry)) os) v) ⌝ }
+{
+    let at = 3 * v;
+    let x = node_table[at];
+    let y = node_table[at + 1];
+    let z = node_table[at + 2];
+    [
+        turned_adds(x, 0),
+        turned_adds(x, 1),
+        turned_adds(y, 0),
+        turned_adds(y, 1),
+        third_adds(z, 0),
+        third_adds(z, 1),
+    ]
+}
+
+// 1 where the literal x names index u.
+pub fn names(x: u32, u: u32) -> u32
+    ensures { λ r. ⌜ r ≡ ifEqual (x / 2) u 1 0 ⌝ }
+{
+    if x / 2 == u {
+        return 1;
+    }
+    0
+}
+
+// 1 where it names u and is complemented.
+pub fn names_odd(x: u32, u: u32) -> u32
+    ensures { λ r. ⌜ r ≡ ifEqual (x / 2) u (x % 2) 0 ⌝ }
+{
+    if x / 2 == u {
+        return x % 2;
+    }
+    0
+}
+
+// Which words of node v name index u.
+pub fn which_name(node_table: &[u32], v: usize, u: u32) -> [u32; 3]
+    requires { ⌜ (3 * v + 2 < length (now «node_table»)) × (v ≤ 100000) ⌝ }
+    ensures { λ r. ⌜ ((i n o : ℕ) (os : List ℕ) → r ≡ naming (graphOf i n o (now («node_table» .entry)) os) v u) ⌝ }
+{
+    let at = 3 * v;
+    let x = node_table[at];
+    let y = node_table[at + 1];
+    let z = node_table[at + 2];
+    [names(x, u), names(y, u), names(z, u)]
+}
