@@ -1,0 +1,72 @@
+-- The outputs' words from the words by index, and a result slice that has them in front. From the laws on rows and sweeps.
+use mathlib.Core.Path.{_≡_, refl, sym, ap, _∙_}
+use mathlib.Core.Bool.{true}
+use mathlib.Core.Logic.{⊎-elim}
+use mathlib.Core.List.{List, _++_}
+use Prim.Native.Nat.{ℕ, _+_, _-_, _*_, _%_, _≤_, _<_}
+use native.Mathlib.Omega.{arith}
+use native.Mathlib.Numerals.{add-one}
+use borrow.Author.Tests.{eq-eqb, ne-eqb}
+use lib.ListN.{length, getD, set, drop, length-append, length-drop, List·getD-append}
+use lib.Seq.{ext-getD, getD-drop}
+use Rattle.graph.specs.Finite.{tab}
+use Rattle.graph.specs.Graph.{Graph, word, isEdge, mark}
+use Rattle.graph.specs.Value.{literalValue, outValue}
+use Rattle.graph.specs.Admission.{Admitted}
+use Rattle.graph.proofs.Cases.{lt-or-le}
+use Rattle.graph.proofs.Finite.{length-tab, getD-tab, tab-same}
+use Rattle.graph.proofs.Sweep.{swept, length-swept, swept-done, swept-left, swept-suc}
+use Rattle.evaluation.specs.Inner.{byIndex, literalWord, outWord, nodesOf, NodeBelow, NodeWords}
+use Rattle.evaluation.specs.Evaluation.{assignmentAt, outputWord}
+use Rattle.evaluation.proofs.Gather.{gather-same}
+use Rattle.evaluation.proofs.Index.{getD-right}
+use Rattle.evaluation.proofs.Rows.{values-of-nodes}
+
+-- a slice swept up to place n
+pub swept-front : (f : ℕ → ℕ) (l : List ℕ) (n : ℕ) → n ≤ length l → swept f l n ≡ tab n f ++ drop n l
+swept-front f l n h =
+    ext-getD 0 _ _ (simp (length-swept, length-append, length-tab, length-drop) (omega arith))
+    (λ i k.
+    let t = length-tab n f in
+    let b : i < length l = rw length-swept at k in
+    ⊎-elim
+    (λ (p : i < n). swept-done f l n i b p ∙ sym (List·getD-append (tab n f) (drop n l) 0 i (omega arith) ∙ getD-tab n f i p))
+    (λ (p : n ≤ i).
+    let e : n + (i - length (tab n f)) ≡ i = omega arith in
+    swept-left f l n i b p ∙ sym (getD-right (tab n f) (drop n l) i (omega arith) ∙ getD-drop n l (i - length (tab n f)) 0 ∙ ap (λ (m : ℕ). getD l m 0) e))
+    (lt-or-le i n))
+
+outWord-is : (ws outs : List ℕ) (o : ℕ) → outWord ws outs o ≡ literalWord ws (getD outs o 0)
+unfolding outWord
+outWord-is ws outs o = refl
+
+-- one output more
+pub swept-next : (ws outs before after : List ℕ) (o w : ℕ) → o < length before → after ≡ swept (outWord ws outs) before o
+    → w ≡ literalWord ws (getD outs o 0) → set after o w ≡ swept (outWord ws outs) before (o + 1)
+swept-next ws outs before after o w h e q =
+    rw (add-one o, e, q ∙ sym (outWord-is ws outs o)) (swept-suc (outWord ws outs) before o h)
+
+module _ (g : Graph) where
+  edge-early : (j : ℕ) → (j % 3 ≡ 2 → ⊥) → isEdge g j ≡ true
+  unfolding isEdge
+  edge-early j h = simp (ne-eqb (j % 3) 2 h)
+
+  edge-third : (j : ℕ) → j % 3 ≡ 2 → (word g j ≡ mark → ⊥) → isEdge g j ≡ true
+  unfolding isEdge
+  edge-third j e h = simp (eq-eqb (j % 3) 2 e, ne-eqb (word g j) mark h)
+
+  pub node-below : Admitted g → (v : ℕ) → v < g .N → NodeBelow (g .I) (g .nodes) v
+  node-below adm v h =
+      record {
+        first = omega (arith, adm .below (3 * v) (omega arith) (edge-early (3 * v) (omega arith)));
+        second = omega (arith, adm .below (3 * v + 1) (omega arith) (edge-early (3 * v + 1) (omega arith)));
+        third = λ n. omega (arith, adm .below (3 * v + 2) (omega arith) (edge-third (3 * v + 2) (omega arith) n));
+      }
+
+  -- the outputs' words, from the words of all nodes
+  pub output-words : (words nodeWords : List ℕ) → NodeWords (nodesOf (g .I) (g .N) (g .nodes)) words nodeWords (g .N)
+      → tab (g .O) (outWord (byIndex (g .I) words nodeWords) (g .outs)) ≡ tab (g .O) (outputWord g words)
+  unfolding outWord literalWord outputWord outValue
+  output-words words nodeWords e =
+      tab-same (g .O) _ _ (λ o h. gather-same _ _ 64 (λ j l.
+      ap (λ (vs : List ℕ). literalValue vs (getD (g .outs) o 0)) (e j l ∙ values-of-nodes g (assignmentAt words j) (g .N))))

@@ -1,0 +1,87 @@
+-- `results::fill_results` meets its contract. The invariant: results swept up to the output met. From the laws on sweeps.
+use mathlib.Core.Path.{_≡_, refl, _∙_}
+use Prim.Native.Nat.{_-_, _≤_}
+use native.Mathlib.Omega.{arith}
+use lib.ListN.{length, length-set}
+use Rattle.graph.proofs.Sweep.{swept, swept-zero}
+use Rattle.evaluation.specs.Inner.{byIndex, outWord}
+use Rattle.evaluation.proofs.Outputs.{swept-front, swept-next}
+use Rattle.evaluation.proofs.results.fill_results.Statement.{statement}
+use Rattle.evaluation.proofs.results.fill_results.Tie as tie
+
+abbrev Inv-loop : tie.InvT-loop
+Inv-loop inputs outputs output-table input-words node-words results₀ o₀ o-end results o =
+    (o ≤ outputs) × (o-end ≡ outputs) × (length results ≡ length results₀)
+    × (results ≡ swept (outWord (byIndex inputs input-words node-words) output-table) results₀ o)
+
+abbrev μ-loop : tie.MeasureT-loop
+μ-loop inputs outputs output-table input-words node-words results₀ o₀ o-end results o = outputs - o
+
+loop-holds : tie.Need-loop-holds Inv-loop μ-loop
+loop-holds c =
+    let a = c .before .before .before .before .args in
+    (omega arith, refl, refl, swept-zero (outWord (byIndex (a .inputs) (a .input-words .now) (a .node-words .now)) (a .output-table .now)) (a .results .now))
+
+mul-literal-word : tie.Need-mul-literal-word Inv-loop μ-loop
+mul-literal-word c = omega arith
+
+shared-slice-read-literal-word : tie.Need-shared-slice-read-literal-word Inv-loop μ-loop
+shared-slice-read-literal-word c = omega arith
+
+literal-word-requires : tie.Need-literal-word-requires Inv-loop μ-loop
+literal-word-requires c κs =
+    let l = c .before .before in
+    let s = l .before .before .before .before .before in
+    (s .pre .0, s .pre .3 (l .loop .o) (omega arith))
+
+mul-results : tie.Need-mul-results Inv-loop μ-loop
+mul-results c = omega arith
+
+slice-write-results : tie.Need-slice-write-results Inv-loop μ-loop
+slice-write-results c = omega arith
+
+add-o : tie.Need-add-o Inv-loop μ-loop
+add-o c = omega arith
+
+loop-less : tie.Need-loop-less Inv-loop μ-loop
+loop-less c = omega arith
+
+loop-again : tie.Need-loop-again Inv-loop μ-loop
+loop-again c =
+    let l = c .before .before .before in
+    let a = l .before .before .before .before .before .args in
+    let ws = byIndex (a .inputs) (a .input-words .now) (a .node-words .now) in (
+      omega arith,
+      l .loop .inv .1,
+      simp length-set (l .loop .inv .2),
+      swept-next ws (a .output-table .now) (a .results .now) (l .loop .results) (l .loop .o) (c .literal-word .result)
+          (omega arith) (l .loop .inv .3) (c .literal-word .ensures),
+    )
+
+same-length : tie.Need-same-length Inv-loop μ-loop
+same-length c = omega arith
+
+returns : tie.Need-returns Inv-loop μ-loop
+returns c =
+    let l = c .before in
+    let a = l .before .before .before .before .before .args in
+    let e : l .loop .o ≡ a .outputs = omega arith in
+    rw e at (l .loop .inv .3) ∙ swept-front (outWord (byIndex (a .inputs) (a .input-words .now) (a .node-words .now)) (a .output-table .now)) (a .results .now) (a .outputs) (omega arith)
+
+pub fill-results-spec : {M : Type 1} → statement M
+fill-results-spec =
+    tie.close
+    (tie.spec
+    Inv-loop
+    μ-loop
+    loop-holds
+    mul-literal-word
+    shared-slice-read-literal-word
+    literal-word-requires
+    mul-results
+    slice-write-results
+    add-o
+    loop-less
+    loop-again
+    same-length
+    returns)

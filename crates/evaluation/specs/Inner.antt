@@ -1,0 +1,39 @@
+-- What the inner functions say: words by index, of which bit place j has the values under the assignment of place j.
+use mathlib.Core.Path.{_≡_}
+use mathlib.Core.List.{List, [], _∷_, _++_, map}
+use Prim.Native.Nat.{ℕ, _+_, _*_, _<_}
+use lib.ListN.{getD, take}
+use Rattle.graph.specs.Graph.{Graph, graphOf, mark, index}
+use Rattle.graph.specs.Value.{literalValue, values}
+use Rattle.evaluation.specs.Word.{bit, gather}
+use Rattle.evaluation.specs.Evaluation.{assignmentAt}
+
+-- the words by index: the constant's, the inputs' and those of the nodes so far
+unfoldable pub byIndex : ℕ → List ℕ → List ℕ → List ℕ
+byIndex i words nodeWords = 0 ∷ (take i words ++ nodeWords)
+
+-- bit j of each word
+unfoldable pub column : ℕ → List ℕ → List ℕ
+column j ws = map (bit j) ws
+
+-- the word of the literal x, where ws has the word of index i at place i
+unfoldable pub literalWord : List ℕ → ℕ → ℕ
+literalWord ws x = gather (λ j. literalValue (column j ws) x) 64
+
+-- the same of the literal at place o of an output table
+unfoldable pub outWord : List ℕ → List ℕ → ℕ → ℕ
+outWord ws outs o = literalWord ws (getD outs o 0)
+
+-- the graph of a node table alone: a node's value does not look at outputs
+abbrev pub nodesOf : ℕ → ℕ → List ℕ → Graph
+nodesOf i n table = graphOf i n 0 table []
+
+-- the literals of node v name indices below its own; the third word may be the mark
+pub record NodeBelow (i : ℕ) (table : List ℕ) (v : ℕ) : Type 0 where
+  pub first : index (getD table (3 * v) 0) < i + 1 + v
+  pub second : index (getD table (3 * v + 1) 0) < i + 1 + v
+  pub third : (getD table (3 * v + 2) 0 ≡ mark → ⊥) → index (getD table (3 * v + 2) 0) < i + 1 + v
+
+-- nodeWords are the words of the first n nodes: bit place j has the values under the assignment of place j
+abbrev pub NodeWords : Graph → List ℕ → List ℕ → ℕ → Type 0
+NodeWords g words nodeWords n = (j : ℕ) → j < 64 → column j (byIndex (g .I) words nodeWords) ≡ values g (assignmentAt words j) n

@@ -1,0 +1,53 @@
+ghost use mathlib.Core.Path.{_≡_};
+ghost use Rattle.graph.specs.Finite.{first, ifLess};
+ghost use Rattle.graph.specs.Graph.{graphOf};
+ghost use Rattle.evaluation.specs.Evaluation.{evaluateNumber};
+
+// The number that refuses an evaluation, by the lengths of the input words, scratch and results; 0 is none.
+pub fn evaluate_number(
+    inputs: u32,
+    nodes: u32,
+    outputs: u32,
+    node_table: &[u32],
+    output_table: &[u32],
+    words: usize,
+    scratch: usize,
+    results: usize,
+) -> u32
+    ensures { λ r. ⌜ r ≡ evaluateNumber (graphOf inputs nodes outputs (now («node_table» .entry)) (now («output_table» .entry))) words scratch results ⌝ }
+{
+    let limit = graph::checks::limit_number(inputs, nodes, outputs);
+    if limit != 0 {
+        return limit;
+    }
+    let table = graph::checks::table_number(inputs, nodes, outputs, node_table, output_table);
+    if table != 0 {
+        return table;
+    }
+    if words < inputs as usize {
+        return 4;
+    }
+    if results < outputs as usize {
+        return 4;
+    }
+    let literal = graph::checks::literal_number(inputs, nodes, outputs, node_table, output_table);
+    first_fault(literal, scratch_number(nodes, scratch))
+}
+
+fn scratch_number(nodes: u32, scratch: usize) -> u32
+    ensures { λ r. ⌜ r ≡ ifLess scratch nodes 8 0 ⌝ }
+{
+    if scratch < nodes as usize {
+        return 8;
+    }
+    0
+}
+
+fn first_fault(a: u32, b: u32) -> u32
+    ensures { λ r. ⌜ r ≡ first a b ⌝ }
+{
+    if a != 0 {
+        return a;
+    }
+    b
+}

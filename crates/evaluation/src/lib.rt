@@ -1,0 +1,57 @@
+ghost use mathlib.Core.Path.{_≡_};
+ghost use mathlib.Core.List.{[]};
+ghost use lib.ListN.{length};
+ghost use Rattle.graph.specs.Graph.{graphOf};
+ghost use Rattle.graph.specs.Answer.{accepted, unless, ScratchKept};
+ghost use Rattle.evaluation.specs.Evaluation.{evaluateNumber, resultsAfter, evaluatedAnswer};
+
+pub mod checks;
+pub mod results;
+pub mod words;
+
+// What an evaluation answers.
+pub enum Evaluated {
+    Done,
+    Refused(graph::Refusal),
+}
+
+// Fills the first `outputs` words of `results`, each bit place an assignment of its own.
+pub fn evaluate(
+    inputs: u32,
+    nodes: u32,
+    outputs: u32,
+    node_table: &[u32],
+    output_table: &[u32],
+    input_words: &[u64],
+    scratch: &mut [u64],
+    results: &mut [u64],
+) -> Evaluated
+    ensures answer { λ r. ⌜ evaluatedAnswer r ≡ unless (evaluateNumber (graphOf inputs nodes outputs (now («node_table» .entry)) (now («output_table» .entry))) (length (now («input_words» .entry))) (length (now (scratch .entry))) (length (now (results .entry)))) (accepted []) ⌝ }
+    ensures results { λ r. ⌜ now (results .exit) ≡ resultsAfter (graphOf inputs nodes outputs (now («node_table» .entry)) (now («output_table» .entry))) (now («input_words» .entry)) (length (now (scratch .entry))) (now (results .entry)) ⌝ }
+    ensures scratch { λ r. ⌜ ScratchKept (evaluatedAnswer r) (now (scratch .entry)) (now (scratch .exit)) ⌝ }
+{
+    let number = checks::evaluate_number(
+        inputs,
+        nodes,
+        outputs,
+        node_table,
+        output_table,
+        input_words.len(),
+        scratch.len(),
+        results.len(),
+    );
+    if number != 0 {
+        return Evaluated::Refused(graph::checks::refused_by(number));
+    }
+    results::evaluate_words(
+        inputs,
+        nodes,
+        outputs,
+        node_table,
+        output_table,
+        input_words,
+        scratch,
+        results,
+    );
+    Evaluated::Done
+}
