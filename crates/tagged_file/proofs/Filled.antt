@@ -1,0 +1,81 @@
+-- The fill pass: what its loops keep, and what that comes to at the end. From the laws on runs of stores.
+use Prim.Native.Nat.{ℕ, zero, suc, _+_, _*_, _-_, _<_, _≤_}
+use mathlib.Core.Path.{_≡_, refl, _∙_}
+use mathlib.Core.List.{List, _++_}
+use native.Mathlib.Omega.{arith}
+use lib.ListN.{length, drop, set, length-set}
+use lib.Seq.{sets}
+use Rattle.tagged_file.proofs.Stores.{front}
+use Rattle.tagged_file.specs.File.{be4, third, nodeSize, nodeWords, outWords, afterNodes}
+use Rattle.tagged_file.specs.Walk.{NodeRoom, Nodes, Outs}
+
+pub length-nodeWords : (n : ℕ) (s : List ℕ) → length (nodeWords n s) ≡ 3 * n
+length-nodeWords zero s = refl
+length-nodeWords (suc n) s = omega (arith, length-nodeWords n (drop (nodeSize s) s))
+
+pub length-outWords : (n : ℕ) (s : List ℕ) → length (outWords n s) ≡ n
+length-outWords zero s = refl
+length-outWords (suc n) s = omega (arith, length-outWords n (drop 7 s))
+
+pub record NodesLeft (n : ℕ) (bytes t₀ t s : List ℕ) (at left : ℕ) : Type 0 where
+  pub room : Nodes left s
+  pub fits : at + 3 * left ≤ length t
+  pub same : length t ≡ length t₀
+  pub words : sets t at (nodeWords left s) ≡ sets t₀ 0 (nodeWords n bytes)
+  pub after : afterNodes left s ≡ afterNodes n bytes
+
+module _ (n : ℕ) (bytes t₀ t s : List ℕ) (at : ℕ) where
+  pub nodes-left-room : (left : ℕ) → 0 < left → NodesLeft n bytes t₀ t s at left → NodeRoom s
+  nodes-left-room zero h i = absurd (omega arith)
+  nodes-left-room (suc left) h i = i .room .0
+
+  pub nodes-left-more : (left : ℕ) → 0 < left → NodesLeft n bytes t₀ t s at left → (s′ : List ℕ) (x y z : ℕ) → s′ ≡ drop (nodeSize s) s
+      → x ≡ be4 s 3 → y ≡ be4 s 7 → z ≡ third s → NodesLeft n bytes t₀ (set (set (set t at x) (at + 1) y) (at + 2) z) s′ (at + 3) (left - 1)
+  nodes-left-more zero h i s′ x y z es ex ey ez = absurd (omega arith)
+  nodes-left-more (suc left) h i s′ x y z es ex ey ez =
+      let e : suc left - 1 ≡ left = omega arith in
+      let q₁ : at + 1 ≡ suc at = omega arith in
+      let q₂ : at + 2 ≡ suc (suc at) = omega arith in
+      let q₃ : at + 3 ≡ suc (suc (suc at)) = omega arith in
+      let d : length (set (set (set t at x) (at + 1) y) (at + 2) z) ≡ length t = simp length-set in
+      record {
+        room = rw (e, es) (i .room .1);
+        fits = omega (arith, i .fits);
+        same = d ∙ i .same;
+        words = rw (e, es, ex, ey, ez, q₁, q₂, q₃) (i .words);
+        after = rw (e, es) (i .after);
+      }
+
+  pub nodes-left-none : (left : ℕ) → left ≤ 0 → 3 * n ≤ length t₀ → NodesLeft n bytes t₀ t s at left
+      → (s ≡ afterNodes n bytes) × (t ≡ nodeWords n bytes ++ drop (3 * n) t₀)
+  nodes-left-none zero h f i = (i .after, i .words ∙ front (nodeWords n bytes) t₀ (3 * n) (length-nodeWords n bytes) f)
+  nodes-left-none (suc left) h f i = absurd (omega arith)
+
+pub record OutsLeft (n : ℕ) (bytes t₀ t s : List ℕ) (at left : ℕ) : Type 0 where
+  pub room : Outs left s
+  pub fits : at + left ≤ length t
+  pub same : length t ≡ length t₀
+  pub words : sets t at (outWords left s) ≡ sets t₀ 0 (outWords n bytes)
+
+module _ (n : ℕ) (bytes t₀ t s : List ℕ) (at : ℕ) where
+  pub outs-left-room : (left : ℕ) → 0 < left → OutsLeft n bytes t₀ t s at left → 7 ≤ length s
+  outs-left-room zero h i = absurd (omega arith)
+  outs-left-room (suc left) h i = i .room .0
+
+  pub outs-left-more : (left : ℕ) → 0 < left → OutsLeft n bytes t₀ t s at left → (s′ : List ℕ) (x : ℕ) → s′ ≡ drop 7 s → x ≡ be4 s 3
+      → OutsLeft n bytes t₀ (set t at x) s′ (at + 1) (left - 1)
+  outs-left-more zero h i s′ x es ex = absurd (omega arith)
+  outs-left-more (suc left) h i s′ x es ex =
+      let e : suc left - 1 ≡ left = omega arith in
+      let q₁ : at + 1 ≡ suc at = omega arith in
+      let d : length (set t at x) ≡ length t = simp length-set in
+      record {
+        room = rw (e, es) (i .room .1);
+        fits = omega (arith, i .fits);
+        same = d ∙ i .same;
+        words = rw (e, es, ex, q₁) (i .words);
+      }
+
+  pub outs-left-none : (left : ℕ) → left ≤ 0 → n ≤ length t₀ → OutsLeft n bytes t₀ t s at left → t ≡ outWords n bytes ++ drop n t₀
+  outs-left-none zero h f i = i .words ∙ front (outWords n bytes) t₀ n (length-outWords n bytes) f
+  outs-left-none (suc left) h f i = absurd (omega arith)

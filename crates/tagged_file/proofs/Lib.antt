@@ -1,0 +1,9 @@
+pub mod Laws
+pub mod Filled
+pub mod Whole
+pub mod Bounds
+pub mod Tried
+pub mod Emitted
+pub mod Stores
+pub mod FieldBytes
+pub mod WholeWrite

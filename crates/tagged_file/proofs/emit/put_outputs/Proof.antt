@@ -1,0 +1,67 @@
+-- `put_outputs` stores the outputs' fields one after another. From the laws on fields in a row.
+use native.Mathlib.Omega.{arith}
+use mathlib.Core.Path.{refl}
+use Rattle.tagged_file.proofs.Emitted.{Left, left-room, left-more, left-none}
+use Rattle.tagged_file.specs.Write.{outFieldAt}
+use Rattle.tagged_file.proofs.FieldBytes.{length-output-at}
+use Rattle.tagged_file.proofs.emit.put_outputs.Statement.{statement}
+use Rattle.tagged_file.proofs.emit.put_outputs.Tie as tie
+
+abbrev Inv-loop : tie.InvT-loop
+Inv-loop buffer₀ start outputs output-table at₀ v₀ left₀ buffer at v left = Left (outFieldAt output-table) outputs start buffer₀ buffer at v left
+
+abbrev μ-loop : tie.MeasureT-loop
+μ-loop buffer₀ start outputs output-table at₀ v₀ left₀ buffer at v left = left
+
+loop-holds : tie.Need-loop-holds Inv-loop μ-loop
+loop-holds c = record { counted = omega arith; fits = refl; same = refl; bytes = refl }
+
+mul-put-output : tie.Need-mul-put-output Inv-loop μ-loop
+mul-put-output c = omega arith
+
+shared-slice-read-put-output : tie.Need-shared-slice-read-put-output Inv-loop μ-loop
+shared-slice-read-put-output c = omega arith
+
+put-output-requires : tie.Need-put-output-requires Inv-loop μ-loop
+unfolding outFieldAt
+put-output-requires c κs = let l = c .before .before .before .loop in let r = left-room _ _ _ _ (l .buffer) (l .at) (l .v) (l .left) (l .inv) (omega arith) (c .before .before .before .before .before .before .pre .1) in omega (arith, length-output-at (c .before .before .before .before .before .before .args .output-table .now) (l .v))
+
+add-at : tie.Need-add-at Inv-loop μ-loop
+add-at c = let l = c .before .before .before .before .before .before .loop in let r = left-room _ _ _ _ (l .buffer) (l .at) (l .v) (l .left) (l .inv) (omega arith) (c .before .before .before .before .before .before .before .before .before .pre .1) in omega (arith, length-output-at (c .before .before .before .before .before .before .before .before .before .args .output-table .now) (l .v))
+
+add-v : tie.Need-add-v Inv-loop μ-loop
+add-v c = omega arith
+
+sub-left : tie.Need-sub-left Inv-loop μ-loop
+sub-left c = omega arith
+
+loop-less : tie.Need-loop-less Inv-loop μ-loop
+loop-less c = omega arith
+
+loop-again : tie.Need-loop-again Inv-loop μ-loop
+unfolding outFieldAt
+loop-again c = let l = c .before .before .before .before .before .before .loop in left-more _ _ _ _ (l .buffer) (l .at) (l .v) (l .left) (l .inv) (omega arith) _ _ (c .before .before .put-output .ensures) (omega (arith, length-output-at (c .before .before .before .before .before .before .before .before .before .args .output-table .now) (l .v)))
+
+same-length : tie.Need-same-length Inv-loop μ-loop
+same-length c = c .before .loop .inv .same
+
+returns : tie.Need-returns Inv-loop μ-loop
+returns c = let l = c .before .loop in left-none _ _ _ _ (l .buffer) (l .at) (l .v) (l .left) (l .inv) (omega arith)
+
+pub put-outputs-spec : {M : Type 1} → statement M
+put-outputs-spec =
+    tie.close
+    (tie.spec
+    Inv-loop
+    μ-loop
+    loop-holds
+    mul-put-output
+    shared-slice-read-put-output
+    put-output-requires
+    add-at
+    add-v
+    sub-left
+    loop-less
+    loop-again
+    same-length
+    returns)

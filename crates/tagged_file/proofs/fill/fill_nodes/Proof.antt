@@ -1,0 +1,111 @@
+-- `fill_nodes` stores what `nodeWords` says: what is still to be stored, put where it goes, comes to the whole. From the laws of the fill pass.
+use native.Mathlib.Omega.{arith}
+use mathlib.Core.Path.{refl}
+use denote.Ref.{now}
+use lib.ListN.{length-set}
+use Rattle.tagged_file.proofs.Laws.{rest-at}
+use Rattle.tagged_file.specs.File.{nodeSize}
+use Rattle.tagged_file.proofs.Filled.{NodesLeft, nodes-left-room, nodes-left-more, nodes-left-none}
+use Rattle.tagged_file.proofs.fill.fill_nodes.Statement.{statement}
+use Rattle.tagged_file.proofs.fill.fill_nodes.Tie as tie
+
+abbrev Inv-loop : tie.InvT-loop
+Inv-loop bytes n nodes₀ s₀ at₀ left₀ nodes s at left = NodesLeft n bytes nodes₀ nodes s at left
+
+abbrev μ-loop : tie.MeasureT-loop
+μ-loop bytes n nodes₀ s₀ at₀ left₀ nodes s at left = left
+
+loop-holds : tie.Need-loop-holds Inv-loop μ-loop
+loop-holds c = record { room = c .before .before .pre .0; fits = omega arith; same = refl; words = refl; after = refl }
+
+four-requires : tie.Need-four-requires Inv-loop μ-loop
+four-requires c κs = let l = c .before .loop in omega (arith, nodes-left-room _ _ _ (l .node-table) (now (l .s)) (l .at) (l .left) (omega arith) (l .inv))
+
+mul-node-table : tie.Need-mul-node-table Inv-loop μ-loop
+mul-node-table c = omega arith
+
+slice-write-node-table : tie.Need-slice-write-node-table Inv-loop μ-loop
+slice-write-node-table c = omega arith
+
+four-requires-2 : tie.Need-four-requires-2 Inv-loop μ-loop
+four-requires-2 c κs = let l = c .before .before .loop in omega (arith, nodes-left-room _ _ _ (l .node-table) (now (l .s)) (l .at) (l .left) (omega arith) (l .inv))
+
+add-node-table : tie.Need-add-node-table Inv-loop μ-loop
+add-node-table c = omega arith
+
+mul-node-table-2 : tie.Need-mul-node-table-2 Inv-loop μ-loop
+mul-node-table-2 c = omega arith
+
+slice-write-node-table-2 : tie.Need-slice-write-node-table-2 Inv-loop μ-loop
+slice-write-node-table-2 c = simp length-set (omega arith)
+
+third-word-requires : tie.Need-third-word-requires Inv-loop μ-loop
+third-word-requires c κs = let l = c .before .before .before .loop in nodes-left-room _ _ _ (l .node-table) (now (l .s)) (l .at) (l .left) (omega arith) (l .inv)
+
+add-node-table-2 : tie.Need-add-node-table-2 Inv-loop μ-loop
+add-node-table-2 c = omega arith
+
+mul-node-table-3 : tie.Need-mul-node-table-3 Inv-loop μ-loop
+mul-node-table-3 c = omega arith
+
+slice-write-node-table-3 : tie.Need-slice-write-node-table-3 Inv-loop μ-loop
+slice-write-node-table-3 c = simp length-set (omega arith)
+
+node-size-requires : tie.Need-node-size-requires Inv-loop μ-loop
+node-size-requires c κs = let l = c .before .before .before .before .loop in omega (arith, nodes-left-room _ _ _ (l .node-table) (now (l .s)) (l .at) (l .left) (omega arith) (l .inv))
+
+sub-s : tie.Need-sub-s Inv-loop μ-loop
+sub-s c = let l = c .before .before .before .before .before .loop in omega (arith, nodes-left-room _ _ _ (l .node-table) (now (l .s)) (l .at) (l .left) (omega arith) (l .inv))
+
+part-s-start : tie.Need-part-s-start Inv-loop μ-loop
+part-s-start c = let l = c .before .before .before .before .before .loop in omega (arith, nodes-left-room _ _ _ (l .node-table) (now (l .s)) (l .at) (l .left) (omega arith) (l .inv))
+
+part-s-end : tie.Need-part-s-end Inv-loop μ-loop
+part-s-end c = omega arith
+
+add-at : tie.Need-add-at Inv-loop μ-loop
+add-at c = omega arith
+
+sub-left : tie.Need-sub-left Inv-loop μ-loop
+sub-left c = omega arith
+
+loop-less : tie.Need-loop-less Inv-loop μ-loop
+loop-less c = omega arith
+
+loop-again : tie.Need-loop-again Inv-loop μ-loop
+loop-again c = let l = c .before .before .before .before .before .before .loop in nodes-left-more _ _ _ (l .node-table) (now (l .s)) (l .at) (l .left) (omega arith) (l .inv) _ _ _ _ (rest-at (c .before .node-size .result) (nodeSize (now (l .s))) (now (l .s)) (omega arith)) (c .before .before .before .before .four .ensures) (c .before .before .before .four2 .ensures) (c .before .before .third-word .ensures)
+
+same-length : tie.Need-same-length Inv-loop μ-loop
+same-length c = c .before .loop .inv .same
+
+returns : tie.Need-returns Inv-loop μ-loop
+returns c = let l = c .before .loop in nodes-left-none _ _ _ (l .node-table) (now (l .s)) (l .at) (l .left) (omega arith) (c .before .before .before .before .pre .1) (l .inv)
+
+pub fill-nodes-spec : {M : Type 1} → statement M
+fill-nodes-spec =
+    tie.close
+    (tie.spec
+    Inv-loop
+    μ-loop
+    loop-holds
+    four-requires
+    mul-node-table
+    slice-write-node-table
+    four-requires-2
+    add-node-table
+    mul-node-table-2
+    slice-write-node-table-2
+    third-word-requires
+    add-node-table-2
+    mul-node-table-3
+    slice-write-node-table-3
+    node-size-requires
+    sub-s
+    part-s-start
+    part-s-end
+    add-at
+    sub-left
+    loop-less
+    loop-again
+    same-length
+    returns)

@@ -1,0 +1,4 @@
+pub mod File
+pub mod Load
+pub mod Walk
+pub mod Write

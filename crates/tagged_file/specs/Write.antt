@@ -1,0 +1,76 @@
+-- The file of a graph, and what writing answers and leaves in the buffer.
+use Prim.Native.Nat.{ℕ, zero, suc, _+_, _*_, _/_, _%_}
+use mathlib.Core.List.{List, [], _∷_, _++_}
+use lib.ListN.{length, getD, drop}
+use Rattle.graph.specs.Finite.{ifLess, ifEqual, first}
+use Rattle.graph.specs.Graph.{Graph, mark}
+use Rattle.graph.specs.Admission.{admissionNumber}
+use Rattle.graph.specs.Answer.{Answer, accepted, refused, numberOf}
+use Rattle.tagged_file.specs.declared.Written.{Written}
+use Rattle.tagged_file.specs.declared.Written.the-variants as written
+
+-- n as so many bytes, big-endian
+unfoldable pub big : ℕ → ℕ → List ℕ
+big zero n = []
+big (suc width) n = big width (n / 256) ++ (n % 256 ∷ [])
+
+-- a field: a one-byte tag, a two-byte length and a payload
+unfoldable pub fieldOf : ℕ → List ℕ → List ℕ
+fieldOf tag payload = (tag ∷ big 2 (length payload)) ++ payload
+
+unfoldable pub headField : ℕ → ℕ → ℕ → List ℕ
+headField i n o = fieldOf 1 (big 4 i ++ (big 4 n ++ big 4 o))
+
+-- a node of these words: an XOR, where the third is the mark, else a majority
+unfoldable pub nodeField : ℕ → ℕ → ℕ → List ℕ
+nodeField x y z = ifEqual z mark (fieldOf 3 (big 4 x ++ big 4 y)) (fieldOf 2 (big 4 x ++ (big 4 y ++ big 4 z)))
+
+unfoldable pub outField : ℕ → List ℕ
+outField x = fieldOf 4 (big 4 x)
+
+unfoldable pub endField : List ℕ
+endField = fieldOf 5 []
+
+-- node v and output j of the tables
+unfoldable pub nodeFieldAt : List ℕ → ℕ → List ℕ
+nodeFieldAt ns v = nodeField (getD ns (3 * v) 0) (getD ns (3 * v + 1) 0) (getD ns (3 * v + 2) 0)
+
+unfoldable pub outFieldAt : List ℕ → ℕ → List ℕ
+outFieldAt os j = outField (getD os j 0)
+
+-- f v, f (v + 1) and so on, n of them in a row
+abbrev pub run : (ℕ → List ℕ) → ℕ → ℕ → List ℕ
+run f v zero = []
+run f v (suc n) = f v ++ run f (v + 1) n
+
+-- the file: one 01, N fields of 02 or 03, O of 04, one 05, nothing more
+unfoldable pub fileOf : Graph → List ℕ
+fileOf g =
+    headField (g .I) (g .N) (g .O)
+    ++ (run (nodeFieldAt (g .nodes)) 0 (g .N)
+    ++ (run (outFieldAt (g .outs)) 0 (g .O)
+    ++ endField))
+
+-- 3, 4 and 5, then 9 where the buffer has too little room
+unfoldable pub writeNumber : Graph → ℕ → ℕ
+writeNumber g room = first (admissionNumber g) (ifLess room (length (fileOf g)) 9 0)
+
+abbrev pub writtenAnswer : Written → Answer
+writtenAnswer (written.Bytes n) = accepted (n ∷ [])
+writtenAnswer (written.Refused r) = refused (numberOf r)
+
+-- an answer with the buffer as the call leaves it
+pub record WriteOutcome : Type 0 where
+  pub answer : Answer
+  pub buffer : List ℕ
+
+abbrev pub writeOutcome : Answer → List ℕ → WriteOutcome
+writeOutcome a b = record { answer = a; buffer = b }
+
+abbrev pub writeBy : ℕ → List ℕ → List ℕ → WriteOutcome
+writeBy zero file b = writeOutcome (accepted (length file ∷ [])) (file ++ drop (length file) b)
+writeBy (suc k) file b = writeOutcome (refused (suc k)) b
+
+-- writing g into the buffer b: its front is the file, the rest is left; refused, all of it is left
+unfoldable pub writeCall : Graph → List ℕ → WriteOutcome
+writeCall g b = writeBy (writeNumber g (length b)) (fileOf g) b

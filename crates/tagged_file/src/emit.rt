@@ -1,0 +1,136 @@
+// Writing fields at a place of the buffer, from front to back.
+ghost use mathlib.Core.Path.{_≡_};
+ghost use mathlib.Core.List.{[], _∷_, _++_};
+ghost use Prim.Native.Nat.{_+_, _*_, _≤_};
+ghost use lib.ListN.{length};
+ghost use lib.Seq.{sets};
+ghost use Rattle.graph.specs.Graph.{graphOf};
+ghost use Rattle.tagged_file.specs.Write.{big, fieldOf, nodeField, outField, nodeFieldAt, outFieldAt, run, fileOf};
+
+const MARK: u32 = 4294967295;
+
+pub fn put_number(buffer: &mut [u8], at: usize, number: u32)
+    requires { ⌜ at + 4 ≤ length (now buffer) ⌝ }
+    ensures { λ _. ⌜ now (buffer .exit) ≡ sets (now (buffer .entry)) at (big 4 number) ⌝ }
+{
+    buffer[at] = (number / 256 / 256 / 256 % 256) as u8;
+    buffer[at + 1] = (number / 256 / 256 % 256) as u8;
+    buffer[at + 2] = (number / 256 % 256) as u8;
+    buffer[at + 3] = (number % 256) as u8;
+}
+
+// A tag, and a payload's length below 256.
+pub fn put_head(buffer: &mut [u8], at: usize, tag: u8, size: u8)
+    requires { ⌜ at + 3 ≤ length (now buffer) ⌝ }
+    ensures { λ _. ⌜ now (buffer .exit) ≡ sets (now (buffer .entry)) at (tag ∷ 0 ∷ size ∷ []) ⌝ }
+{
+    buffer[at] = tag;
+    buffer[at + 1] = 0;
+    buffer[at + 2] = size;
+}
+
+// A field of three numbers.
+pub fn put_three(buffer: &mut [u8], at: usize, tag: u8, x: u32, y: u32, z: u32)
+    requires { ⌜ at + 15 ≤ length (now buffer) ⌝ }
+    ensures { λ _. ⌜ now (buffer .exit) ≡ sets (now (buffer .entry)) at (fieldOf tag (big 4 x ++ (big 4 y ++ big 4 z))) ⌝ }
+{
+    put_head(buffer, at, tag, 12);
+    put_number(buffer, at + 3, x);
+    put_number(buffer, at + 7, y);
+    put_number(buffer, at + 11, z);
+}
+
+pub fn put_xor(buffer: &mut [u8], at: usize, x: u32, y: u32)
+    requires { ⌜ at + 11 ≤ length (now buffer) ⌝ }
+    ensures { λ _. ⌜ now (buffer .exit) ≡ sets (now (buffer .entry)) at (fieldOf 3 (big 4 x ++ big 4 y)) ⌝ }
+{
+    put_head(buffer, at, 3, 8);
+    put_number(buffer, at + 3, x);
+    put_number(buffer, at + 7, y);
+}
+
+pub fn put_output(buffer: &mut [u8], at: usize, x: u32)
+    requires { ⌜ at + 7 ≤ length (now buffer) ⌝ }
+    ensures { λ _. ⌜ now (buffer .exit) ≡ sets (now (buffer .entry)) at (outField x) ⌝ }
+{
+    put_head(buffer, at, 4, 4);
+    put_number(buffer, at + 3, x);
+}
+
+// Returns the place after the field.
+pub fn put_node(buffer: &mut [u8], at: usize, x: u32, y: u32, z: u32) -> usize
+    requires { ⌜ at + length (nodeField x y z) ≤ length (now buffer) ⌝ }
+    ensures { λ r. ⌜ r ≡ at + length (nodeField x y z) ⌝ }
+    ensures { λ _. ⌜ now (buffer .exit) ≡ sets (now (buffer .entry)) at (nodeField x y z) ⌝ }
+{
+    if z == MARK {
+        put_xor(buffer, at, x, y);
+        return at + 11;
+    }
+    put_three(buffer, at, 2, x, y, z);
+    at + 15
+}
+
+pub fn put_nodes(buffer: &mut [u8], start: usize, nodes: u32, node_table: &[u32]) -> usize
+    requires { ⌜ 3 * nodes ≤ length (now «node_table») ⌝ }
+    requires { ⌜ start + length (run (nodeFieldAt (now «node_table»)) 0 nodes) ≤ length (now buffer) ⌝ }
+    ensures { λ r. ⌜ r ≡ start + length (run (nodeFieldAt (now («node_table» .entry))) 0 nodes) ⌝ }
+    ensures { λ _. ⌜ now (buffer .exit) ≡ sets (now (buffer .entry)) start (run (nodeFieldAt (now («node_table» .entry))) 0 nodes) ⌝ }
+{
+    let mut at = start;
+    let mut v = 0;
+    let mut left = nodes;
+    while 0 < left {
+        let word = 3 * v;
+        at = put_node(
+            buffer,
+            at,
+            node_table[word],
+            node_table[word + 1],
+            node_table[word + 2],
+        );
+        v += 1;
+        left -= 1;
+    }
+    at
+}
+
+pub fn put_outputs(buffer: &mut [u8], start: usize, outputs: u32, output_table: &[u32]) -> usize
+    requires { ⌜ outputs ≤ length (now «output_table») ⌝ }
+    requires { ⌜ start + length (run (outFieldAt (now «output_table»)) 0 outputs) ≤ length (now buffer) ⌝ }
+    ensures { λ r. ⌜ r ≡ start + length (run (outFieldAt (now («output_table» .entry))) 0 outputs) ⌝ }
+    ensures { λ _. ⌜ now (buffer .exit) ≡ sets (now (buffer .entry)) start (run (outFieldAt (now («output_table» .entry))) 0 outputs) ⌝ }
+{
+    let mut at = start;
+    let mut v = 0;
+    let mut left = outputs;
+    while 0 < left {
+        put_output(buffer, at, output_table[v]);
+        at += 7;
+        v += 1;
+        left -= 1;
+    }
+    at
+}
+
+// The whole file, from the front; returns its length.
+pub fn put_file(
+    inputs: u32,
+    nodes: u32,
+    outputs: u32,
+    node_table: &[u32],
+    output_table: &[u32],
+    buffer: &mut [u8],
+) -> usize
+    requires { ⌜ 3 * nodes ≤ length (now «node_table») ⌝ }
+    requires { ⌜ outputs ≤ length (now «output_table») ⌝ }
+    requires { ⌜ length (fileOf (graphOf inputs nodes outputs (now «node_table») (now «output_table»))) ≤ length (now buffer) ⌝ }
+    ensures { λ r. ⌜ r ≡ length (fileOf (graphOf inputs nodes outputs (now («node_table» .entry)) (now («output_table» .entry)))) ⌝ }
+    ensures { λ _. ⌜ now (buffer .exit) ≡ sets (now (buffer .entry)) 0 (fileOf (graphOf inputs nodes outputs (now («node_table» .entry)) (now («output_table» .entry)))) ⌝ }
+{
+    put_three(buffer, 0, 1, inputs, nodes, outputs);
+    let middle = put_nodes(buffer, 15, nodes, node_table);
+    let end = put_outputs(buffer, middle, outputs, output_table);
+    put_head(buffer, end, 5, 0);
+    end + 3
+}

@@ -1,0 +1,46 @@
+// The fill pass, over a file that the check pass accepts.
+ghost use mathlib.Core.Path.{_≡_};
+ghost use mathlib.Core.List.{_++_};
+ghost use Prim.Native.Nat.{_*_, _≤_};
+ghost use lib.ListN.{length, drop};
+ghost use Rattle.tagged_file.specs.File.{nodeWords, outWords, afterNodes};
+ghost use Rattle.tagged_file.specs.Walk.{Nodes, Outs};
+use crate::bytes;
+use crate::fields;
+
+pub fn fill_nodes<'a>(rest: &'a [u8], nodes: u32, node_table: &mut [u32]) -> &'a [u8]
+    requires { ⌜ Nodes nodes (now rest) ⌝ }
+    requires { ⌜ 3 * nodes ≤ length (now «node_table») ⌝ }
+    ensures { λ r. ⌜ now r ≡ afterNodes nodes (now (rest .entry)) ⌝ }
+    ensures { λ r. ⌜ now («node_table» .exit) ≡ nodeWords nodes (now (rest .entry)) ++ drop (3 * nodes) (now («node_table» .entry)) ⌝ }
+{
+    let mut s = rest;
+    let mut at = 0;
+    let mut left = nodes;
+    while 0 < left {
+        node_table[at] = bytes::four(s, 3);
+        node_table[at + 1] = bytes::four(s, 7);
+        node_table[at + 2] = fields::third_word(s);
+        let size = fields::node_size(s);
+        s = &s[size..];
+        at += 3;
+        left -= 1;
+    }
+    s
+}
+
+pub fn fill_outputs(rest: &[u8], outputs: u32, output_table: &mut [u32])
+    requires { ⌜ Outs outputs (now rest) ⌝ }
+    requires { ⌜ outputs ≤ length (now «output_table») ⌝ }
+    ensures { λ _. ⌜ now («output_table» .exit) ≡ outWords outputs (now (rest .entry)) ++ drop outputs (now («output_table» .entry)) ⌝ }
+{
+    let mut s = rest;
+    let mut at = 0;
+    let mut left = outputs;
+    while 0 < left {
+        output_table[at] = bytes::four(s, 3);
+        s = &s[7..];
+        at += 1;
+        left -= 1;
+    }
+}

@@ -1,0 +1,93 @@
+// The tagged file: one field of it, loading a graph from it, writing a graph as one.
+ghost use mathlib.Core.Path.{_≡_};
+ghost use Rattle.graph.specs.Graph.{graphOf};
+ghost use Rattle.graph.specs.Answer.{outcome};
+ghost use Rattle.tagged_file.specs.File.{fieldNumber, fieldPayload};
+ghost use Rattle.tagged_file.specs.Load.{loadedAnswer, loadedGraph, loadCall};
+ghost use Rattle.tagged_file.specs.Write.{writtenAnswer, writeOutcome, writeCall};
+
+pub mod bytes;
+pub mod checks;
+pub mod emit;
+pub mod fields;
+pub mod fill;
+pub mod sizes;
+
+// What loading answers.
+pub enum Loaded {
+    Graph {
+        inputs: u32,
+        nodes: u32,
+        outputs: u32,
+    },
+    Refused(graph::Refusal),
+}
+
+// What writing answers: how many bytes the file has.
+pub enum Written {
+    Bytes(usize),
+    Refused(graph::Refusal),
+}
+
+// The number that refuses the field at the front, 0 where it is accepted.
+pub fn field_number(bytes: &[u8]) -> u32
+    ensures { λ r. ⌜ r ≡ fieldNumber (now (bytes .entry)) ⌝ }
+{
+    fields::due(bytes, 1, 5)
+}
+
+// The payload of the field at the front, empty where it is refused.
+pub fn field(bytes: &[u8]) -> &[u8]
+    ensures { λ r. ⌜ now r ≡ fieldPayload (now (bytes .entry)) ⌝ }
+{
+    if fields::due(bytes, 1, 5) != 0 {
+        return &bytes[..0];
+    }
+    let n = bytes::two(bytes, 1) as usize;
+    &bytes[3..3 + n]
+}
+
+// The first pass checks the whole file, the second fills the tables: a refusal has changed nothing.
+pub fn load(file: &[u8], node_table: &mut [u32], output_table: &mut [u32]) -> Loaded
+    ensures { λ r. ⌜ outcome (loadedAnswer r) (loadedGraph r (now («node_table» .exit)) (now («output_table» .exit))) ≡ loadCall (now (file .entry)) (now («node_table» .entry)) (now («output_table» .entry)) ⌝ }
+{
+    let refusal = checks::file_number(file, node_table.len(), output_table.len());
+    if refusal != 0 {
+        return Loaded::Refused(graph::checks::refused_by(refusal));
+    }
+    let inputs = bytes::four(file, 3);
+    let nodes = bytes::four(file, 7);
+    let outputs = bytes::four(file, 11);
+    let rest = fill::fill_nodes(&file[15..], nodes, node_table);
+    fill::fill_outputs(rest, outputs, output_table);
+    Loaded::Graph {
+        inputs,
+        nodes,
+        outputs,
+    }
+}
+
+// The length is known before the first byte is written: a refusal has changed nothing.
+pub fn write(
+    inputs: u32,
+    nodes: u32,
+    outputs: u32,
+    node_table: &[u32],
+    output_table: &[u32],
+    buffer: &mut [u8],
+) -> Written
+    ensures { λ r. ⌜ writeOutcome (writtenAnswer r) (now (buffer .exit)) ≡ writeCall (graphOf inputs nodes outputs (now («node_table» .entry)) (now («output_table» .entry))) (now (buffer .entry)) ⌝ }
+{
+    let refusal = sizes::write_number(
+        inputs,
+        nodes,
+        outputs,
+        node_table,
+        output_table,
+        buffer.len(),
+    );
+    if refusal != 0 {
+        return Written::Refused(graph::checks::refused_by(refusal));
+    }
+    Written::Bytes(emit::put_file(inputs, nodes, outputs, node_table, output_table, buffer))
+}
