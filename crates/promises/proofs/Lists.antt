@@ -4,6 +4,8 @@ use mathlib.Core.List.{List, [], _∷_, _++_}
 use Prim.Native.Nat.{ℕ, _+_}
 use Rattle.graph.specs.Graph.{Graph}
 use Rattle.graph.specs.Admission.{Admitted}
+use Rattle.tagged_file.specs.Load.{loadCall}
+use Rattle.tagged_file.proofs.RoundTrip.{Accepts, load-admitted}
 use Rattle.moves.proofs.Kept.{Kept, kept-none, kept-then}
 use Rattle.promises.specs.Demand.{Call, step, run, reported, savings, Demand}
 use Rattle.promises.proofs.Calls.{call-made, call-kept}
@@ -24,3 +26,7 @@ demand g adm calls =
       outputs = k .outputs;
       count = k .count;
     }
+
+-- after an accepted load of the file s into the tables ns and os
+pub after-load : (s ns os : List ℕ) → Accepts s ns os → (calls : List Call) → Demand (loadCall s ns os .graph) calls
+after-load s ns os e calls = demand (loadCall s ns os .graph) (load-admitted s ns os e) calls

@@ -6,12 +6,16 @@ use lib.ListN.{length}
 use lib.Seq.{sets}
 use Rattle.graph.specs.Graph.{mark}
 use Rattle.graph.proofs.Tests.{equal, unequal}
-use Rattle.tagged_file.specs.Write.{big, fieldOf, nodeField, outField, outFieldAt}
+use Rattle.tagged_file.specs.Write.{big, fieldOf, nodeField, outField, outFieldAt, endField}
 use Rattle.tagged_file.proofs.Stores.{then}
 
 pub length-big : (x : ℕ) → length (big 4 x) ≡ 4
 unfolding big
 length-big x = refl
+
+pub end-is : endField ≡ 5 ∷ 0 ∷ 0 ∷ []
+unfolding endField fieldOf big
+end-is = refl
 
 -- a node's field is that of an XOR or that of a majority
 pub node-xor : (x y z : ℕ) → z ≡ mark → fieldOf 3 (big 4 x ++ big 4 y) ≡ nodeField x y z

@@ -1,12 +1,15 @@
--- The definitions of loading, computed on document 01's first file and on the edges of the limits.
+-- The definitions of fields, loading and writing, computed on document 01's first file and on the edges of the limits.
 use Prim.Native.Nat.{ℕ}
 use mathlib.Core.Path.{_≡_, refl}
 use mathlib.Core.List.{List, [], _∷_, _++_}
 use lib.ListN.{length, take}
-use Rattle.graph.specs.Finite.{ifLess, ifEqual, first}
-use Rattle.graph.specs.Graph.{graphOf}
+use Rattle.graph.specs.Finite.{ifLess, ifEqual, first, firstOf}
+use Rattle.graph.specs.Graph.{graphOf, mark, isEdge}
+use Rattle.graph.specs.Admission.{limitNumber, tableNumber, wordNumber, literalNumber, admissionNumber}
+use Rattle.graph.specs.Admission as admission
 use Rattle.graph.specs.Answer.{accepted, outcome, guarded}
-use Rattle.tagged_file.specs.File.{be2, be4, payloadOf, dueNumber, nodeSize, third, headNumber, nodeNumber, outNumber, endNumber, fileNumber}
+use Rattle.tagged_file.specs.File.{be2, be4, payloadOf, dueNumber, fieldNumber, fieldPayload, nodeSize, third, headNumber, nodeNumber, outNumber, endNumber, fileNumber}
+use Rattle.tagged_file.specs.Write.{big, fieldOf, headField, nodeField, outField, endField, nodeFieldAt, outFieldAt, fileOf, writeNumber}
 use Rattle.tagged_file.specs.Load.{graphRead, loadCall}
 
 -- field 01 of a file with I = 3 and O = 1, and so many nodes
@@ -61,3 +64,26 @@ Agrees (r ∷ rs) = (fileNumber (r .file) (r .nodeRoom) (r .outRoom) ≡ r .numb
 agree : Agrees rows
 unfolding rows ifLess ifEqual first be2 be4 payloadOf dueNumber nodeSize third headNumber nodeNumber outNumber endNumber fileNumber
 agree = (refl, (refl, (refl, (refl, (refl, (refl, (refl, (refl, (refl, (refl, (refl, tt)))))))))))
+
+-- the file of P1's graph is P1's file; that of P5's graph, whose node is an XOR, has 36 bytes
+p1-written : fileOf (graphOf 3 1 1 (3 ∷ 5 ∷ 7 ∷ 6 ∷ []) (9 ∷ 8 ∷ [])) ≡ p1
+unfolding ifEqual big fieldOf headField nodeField outField endField nodeFieldAt outFieldAt fileOf
+p1-written = refl
+
+p5-written : fileOf (graphOf 2 1 1 (3 ∷ 5 ∷ mark ∷ []) (6 ∷ []))
+    ≡ 1 ∷ 0 ∷ 12 ∷ 0 ∷ 0 ∷ 0 ∷ 2 ∷ 0 ∷ 0 ∷ 0 ∷ 1 ∷ 0 ∷ 0 ∷ 0 ∷ 1 ∷ 3 ∷ 0 ∷ 8 ∷ 0 ∷ 0 ∷ 0 ∷ 3 ∷ 0 ∷ 0 ∷ 0 ∷ 5 ∷ 4 ∷ 0 ∷ 4 ∷ 0 ∷ 0 ∷ 0 ∷ 6 ∷ 5 ∷ 0 ∷ 0 ∷ []
+unfolding ifEqual big fieldOf headField nodeField outField endField nodeFieldAt outFieldAt fileOf
+p5-written = refl
+
+-- a buffer of 39 bytes is too short for P1's file, one of 40 is not; a graph that is not admitted is refused first
+fits : (writeNumber (graphOf 3 1 1 (3 ∷ 5 ∷ 7 ∷ []) (9 ∷ [])) 39 ≡ 9) × (writeNumber (graphOf 3 1 1 (3 ∷ 5 ∷ 7 ∷ []) (9 ∷ [])) 40 ≡ 0)
+    × (writeNumber (graphOf 3 1 1 (3 ∷ 5 ∷ 8 ∷ []) (9 ∷ [])) 39 ≡ 5)
+unfolding ifLess ifEqual first firstOf isEdge limitNumber tableNumber wordNumber admission.outNumber literalNumber admissionNumber big fieldOf headField nodeField outField endField nodeFieldAt outFieldAt fileOf writeNumber
+fits = (refl, refl, refl)
+
+-- one field: field 05 has an empty payload and is accepted; a cut head, an unknown tag, a wrong length and a cut payload are not
+field-rows : (fieldNumber (5 ∷ 0 ∷ 0 ∷ 9 ∷ []) ≡ 0) × (fieldPayload (5 ∷ 0 ∷ 0 ∷ 9 ∷ []) ≡ []) × (fieldNumber (5 ∷ 0 ∷ []) ≡ 1) × (fieldNumber (6 ∷ 0 ∷ 0 ∷ []) ≡ 2)
+    × (fieldNumber (4 ∷ 0 ∷ 5 ∷ 1 ∷ 2 ∷ 3 ∷ 4 ∷ 5 ∷ []) ≡ 2) × (fieldNumber (4 ∷ 0 ∷ 4 ∷ 1 ∷ 2 ∷ 3 ∷ []) ≡ 1)
+    × (fieldPayload (4 ∷ 0 ∷ 4 ∷ 1 ∷ 2 ∷ 3 ∷ 4 ∷ 5 ∷ []) ≡ 1 ∷ 2 ∷ 3 ∷ 4 ∷ [])
+unfolding ifLess ifEqual be2 payloadOf dueNumber fieldPayload
+field-rows = (refl, refl, refl, refl, refl, refl, refl)

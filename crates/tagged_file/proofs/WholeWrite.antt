@@ -12,7 +12,7 @@ use Rattle.graph.proofs.Tests.{both, off}
 use Rattle.graph.proofs.Answers.{ifLess-le, first-le, admission-le}
 use Rattle.tagged_file.specs.Write.{big, fieldOf, headField, endField, nodeFieldAt, outFieldAt, run, fileOf, writeNumber, writeOutcome, writeBy, writeCall}
 use Rattle.tagged_file.proofs.Stores.{front, then}
-use Rattle.tagged_file.proofs.FieldBytes.{length-output-at}
+use Rattle.tagged_file.proofs.FieldBytes.{length-output-at, end-is}
 use Rattle.tagged_file.proofs.Emitted.{run-step}
 
 pub length-outputs : (os : List ℕ) (v n : ℕ) → length (run (outFieldAt os) v n) ≡ 7 * n
@@ -56,10 +56,6 @@ size-none f n size v (suc left) h e = absurd (omega arith)
 head-is : (i n o : ℕ) → headField i n o ≡ fieldOf 1 (big 4 i ++ (big 4 n ++ big 4 o))
 unfolding headField
 head-is i n o = refl
-
-end-is : endField ≡ 5 ∷ 0 ∷ 0 ∷ []
-unfolding endField fieldOf big
-end-is = refl
 
 in-a-row : (g : Graph) → ((headField (g .I) (g .N) (g .O) ++ run (nodeFieldAt (g .nodes)) 0 (g .N)) ++ run (outFieldAt (g .outs)) 0 (g .O)) ++ endField ≡ fileOf g
 unfolding fileOf

@@ -6,8 +6,7 @@ ghost use lib.ListN.{length};
 ghost use lib.Seq.{sets};
 ghost use Rattle.graph.specs.Graph.{graphOf};
 ghost use Rattle.tagged_file.specs.Write.{big, fieldOf, nodeField, outField, nodeFieldAt, outFieldAt, run, fileOf};
-
-const MARK: u32 = 4294967295;
+use graph::literal::MARK;
 
 pub fn put_number(buffer: &mut [u8], at: usize, number: u32)
     requires { ⌜ at + 4 ≤ length (now buffer) ⌝ }

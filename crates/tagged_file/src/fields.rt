@@ -5,6 +5,7 @@ ghost use lib.ListN.{length};
 ghost use Rattle.tagged_file.specs.File.{payloadOf, dueNumber, nodeSize, third};
 ghost use Rattle.tagged_file.specs.Walk.{NodeRoom};
 use crate::bytes;
+use graph::literal::MARK;
 
 // The length of a tag's payload.
 pub fn payload(tag: u8) -> u32
@@ -57,7 +58,7 @@ pub fn third_word(s: &[u8]) -> u32
 {
     let tag = s[0];
     if tag == 3 {
-        return 4294967295;
+        return MARK;
     }
     bytes::four(s, 11)
 }

@@ -78,7 +78,7 @@ pub fn write(
 ) -> Written
     ensures { λ r. ⌜ writeOutcome (writtenAnswer r) (now (buffer .exit)) ≡ writeCall (graphOf inputs nodes outputs (now («node_table» .entry)) (now («output_table» .entry))) (now (buffer .entry)) ⌝ }
 {
-    let refusal = sizes::write_number(
+    let number = sizes::write_number(
         inputs,
         nodes,
         outputs,
@@ -86,8 +86,8 @@ pub fn write(
         output_table,
         buffer.len(),
     );
-    if refusal != 0 {
-        return Written::Refused(graph::checks::refused_by(refusal));
+    if number != 0 {
+        return Written::Refused(graph::checks::refused_by(number));
     }
     Written::Bytes(emit::put_file(inputs, nodes, outputs, node_table, output_table, buffer))
 }

@@ -5,8 +5,7 @@ ghost use Prim.Native.Nat.{ℕ, _*_, _≤_};
 ghost use lib.ListN.{length};
 ghost use Rattle.graph.specs.Graph.{graphOf};
 ghost use Rattle.tagged_file.specs.Write.{nodeField, nodeFieldAt, run, fileOf, writeNumber};
-
-const MARK: u32 = 4294967295;
+use graph::literal::MARK;
 
 // The field of a node that has this third word.
 pub fn node_bytes(z: u32) -> usize

@@ -1,7 +1,7 @@
 -- `file_number` is the fault of field 01, or that of the fields after it. From what an accepted field 01 has.
 use native.Mathlib.Omega.{arith}
 use denote.Ref.{now}
-use Rattle.tagged_file.proofs.Laws.{head-passed, rest}
+use Rattle.tagged_file.proofs.Checked.{head-passed, rest}
 use Rattle.graph.proofs.Tests.{fault, none}
 use Rattle.tagged_file.specs.File.{fileNumber}
 use borrow.Author.Needs.{needs}

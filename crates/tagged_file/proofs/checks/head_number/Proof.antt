@@ -1,7 +1,7 @@
 -- `head_number` tests what `headNumber` does, in its order. From the laws on tests.
 use native.Mathlib.Omega.{arith}
 use Rattle.tagged_file.specs.File.{headNumber}
-use Rattle.tagged_file.proofs.Laws.{head-room}
+use Rattle.tagged_file.proofs.Checked.{head-room}
 use Rattle.graph.proofs.Tests.{less, no-less, fault, none}
 use mathlib.Core.Path.{refl}
 use denote.Ref.{now}

@@ -1,7 +1,7 @@
 -- `node_number` tests what `nodeNumber` does, in its order. From the laws on tests.
 use native.Mathlib.Omega.{arith}
 use Rattle.tagged_file.specs.File.{nodeNumber}
-use Rattle.tagged_file.proofs.Laws.{node-room}
+use Rattle.tagged_file.proofs.Checked.{node-room}
 use Rattle.graph.proofs.Tests.{less, no-less, equal, unequal, fault, none}
 use mathlib.Core.Path.{refl}
 use denote.Ref.{now}

@@ -1,5 +1,5 @@
 -- `nodes_number` walks as `nodesNumber` does: the walk over what is left comes to the whole. From the steps of the walk.
-use Rattle.tagged_file.proofs.Laws.{rest-at, node-passed, nodes-done, nodes-step}
+use Rattle.tagged_file.proofs.Checked.{rest-at, node-passed, nodes-done, nodes-step}
 use Rattle.graph.proofs.Tests.{stops, goes}
 use mathlib.Core.Path.{_≡_, refl, sym, _∙_}
 use borrow.Author.Needs.{needs}

@@ -1,7 +1,7 @@
 -- `output_number` tests what `outNumber` does, in its order. From the laws on tests.
 use native.Mathlib.Omega.{arith}
 use Rattle.tagged_file.specs.File.{outNumber}
-use Rattle.tagged_file.proofs.Laws.{out-room}
+use Rattle.tagged_file.proofs.Checked.{out-room}
 use Rattle.graph.proofs.Tests.{less, no-less, fault, none}
 use mathlib.Core.Path.{refl}
 use denote.Ref.{now}

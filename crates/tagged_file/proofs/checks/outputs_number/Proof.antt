@@ -1,11 +1,11 @@
 -- `outputs_number` walks as `outsNumber` does. From the steps of the walk.
-use Rattle.tagged_file.proofs.Laws.{rest, out-passed, outs-done}
+use Rattle.tagged_file.proofs.Checked.{rest, out-passed, outs-done}
 use Rattle.graph.proofs.Tests.{stops, goes}
 use mathlib.Core.Path.{_∙_}
 use borrow.Author.Needs.{needs}
 use native.Mathlib.Omega.{arith}
 use Rattle.tagged_file.specs.File.{outsNumber}
-use Rattle.tagged_file.proofs.Laws.{outs-step}
+use Rattle.tagged_file.proofs.Checked.{outs-step}
 use mathlib.Core.Path.{_≡_, refl, sym}
 use denote.Ref.{now}
 use Rattle.tagged_file.proofs.checks.outputs_number.Statement.{statement}

@@ -1,12 +1,11 @@
--- What the tests of the code say of the definitions, and back.
+-- What a field has that is accepted, and one step of each walk. From the laws on tests.
 use Prim.Native.Nat.{ℕ, zero, suc, _+_, _*_, _-_, _<_, _≤_}
 use mathlib.Core.Path.{_≡_, refl, sym, ap, _∙_}
 use mathlib.Core.List.{List}
 use native.Mathlib.Omega.{arith}
 use native.Mathlib.Nat.{eq-or-lt-of-le}
 use mathlib.Core.Logic.{⊎-elim}
-use lib.ListN.{length, getD, take, drop}
-use lib.ListN.{length-drop}
+use lib.ListN.{length, getD, take, drop, length-drop}
 use lib.Seq.{take-all}
 use Rattle.graph.proofs.Tests.{off, is, both}
 use Rattle.tagged_file.specs.Walk.{NodeRoom}
@@ -52,7 +51,7 @@ pub rest-at : (k m : ℕ) (s : List ℕ) → k ≡ m → take (length s - k) (dr
 rest-at k m s e = rest k s ∙ ap (λ (j : ℕ). drop j s) e
 
 -- how much an accepted field of each kind has
-size-at : (t k n : ℕ) → payloadOf k ≡ n → t ≡ k → payloadOf t ≡ n
+pub size-at : (t k n : ℕ) → payloadOf k ≡ n → t ≡ k → payloadOf t ≡ n
 size-at t k n e q = ap payloadOf q ∙ e
 
 pub head-room : (s : List ℕ) → dueNumber 1 1 s ≡ 0 → 15 ≤ length s
