@@ -1,0 +1,46 @@
+//! Lists of calls, made one after the other on one graph.
+
+use crate::graph::{Graph, Number};
+use crate::moves::{node_call, pair_call, tree_call_by};
+use crate::settling::{settle, Settled, MOST_TRIED};
+use crate::trees::best_within;
+
+#[derive(Clone, Copy, Debug, PartialEq, Eq)]
+pub enum Call {
+    Node(u32),
+    Pair(u32, u32),
+    Tree(u32),
+    Settle,
+}
+
+#[derive(Clone, Copy, Debug, PartialEq, Eq)]
+pub enum Answer {
+    Saving(u32),
+    Settled(Settled),
+    Refused(Number),
+}
+
+fn saving(result: Result<u32, Number>) -> Answer {
+    match result {
+        Ok(saved) => Answer::Saving(saved),
+        Err(number) => Answer::Refused(number),
+    }
+}
+
+pub fn step(g: &mut Graph, call: Call, scratch: usize) -> Answer {
+    let find = |g: &Graph, nodes: &[u32]| best_within(MOST_TRIED, g, nodes);
+    match call {
+        Call::Node(node) => saving(node_call(g, node)),
+        Call::Pair(node, word) => saving(pair_call(g, node, word)),
+        Call::Tree(root) => saving(tree_call_by(g, root, scratch, &find)),
+        Call::Settle => match settle(g, scratch) {
+            Ok(settled) => Answer::Settled(settled),
+            Err(number) => Answer::Refused(number),
+        },
+    }
+}
+
+/// The answers, a refused call leaving the graph to the next one as it was.
+pub fn run(g: &mut Graph, calls: &[Call], scratch: usize) -> Vec<Answer> {
+    calls.iter().map(|&call| step(g, call, scratch)).collect()
+}

@@ -1,0 +1,153 @@
+//! Graphs to try, of several shapes.
+
+use crate::graph::{Graph, MARK};
+use crate::random::Random;
+
+#[derive(Clone, Copy, Debug, PartialEq, Eq)]
+pub enum Shape {
+    /// Words among all indices below.
+    Random,
+    /// Words among nodes that nothing reads yet, so that trees grow large.
+    Tree,
+    /// Each node reads the one before it.
+    Chain,
+    /// Mostly XOR.
+    Xor,
+    /// The constant in every place, often.
+    Constants,
+    /// One node read two or three times by another.
+    Repeats,
+    /// Nodes read by outputs alone, by several outputs often.
+    OutputRoots,
+    /// Few words name nodes, so most nodes are unread.
+    Unread,
+}
+
+pub const SHAPES: [Shape; 8] = [
+    Shape::Random,
+    Shape::Tree,
+    Shape::Chain,
+    Shape::Xor,
+    Shape::Constants,
+    Shape::Repeats,
+    Shape::OutputRoots,
+    Shape::Unread,
+];
+
+/// Takes a node that nothing reads yet, mostly an early one, if there is any.
+fn take_unread(random: &mut Random, unread: &mut Vec<u32>) -> Option<u32> {
+    if unread.is_empty() {
+        return None;
+    }
+    let span = (unread.len() as u32).min(4);
+    Some(unread.remove(random.below(span) as usize))
+}
+
+fn pick(random: &mut Random, shape: Shape, inputs: u32, node: u32, unread: &mut Vec<u32>) -> u32 {
+    let any = random.below(node);
+    let low = random.below(inputs + 1);
+    match shape {
+        Shape::Random | Shape::Xor => any,
+        Shape::Tree => {
+            if random.one_in(2) {
+                low
+            } else {
+                take_unread(random, unread).unwrap_or(low)
+            }
+        }
+        Shape::Chain => {
+            if random.one_in(2) {
+                node - 1
+            } else {
+                low
+            }
+        }
+        Shape::Constants => {
+            if random.one_in(2) {
+                0
+            } else {
+                any
+            }
+        }
+        Shape::Repeats => any,
+        Shape::OutputRoots | Shape::Unread => {
+            if random.one_in(6) {
+                any
+            } else {
+                low
+            }
+        }
+    }
+}
+
+fn node_words(random: &mut Random, shape: Shape, inputs: u32, node: u32, unread: &mut Vec<u32>) -> [u32; 3] {
+    let xor = match shape {
+        Shape::Xor => !random.one_in(6),
+        Shape::Chain => random.one_in(4),
+        _ => random.one_in(3),
+    };
+    let mut indices = [0u32; 3];
+    for index in indices.iter_mut().take(if xor { 2 } else { 3 }) {
+        *index = pick(random, shape, inputs, node, unread);
+    }
+    if shape == Shape::Chain && node > inputs + 1 {
+        indices[random.below(2) as usize] = node - 1;
+    }
+    if shape == Shape::Repeats {
+        match random.below(4) {
+            0 => indices[1] = indices[0],
+            1 => indices[2] = indices[0],
+            2 => indices = [indices[0]; 3],
+            _ => {}
+        }
+    }
+    let mut words = [0u32; 3];
+    for (word, index) in words.iter_mut().zip(indices) {
+        *word = 2 * index + random.bit();
+    }
+    if xor {
+        words[2] = MARK;
+    }
+    words
+}
+
+/// An admitted graph, its tables of just the right length.
+pub fn graph(random: &mut Random, shape: Shape, inputs: u32, nodes: u32, outputs: u32) -> Graph {
+    let mut node_table = Vec::new();
+    let mut unread: Vec<u32> = Vec::new();
+    for node in inputs + 1..=inputs + nodes {
+        node_table.extend(node_words(random, shape, inputs, node, &mut unread));
+        unread.push(node);
+    }
+    let mut output_table = Vec::new();
+    for output in 0..outputs {
+        let index = match shape {
+            Shape::Tree | Shape::Chain if output == 0 => inputs + nodes,
+            Shape::OutputRoots if nodes > 0 => random.between(inputs + 1, inputs + nodes),
+            Shape::Unread => random.below(inputs + 1),
+            _ => random.below(inputs + nodes + 1),
+        };
+        output_table.push(2 * index + random.bit());
+    }
+    Graph { inputs, nodes, outputs, node_table, output_table }
+}
+
+/// A graph whose three counts are random too, up to the bounds given.
+pub fn small(random: &mut Random, most_inputs: u32, most_nodes: u32, most_outputs: u32) -> Graph {
+    let shape = SHAPES[random.below(SHAPES.len() as u32) as usize];
+    let inputs = random.between(0, most_inputs);
+    let nodes = random.between(0, most_nodes);
+    let outputs = random.between(0, most_outputs);
+    graph(random, shape, inputs, nodes, outputs)
+}
+
+/// Words behind the graph in both tables, the mark among them.
+pub fn with_tails(random: &mut Random, mut g: Graph, most: u32) -> Graph {
+    for table in [&mut g.node_table, &mut g.output_table] {
+        for _ in 0..random.between(0, most) {
+            let word = if random.one_in(4) { MARK } else { random.below(1000) };
+            table.push(word);
+        }
+    }
+    g
+}

@@ -1,0 +1,19 @@
+//! A second implementation of the reducer, in plain Rust, from the text of the paper alone.
+//!
+//! It is slow on purpose: every "least" is found by trying everything and counting again. Where trying
+//! everything is out of reach (`trees`, `fast`), a cleverer way stands beside the plain one and the tests
+//! hold it to the plain one. Its answers are what the proved crates are run against.
+
+pub mod calls;
+pub mod evaluation;
+pub mod fast;
+pub mod file;
+pub mod generate;
+pub mod graph;
+pub mod moves;
+pub mod random;
+pub mod settling;
+pub mod trees;
+
+#[cfg(test)]
+mod tests;

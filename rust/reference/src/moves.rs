@@ -1,0 +1,176 @@
+//! The six rows, and the node, pair and tree calls by trying every list of moves.
+
+use crate::graph::{admit, index_of, Graph, Number, Place};
+
+/// What a move turns: words 1 to 3, and every reader.
+pub struct Row {
+    pub words: [bool; 3],
+    pub readers: bool,
+}
+
+const fn row(one: bool, two: bool, three: bool, readers: bool) -> Row {
+    Row { words: [one, two, three], readers }
+}
+
+const MAJORITY: [Row; 2] = [row(false, false, false, false), row(true, true, true, true)];
+const XOR: [Row; 4] = [
+    row(false, false, false, false),
+    row(true, true, false, false),
+    row(true, false, false, true),
+    row(false, true, false, true),
+];
+
+/// The rows of the node's kind.
+pub fn rows(g: &Graph, node: u32) -> &'static [Row] {
+    if g.is_xor(node) {
+        &XOR
+    } else {
+        &MAJORITY
+    }
+}
+
+/// One move made. Moves made one after the other turn an edge as often as they say together.
+pub fn make(g: &mut Graph, node: u32, number: usize) {
+    let row = &rows(g, node)[number];
+    for word in 0..3 {
+        if row.words[word] {
+            g.turn(Place::OfNode(node, word));
+        }
+    }
+    if row.readers {
+        for reader in g.readers(node) {
+            g.turn(reader);
+        }
+    }
+}
+
+/// Every list of moves for these nodes, the list that is less at its first difference first.
+pub fn all_lists(g: &Graph, nodes: &[u32]) -> Vec<Vec<usize>> {
+    let mut all = vec![vec![]];
+    for &node in nodes {
+        let mut longer = Vec::new();
+        for list in &all {
+            for number in 0..rows(g, node).len() {
+                let mut next: Vec<usize> = list.clone();
+                next.push(number);
+                longer.push(next);
+            }
+        }
+        all = longer;
+    }
+    all
+}
+
+fn after(g: &Graph, nodes: &[u32], list: &[usize]) -> Graph {
+    let mut next = g.clone();
+    for (&node, &number) in nodes.iter().zip(list) {
+        make(&mut next, node, number);
+    }
+    next
+}
+
+/// The first list among those with the least C after.
+pub fn best(g: &Graph, nodes: &[u32]) -> Vec<usize> {
+    let mut least: Option<(u32, Vec<usize>)> = None;
+    for list in all_lists(g, nodes) {
+        let c = after(g, nodes, &list).c();
+        if least.as_ref().map_or(true, |found| c < found.0) {
+            least = Some((c, list));
+        }
+    }
+    least.expect("the list of zeros is there").1
+}
+
+/// How many lists of moves there are, or none if that is beyond counting.
+pub fn how_many(g: &Graph, nodes: &[u32]) -> Option<u64> {
+    nodes.iter().try_fold(1u64, |product, &node| product.checked_mul(rows(g, node).len() as u64))
+}
+
+fn make_best(g: &mut Graph, nodes: &[u32], list: &[usize]) -> u32 {
+    let before = g.c();
+    *g = after(g, nodes, list);
+    before - g.c()
+}
+
+pub fn node_call(g: &mut Graph, node: u32) -> Result<u32, Number> {
+    admit(g)?;
+    if !g.is_node(node) {
+        return Err(7);
+    }
+    let list = best(g, &[node]);
+    Ok(make_best(g, &[node], &list))
+}
+
+pub fn pair_call(g: &mut Graph, node: u32, word: u32) -> Result<u32, Number> {
+    admit(g)?;
+    if !g.is_node(node) || word < 1 || word as usize > g.words_of(node) {
+        return Err(7);
+    }
+    let named = index_of(g.word(node, word as usize - 1));
+    if !g.is_node(named) {
+        return Ok(0);
+    }
+    let list = best(g, &[named, node]);
+    Ok(make_best(g, &[named, node], &list))
+}
+
+pub fn is_root(g: &Graph, node: u32) -> bool {
+    let readers = g.readers(node);
+    !(readers.len() == 1 && matches!(readers[0], Place::OfNode(_, _)))
+}
+
+/// Whether a node leads to the root through non-roots only.
+fn leads_to(g: &Graph, node: u32, root: u32) -> bool {
+    if node == root {
+        return true;
+    }
+    if is_root(g, node) {
+        return false;
+    }
+    match g.readers(node)[0] {
+        Place::OfNode(reader, _) => leads_to(g, reader, root),
+        Place::OfOutput(_) => false,
+    }
+}
+
+/// The tree of a root by falling index.
+pub fn tree(g: &Graph, root: u32) -> Vec<u32> {
+    g.node_indices().rev().filter(|&node| leads_to(g, node, root)).collect()
+}
+
+fn check_tree_call(g: &Graph, root: u32, scratch: usize) -> Result<(), Number> {
+    admit(g)?;
+    if !g.is_node(root) || !is_root(g, root) {
+        return Err(7);
+    }
+    check_scratch(g, scratch)
+}
+
+pub fn check_scratch(g: &Graph, scratch: usize) -> Result<(), Number> {
+    if (scratch as u64) < 8 * g.nodes as u64 {
+        Err(8)
+    } else {
+        Ok(())
+    }
+}
+
+/// The tree call by trying everything.
+pub fn tree_call(g: &mut Graph, root: u32, scratch: usize) -> Result<u32, Number> {
+    check_tree_call(g, root, scratch)?;
+    let nodes = tree(g, root);
+    let list = best(g, &nodes);
+    Ok(make_best(g, &nodes, &list))
+}
+
+/// The tree call with another way to find the best list.
+pub fn tree_call_by(
+    g: &mut Graph,
+    root: u32,
+    scratch: usize,
+    find: &dyn Fn(&Graph, &[u32]) -> Vec<usize>,
+) -> Result<u32, Number> {
+    check_tree_call(g, root, scratch)?;
+    let nodes = tree(g, root);
+    let list = find(g, &nodes);
+    Ok(make_best(g, &nodes, &list))
+}
