@@ -1,11 +1,11 @@
 -- A node's rows and its costs as numbers: bounds, and how the words' costs are met. From the laws on tests.
-use mathlib.Core.Path.{_≡_, refl, sym, ap, _∙_}
-use mathlib.Core.Bool.{Bool, true, false, cond, and-false}
+use mathlib.Core.Path.{_≡_}
+use mathlib.Core.Bool.{Bool, true, false, cond}
 use mathlib.Core.Logic.{⊎-elim}
-use mathlib.Core.List.{List, [], _∷_}
-use Prim.Native.Nat.{ℕ, zero, suc, _+_, _-_, _*_, _/_, _%_, _≤_, _<_}
+use mathlib.Core.List.{List, []}
+use Prim.Native.Nat.{ℕ, zero, suc, _+_, _-_, _*_, _%_, _≤_, _<_}
 use native.Mathlib.Omega.{arith}
-use borrow.Author.Tests.{lt-ltb, eq-eqb, ne-eqb}
+use borrow.Author.Tests.{lt-ltb, ne-eqb}
 use lib.Dec.{eqb}
 use lib.ListN.{getD}
 use Rattle.graph.specs.Admission.{Admitted}
@@ -20,7 +20,6 @@ use Rattle.choice.proofs.Best.{first-shift}
 use Rattle.graph.proofs.Adds.{adds-le}
 use Rattle.graph.proofs.Cases.{true-or-false}
 use Rattle.graph.proofs.Finite.{sum-le}
-use Rattle.moves.proofs.Flags.{flag-bit}
 use Rattle.moves.proofs.Shown.{shown-both}
 use Rattle.moves.proofs.Tally.{if-bit}
 
@@ -147,6 +146,9 @@ swapped-le z a b c h (suc (suc (suc (suc (suc (suc i)))))) = omega arith
 pub given-numbers : (z w : List ℕ) (f r d : ℕ) → Numbers z r d → Numbers (given z w f) r d
 unfolding given
 given-numbers z w f r d n = record { bits = swapped-le z _ _ _ (n .bits); some = n .some; few = n .few }
+
+pub given-counted : (z w z′ : List ℕ) (f r d : ℕ) → z′ ≡ given z w f → Numbers z r d → Numbers z′ r d
+given-counted z w z′ f r d e n = rw e (given-numbers z w f r d n)
 
 module _ (p n : NodeNumbers) (w : List ℕ) (a : ℕ) where
   pub pair-is : (k s t : ℕ) (z : List ℕ) → z ≡ given (n .costs) w (flag (p .xor) a 3) → s ≡ costOf p a → t ≡ costWith (n .xor) z (n .readers) (n .odd) k

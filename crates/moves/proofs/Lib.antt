@@ -17,3 +17,4 @@ pub mod Deciding
 pub mod Tally
 pub mod Step
 pub mod NodeBest
+pub mod Sweeping

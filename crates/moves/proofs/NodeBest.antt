@@ -3,7 +3,7 @@
 use mathlib.Core.Path.{_≡_, refl, sym, ap, _∙_}
 use mathlib.Core.Bool.{Bool, true, false, cond}
 use mathlib.Core.List.{List, [], _∷_, map}
-use mathlib.Core.Logic.{_⊎_, inl, inr, ⊎-elim, _≢_}
+use mathlib.Core.Logic.{inl, inr, ⊎-elim, _≢_}
 use Prim.Native.Nat.{ℕ, zero, suc, _+_, _-_, _*_, _/_, _%_, _≤_, _<_}
 use native.Mathlib.Omega.{arith}
 use borrow.Author.Tests.{eq-eqb, ne-eqb}
@@ -12,15 +12,15 @@ use lib.ListN.{getD}
 use Rattle.graph.specs.Admission.{Admitted}
 use Rattle.graph.specs.Count.{C, adds, readers}
 use Rattle.graph.specs.Finite.{ifEqual}
-use Rattle.graph.specs.Graph.{Graph, isEdge, isXor, node, word, turn}
-use Rattle.choice.specs.Choice.{best, Fits, _≺_, FirstBelow}
-use Rattle.choice.proofs.Best.{Best, unique}
+use Rattle.graph.specs.Graph.{Graph, isXor, node, word}
+use Rattle.choice.specs.Choice.{Fits, _≺_, FirstBelow}
+use Rattle.choice.proofs.Best.{unique}
 use Rattle.moves.specs.Apply.{Choice, none, at, put, seen, apply}
 use Rattle.moves.specs.Call.{moved, movedC, bestAt}
 use Rattle.moves.specs.Cost.{shown}
-use Rattle.moves.specs.Decide.{readersCost, costWith, wordAfter, ownCosts, swapped, given, others, costOf, costGiven, pairCost, FirstPair, numbersOf, naming, Numbers, Counted}
+use Rattle.moves.specs.Decide.{readersCost, costWith, wordAfter, ownCosts, swapped, given, others, costOf, costGiven, pairCost, FirstPair, numbersOf, naming}
 use Rattle.moves.specs.Rows.{arity, flag, movesAt}
-use Rattle.graph.proofs.Cases.{true-or-false, eq-or-ne}
+use Rattle.graph.proofs.Cases.{eq-or-ne}
 use Rattle.graph.proofs.Turn.{turn-half, turn-bit}
 use Rattle.moves.proofs.Changed.{at-same, at-other, seen-other, seen-none, flag-zero}
 use Rattle.moves.proofs.Compose.{seen-node}

@@ -1,9 +1,9 @@
 -- One more move, at a node that a choice leaves alone: what it changes is the node's own words and its readers, so C follows
 -- the numbers of the node. From what one changed move changes, and the sums.
-use mathlib.Core.Path.{_≡_, refl, sym, ap, _∙_, fun-ext}
+use mathlib.Core.Path.{_≡_, refl, sym, _∙_, fun-ext}
 use mathlib.Core.Bool.{Bool, true, false, cond}
 use mathlib.Core.List.{List, [], _∷_}
-use mathlib.Core.Logic.{_⊎_, inl, inr, ⊎-elim, _≢_}
+use mathlib.Core.Logic.{⊎-elim, _≢_}
 use Prim.Native.Nat.{ℕ, zero, suc, _+_, _-_, _*_, _/_, _%_, _≤_, _<_}
 use native.Mathlib.Omega.{arith}
 use borrow.Author.Tests.{eqb-true, eqb-false, eq-eqb, ne-eqb}
@@ -13,7 +13,7 @@ use Rattle.graph.specs.Admission.{Admitted}
 use Rattle.graph.specs.Count.{nodeAdds, outAdds, C, named, outNamed, readers}
 use Rattle.graph.specs.Finite.{sum, ifEqual}
 use Rattle.graph.specs.Graph.{Graph, isEdge, isXor, node, word, out}
-use Rattle.moves.specs.Apply.{Choice, own, seen, apply, at}
+use Rattle.moves.specs.Apply.{Choice, own, apply, at}
 use Rattle.moves.specs.Cost.{shown}
 use Rattle.moves.specs.Decide.{readersCost, costWith}
 use Rattle.moves.specs.Rows.{flag}

@@ -69,8 +69,8 @@ Counted n = Numbers (n .costs) (n .readers) (n .odd)
 unfoldable pub costGiven : NodeNumbers → NodeNumbers → List ℕ → ℕ → ℕ → ℕ
 costGiven p n w a k = costWith (n .xor) (given (n .costs) w (flag (p .xor) a 3)) (n .readers) (n .odd) k
 
--- move a at the node p and k at the node whose words w name it, up to a number that no move changes. The words w stand in
--- both costs, as readers and as words: what they, and the other words, add is taken off by adding what they do not add
+-- move a at the node p and k at the node whose words w name it, up to a number that no move changes. What the node's words
+-- add once a is made stands in both costs and is taken off once, by adding what they add turned: both together never change
 unfoldable pub pairCost : NodeNumbers → NodeNumbers → List ℕ → ℕ → ℕ → ℕ
 pairCost p n w a k = costOf p a + costGiven p n w a k + others (given (n .costs) w (flag (p .xor) a 3))
 

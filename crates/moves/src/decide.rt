@@ -122,11 +122,11 @@ pub fn first_pair(named: NodeNumbers, node: NodeNumbers, which: [u32; 3]) -> Pai
     let mut m: u32 = 1;
     while m < end {
         let next = least_given(named, node, which, m);
-        let cost = pair_cost(named, node, which, m, next);
-        if cost < least {
+        let total = pair_cost(named, node, which, m, next);
+        if total < least {
             a = m;
             k = next;
-            least = cost;
+            least = total;
         }
         m += 1;
     }

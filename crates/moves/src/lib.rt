@@ -1,4 +1,5 @@
 pub mod decide;
+pub mod faults;
 pub mod reading;
 pub mod rows;
 pub mod words;

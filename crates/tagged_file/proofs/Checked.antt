@@ -104,4 +104,4 @@ head-passed s a b e =
     let o = off _ _ _ _ (n .1) in
     let x = off _ _ _ _ (o .1) in
     let y = off _ _ _ _ (x .1) in
-    record { room = head-room s (h .0); inputs = i .0; count = n .0; outputs = o .0; nodes = x .0; outs = y .0 }
+    record { room = head-room s (h .0); inputs = omega arith; count = omega arith; outputs = omega arith; nodes = omega arith; outs = omega arith }

@@ -51,6 +51,16 @@ rows =
     -- the first node may name 7; 8 is its own index, and the mark's number names no index below it
     ∷ record { file = head 0 0 1 ++ tail 0 0 0 8; nodeRoom = 3; outRoom = 1; number = 5 }
     ∷ record { file = head 0 0 1 ++ tail 255 255 255 255; nodeRoom = 3; outRoom = 1; number = 5 }
+    -- nor does it as a first word, of a majority or of an XOR
+    ∷ record {
+      file = head 0 0 1 ++ (2 ∷ 0 ∷ 12 ∷ 255 ∷ 255 ∷ 255 ∷ 255 ∷ 0 ∷ 0 ∷ 0 ∷ 5 ∷ 0 ∷ 0 ∷ 0 ∷ 7 ∷ []);
+      nodeRoom = 3;
+      outRoom = 1;
+      number = 5;
+    }
+    ∷ record { file = head 0 0 1 ++ (3 ∷ 0 ∷ 8 ∷ 255 ∷ 255 ∷ 255 ∷ 255 ∷ 0 ∷ 0 ∷ 0 ∷ 5 ∷ []); nodeRoom = 3; outRoom = 1; number = 5 }
+    -- 4,097 outputs get 3, though no table is lent
+    ∷ record { file = 1 ∷ 0 ∷ 12 ∷ 0 ∷ 0 ∷ 0 ∷ 3 ∷ 0 ∷ 0 ∷ 0 ∷ 1 ∷ 0 ∷ 0 ∷ 16 ∷ 1 ∷ []; nodeRoom = 0; outRoom = 0; number = 3 }
     -- 100,001 nodes, whatever is lent; 100,000 announced and none there
     ∷ record { file = head 1 134 161; nodeRoom = 400000; outRoom = 1; number = 3 }
     ∷ record { file = head 1 134 161; nodeRoom = 0; outRoom = 0; number = 3 }
@@ -63,7 +73,7 @@ Agrees (r ∷ rs) = (fileNumber (r .file) (r .nodeRoom) (r .outRoom) ≡ r .numb
 
 agree : Agrees rows
 unfolding rows ifLess ifEqual first be2 be4 payloadOf dueNumber nodeSize third headNumber nodeNumber outNumber endNumber fileNumber
-agree = (refl, (refl, (refl, (refl, (refl, (refl, (refl, (refl, (refl, (refl, (refl, tt)))))))))))
+agree = (refl, (refl, (refl, (refl, (refl, (refl, (refl, (refl, (refl, (refl, (refl, (refl, (refl, (refl, tt))))))))))))))
 
 -- the file of P1's graph is P1's file; that of P5's graph, whose node is an XOR, has 36 bytes
 p1-written : fileOf (graphOf 3 1 1 (3 ∷ 5 ∷ 7 ∷ 6 ∷ []) (9 ∷ 8 ∷ [])) ≡ p1

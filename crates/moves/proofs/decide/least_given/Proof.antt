@@ -1,6 +1,6 @@
 -- `least_given` meets its contract. From the laws on costs.
 use borrow.Author.Needs.{needs}
-use Rattle.moves.proofs.Deciding.{given-numbers, given-first}
+use Rattle.moves.proofs.Deciding.{given-counted, given-first}
 use Rattle.moves.proofs.decide.least_given.Statement.{statement}
 use Rattle.moves.proofs.decide.least_given.Tie as tie
 
@@ -11,9 +11,7 @@ given-costs-requires : tie.Need-given-costs-requires
 given-costs-requires c κs = search needs
 
 first-least-requires : tie.Need-first-least-requires
-first-least-requires c κs =
-    let a = c .before .before .before in
-    rw (c .given-costs .ensures) (given-numbers (a .args .node .costs) (a .args .which) (c .before .before .flag-of .result) (a .args .node .readers) (a .args .node .odd) (a .pre .0))
+first-least-requires c κs = given-counted _ _ _ _ _ _ (c .given-costs .ensures) (c .before .before .before .pre .0)
 
 returns : tie.Need-returns
 returns c =

@@ -1,7 +1,7 @@
 -- `move_cost` meets its contract. From the laws on rows and costs.
 use native.Mathlib.Omega.{arith}
-use mathlib.Core.Path.{sym}
-use Prim.Native.Nat.{_+_}
+use Prim.Native.Nat.{_+_, _<_}
+use lib.ListN.{getD}
 use Rattle.moves.proofs.Deciding.{readers-le, cost-le, cost-is}
 use borrow.Author.Needs.{needs}
 use Rattle.moves.proofs.decide.move_cost.Statement.{statement}
@@ -49,11 +49,18 @@ mul-result-2 c = search needs
 array-read-result-2 : tie.Need-array-read-result-2
 array-read-result-2 c = search needs
 
-add-result : tie.Need-add-result
-add-result c =
+-- the whole sum is far below the type's end
+low-sum : (c : tie.After-readers-cost)
+    → let z = c .before .before .before .before .before .args .t2 in
+    getD z (c .before .before .before .before .flag-of .result) 0 + getD z (2 + c .before .before .before .flag-of2 .result) 0 + getD z (4 + c .before .before .flag-of3 .result) 0 + c .readers-cost .result
+    < 1000000
+low-sum c =
     let a = c .before .before .before .before .before in
     let n = a .pre .0 in
     omega (arith, n .some, n .few, n .bits (c .before .before .before .before .flag-of .result), n .bits (2 + c .before .before .before .flag-of2 .result), n .bits (4 + c .before .before .flag-of3 .result), c .readers-cost .ensures, readers-le (c .before .flag-of4 .result) (a .args .readers) (a .args .odd) (n .some))
+
+add-result : tie.Need-add-result
+add-result c = omega (arith, low-sum c)
 
 mul-result-3 : tie.Need-mul-result-3
 mul-result-3 c = search needs
@@ -62,16 +69,10 @@ array-read-result-3 : tie.Need-array-read-result-3
 array-read-result-3 c = search needs
 
 add-result-2 : tie.Need-add-result-2
-add-result-2 c =
-    let a = c .before .before .before .before .before in
-    let n = a .pre .0 in
-    omega (arith, n .some, n .few, n .bits (c .before .before .before .before .flag-of .result), n .bits (2 + c .before .before .before .flag-of2 .result), n .bits (4 + c .before .before .flag-of3 .result), c .readers-cost .ensures, readers-le (c .before .flag-of4 .result) (a .args .readers) (a .args .odd) (n .some))
+add-result-2 c = omega (arith, low-sum c)
 
 add-result-3 : tie.Need-add-result-3
-add-result-3 c =
-    let a = c .before .before .before .before .before in
-    let n = a .pre .0 in
-    omega (arith, n .some, n .few, n .bits (c .before .before .before .before .flag-of .result), n .bits (2 + c .before .before .before .flag-of2 .result), n .bits (4 + c .before .before .flag-of3 .result), c .readers-cost .ensures, readers-le (c .before .flag-of4 .result) (a .args .readers) (a .args .odd) (n .some))
+add-result-3 c = omega (arith, low-sum c)
 
 returns : tie.Need-returns
 returns c =

@@ -2,10 +2,10 @@
 use native.Mathlib.Omega.{arith}
 use borrow.Author.Needs.{needs}
 use mathlib.Core.Path.{ap, _∙_}
-use Prim.Native.Nat.{ℕ, _≤_}
+use Prim.Native.Nat.{_+_, _<_}
 use lib.ListN.{getD}
 use Rattle.moves.specs.Decide.{given}
-use Rattle.moves.proofs.Deciding.{given-numbers, pair-is}
+use Rattle.moves.proofs.Deciding.{given-counted, pair-is}
 use Rattle.moves.proofs.decide.pair_cost.Statement.{statement}
 use Rattle.moves.proofs.decide.pair_cost.Tie as tie
 
@@ -21,14 +21,18 @@ given-costs-requires c κs = search needs
 move-cost-requires-2 : tie.Need-move-cost-requires-2
 move-cost-requires-2 c κs =
     let a = c .before .before .before .before .before in
-    (rw (c .given-costs .ensures) (given-numbers (a .args .node .costs) (a .args .which) (c .before .before .flag-of .result) (a .args .node .readers) (a .args .node .odd) (a .pre .1)), a .pre .4)
+    (given-counted _ _ _ _ _ _ (c .given-costs .ensures) (a .pre .1), a .pre .4)
+
+-- the whole sum is far below the type's end
+low-sum : (c : tie.After-move-cost2)
+    → let z = c .before .given-costs .result in c .before .before .before .before .move-cost .result + c .move-cost2 .result + (getD z 1 0 + getD z 3 0 + getD z 5 0) < 1000000
+low-sum c =
+    let a = c .before .before .before .before .before .before in
+    let b = given-counted _ _ _ _ _ _ (c .before .given-costs .ensures) (a .pre .1) .bits in
+    omega (arith, b 1, b 3, b 5, c .before .before .before .before .move-cost .ensures .1, c .move-cost2 .ensures .1, a .pre .0 .few, a .pre .1 .few)
 
 add-result : tie.Need-add-result
-add-result c =
-    let a = c .before .before .before .before .before .before in
-    let n = given-numbers (a .args .node .costs) (a .args .which) (c .before .before .before .flag-of .result) (a .args .node .readers) (a .args .node .odd) (a .pre .1) in
-    let b : (i : ℕ) → getD (c .before .given-costs .result) i 0 ≤ 1 = rw (c .before .given-costs .ensures) (n .bits) in
-    omega (arith, b 1, b 3, b 5, c .before .before .before .before .move-cost .ensures .1, c .move-cost2 .ensures .1, a .pre .0 .few, a .pre .1 .few)
+add-result c = omega (arith, low-sum c)
 
 array-read-result : tie.Need-array-read-result
 array-read-result c = search needs
@@ -37,28 +41,16 @@ array-read-result-2 : tie.Need-array-read-result-2
 array-read-result-2 c = search needs
 
 add-result-2 : tie.Need-add-result-2
-add-result-2 c =
-    let a = c .before .before .before .before .before .before in
-    let n = given-numbers (a .args .node .costs) (a .args .which) (c .before .before .before .flag-of .result) (a .args .node .readers) (a .args .node .odd) (a .pre .1) in
-    let b : (i : ℕ) → getD (c .before .given-costs .result) i 0 ≤ 1 = rw (c .before .given-costs .ensures) (n .bits) in
-    omega (arith, b 1, b 3, b 5, c .before .before .before .before .move-cost .ensures .1, c .move-cost2 .ensures .1, a .pre .0 .few, a .pre .1 .few)
+add-result-2 c = omega (arith, low-sum c)
 
 array-read-result-3 : tie.Need-array-read-result-3
 array-read-result-3 c = search needs
 
 add-result-3 : tie.Need-add-result-3
-add-result-3 c =
-    let a = c .before .before .before .before .before .before in
-    let n = given-numbers (a .args .node .costs) (a .args .which) (c .before .before .before .flag-of .result) (a .args .node .readers) (a .args .node .odd) (a .pre .1) in
-    let b : (i : ℕ) → getD (c .before .given-costs .result) i 0 ≤ 1 = rw (c .before .given-costs .ensures) (n .bits) in
-    omega (arith, b 1, b 3, b 5, c .before .before .before .before .move-cost .ensures .1, c .move-cost2 .ensures .1, a .pre .0 .few, a .pre .1 .few)
+add-result-3 c = omega (arith, low-sum c)
 
 add-result-4 : tie.Need-add-result-4
-add-result-4 c =
-    let a = c .before .before .before .before .before .before in
-    let n = given-numbers (a .args .node .costs) (a .args .which) (c .before .before .before .flag-of .result) (a .args .node .readers) (a .args .node .odd) (a .pre .1) in
-    let b : (i : ℕ) → getD (c .before .given-costs .result) i 0 ≤ 1 = rw (c .before .given-costs .ensures) (n .bits) in
-    omega (arith, b 1, b 3, b 5, c .before .before .before .before .move-cost .ensures .1, c .move-cost2 .ensures .1, a .pre .0 .few, a .pre .1 .few)
+add-result-4 c = omega (arith, low-sum c)
 
 returns : tie.Need-returns
 returns c =

@@ -1,7 +1,6 @@
 -- `where_turned` meets its contract. From the laws on tests.
 use native.Mathlib.Omega.{arith}
 use mathlib.Core.Path.{refl}
-use Rattle.moves.proofs.Deciding.{onlyIf-le}
 use Rattle.graph.proofs.Tests.{equal, unequal}
 use Rattle.moves.proofs.decide.where_turned.Statement.{statement}
 use Rattle.moves.proofs.decide.where_turned.Tie as tie

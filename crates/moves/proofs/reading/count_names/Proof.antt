@@ -2,7 +2,7 @@
 use native.Mathlib.Omega.{arith}
 use borrow.Author.Needs.{needs}
 use mathlib.Core.Path.{_≡_}
-use Prim.Native.Nat.{ℕ, _+_, _-_, _≤_, _/_, _%_}
+use Prim.Native.Nat.{_-_, _≤_, _/_, _%_}
 use lib.ListN.{getD}
 use Rattle.moves.specs.Decide.{Tallied}
 use Rattle.moves.proofs.Tally.{tally-zero, tally-suc, tally-le, if-bit}
