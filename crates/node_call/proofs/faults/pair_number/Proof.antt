@@ -1,0 +1,63 @@
+-- `pair_number` meets its contract. From the laws on faults.
+use native.Mathlib.Omega.{arith}
+use borrow.Author.Needs.{needs}
+use mathlib.Core.Path.{_∙_, sym}
+use Rattle.graph.specs.Graph.{graphOf}
+use Rattle.graph.proofs.Tests.{fault, none}
+use Rattle.moves.specs.Call.{wordFault}
+use Rattle.node_call.proofs.Refusing.{node-accepted, pair-is}
+use Rattle.node_call.proofs.faults.pair_number.Statement.{statement}
+use Rattle.node_call.proofs.faults.pair_number.Tie as tie
+
+node-number-requires : tie.Need-node-number-requires
+node-number-requires c κs = search needs
+
+returns : tie.Need-returns
+returns c =
+    let a = c .before .before .before .before .args in
+    let e = c .before .node-number .ensures in
+    fault _ _ e (λ z. c .if1 .taken (e ∙ z)) ∙ sym (pair-is (graphOf (a .inputs) (a .nodes) (a .outputs) (a .node-table .now) (a .output-table .now)) (a .node) (a .word))
+
+add-v : tie.Need-add-v
+add-v c =
+    let a = c .before .before .before .before .args in
+    let d = node-accepted (graphOf (a .inputs) (a .nodes) (a .outputs) (a .node-table .now) (a .output-table .now)) (a .node) (sym (c .before .node-number .ensures) ∙ c .if1 .left) in
+    omega (arith, d .admitted .few-inputs)
+
+sub-v : tie.Need-sub-v
+sub-v c =
+    let a = c .before .before .before .before .args in
+    let d = node-accepted (graphOf (a .inputs) (a .nodes) (a .outputs) (a .node-table .now) (a .output-table .now)) (a .node) (sym (c .before .node-number .ensures) ∙ c .if1 .left) in
+    omega (arith, d .after)
+
+cast-is-xor : tie.Need-cast-is-xor
+cast-is-xor c = search needs
+
+is-xor-requires : tie.Need-is-xor-requires
+is-xor-requires c κs =
+    let a = c .before .before .before .before .args in
+    let d = node-accepted (graphOf (a .inputs) (a .nodes) (a .outputs) (a .node-table .now) (a .output-table .now)) (a .node) (sym (c .before .node-number .ensures) ∙ c .if1 .left) in
+    omega (arith, d .after, d .before, d .admitted .few-nodes, d .admitted .long-nodes)
+
+word-fault-requires : tie.Need-word-fault-requires
+word-fault-requires c κs = search needs
+
+returns-2 : tie.Need-returns-2
+unfolding wordFault
+returns-2 c =
+    let a = c .before .before .before .before .before .before .args in
+    let x = c .before .is-xor .ensures (a .inputs) (a .nodes) (a .outputs) (a .output-table .now) in
+    none _ _ (sym (c .before .before .before .node-number .ensures) ∙ c .before .before .if1 .left) (c .word-fault .ensures ∙ rw x) ∙ sym (pair-is (graphOf (a .inputs) (a .nodes) (a .outputs) (a .node-table .now) (a .output-table .now)) (a .node) (a .word))
+
+pub pair-number-spec : {M : Type 1} → statement M
+pair-number-spec =
+    tie.close
+    (tie.spec
+    node-number-requires
+    returns
+    add-v
+    sub-v
+    cast-is-xor
+    is-xor-requires
+    word-fault-requires
+    returns-2)

@@ -1,0 +1,80 @@
+-- `rewrite_node` meets its contract. From the laws of decisions and outcomes.
+use native.Mathlib.Omega.{arith}
+use borrow.Author.Needs.{needs}
+use Rattle.graph.specs.Graph.{Graph, graphOf}
+use Rattle.moves.proofs.Deciding.{arity-low}
+use Rattle.node_call.proofs.Outcomes.{counted, move-fits, no-more, node-outcome}
+use Rattle.node_call.proofs.rewrite.rewrite_node.Statement.{statement}
+use Rattle.node_call.proofs.rewrite.rewrite_node.Tie as tie
+
+numbers-of-requires : tie.Need-numbers-of-requires
+numbers-of-requires c κs = search needs
+
+first-least-requires : tie.Need-first-least-requires
+first-least-requires c κs =
+    let s = c .before .before .before .before .before .before in
+    let a = s .args in
+    let g : Graph = graphOf (a .inputs) (a .nodes) (a .outputs) (a .node-table .now) (a .output-table .now) in
+    let n = c .before .numbers-of in
+    counted g (a .v) (n .result) (s .pre .0) (n .ensures)
+
+move-cost-requires : tie.Need-move-cost-requires
+move-cost-requires c κs =
+    let s = c .before .before .before .before .before .before .before in
+    let a = s .args in
+    let g : Graph = graphOf (a .inputs) (a .nodes) (a .outputs) (a .node-table .now) (a .output-table .now) in
+    let n = c .before .before .numbers-of in
+    (counted g (a .v) (n .result) (s .pre .0) (n .ensures), omega (arith, arity-low (n .result .xor)))
+
+move-cost-requires-2 : tie.Need-move-cost-requires-2
+move-cost-requires-2 c κs =
+    let s = c .before .before .before .before .before .before .before .before in
+    let a = s .args in
+    let g : Graph = graphOf (a .inputs) (a .nodes) (a .outputs) (a .node-table .now) (a .output-table .now) in
+    let n = c .before .before .before .numbers-of in
+    (counted g (a .v) (n .result) (s .pre .0) (n .ensures), c .before .first-least .ensures .below)
+
+write-moves-requires : tie.Need-write-moves-requires
+write-moves-requires c κs =
+    let s = c .before .before .before .before .before .before .before .before .before .before .before in
+    let a = s .args in
+    let g : Graph = graphOf (a .inputs) (a .nodes) (a .outputs) (a .node-table .now) (a .output-table .now) in
+    let n = c .before .before .before .before .before .before .numbers-of in
+    let m = move-fits g (s .pre .0) (a .v) (s .pre .1) (n .result) (n .ensures) _ (c .before .before .before .before .first-least .ensures) in
+    (s .pre .0, s .pre .1, s .pre .1, m, m)
+
+sub-result : tie.Need-sub-result
+sub-result c =
+    let s = c .before .before .before .before .before .before .before .before .before .before .before .before .before .before .before .before in
+    let a = s .args in
+    let g : Graph = graphOf (a .inputs) (a .nodes) (a .outputs) (a .node-table .now) (a .output-table .now) in
+    let n = c .before .before .before .before .before .before .before .before .before .before .before .numbers-of in
+    omega (arith, c .before .before .before .before .before .before .before .before .move-cost .ensures .0, c .before .before .before .before .before .before .before .move-cost2 .ensures .0, no-more g (s .pre .0) (a .v) (s .pre .1) (n .result) (n .ensures) _ (c .before .before .before .before .before .before .before .before .before .first-least .ensures))
+
+same-length : tie.Need-same-length
+same-length c = search needs
+
+same-length-2 : tie.Need-same-length-2
+same-length-2 c = search needs
+
+returns : tie.Need-returns
+returns c =
+    let s = c .before .before .before .before .before .before .before .before .before .before .before .before .before .before .before .before in
+    let a = s .args in
+    let g : Graph = graphOf (a .inputs) (a .nodes) (a .outputs) (a .node-table .now) (a .output-table .now) in
+    let n = c .before .before .before .before .before .before .before .before .before .before .before .numbers-of in
+    node-outcome g (s .pre .0) (a .v) (s .pre .1) (n .result) (n .ensures) _ (c .before .before .before .before .before .before .before .before .before .first-least .ensures) _ _ (c .before .before .before .before .write-moves .ensures) (rw (c .before .before .before .before .before .before .before .before .move-cost .ensures .0, c .before .before .before .before .before .before .before .move-cost2 .ensures .0))
+
+pub rewrite-node-spec : {M : Type 1} → statement M
+rewrite-node-spec =
+    tie.close
+    (tie.spec
+    numbers-of-requires
+    first-least-requires
+    move-cost-requires
+    move-cost-requires-2
+    write-moves-requires
+    sub-result
+    same-length
+    same-length-2
+    returns)

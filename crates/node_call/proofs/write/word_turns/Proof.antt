@@ -1,0 +1,56 @@
+-- `word_turns` meets its contract. From the laws of two moves.
+use native.Mathlib.Omega.{arith}
+use borrow.Author.Needs.{needs}
+use Rattle.node_call.proofs.Flags.{turns-edge, turns-mark}
+use Rattle.node_call.proofs.write.word_turns.Statement.{statement}
+use Rattle.node_call.proofs.write.word_turns.Tie as tie
+
+is-edge-requires : tie.Need-is-edge-requires
+is-edge-requires c κs = search needs
+
+add-flag-at : tie.Need-add-flag-at
+add-flag-at c = search needs
+
+cast-flag-at : tie.Need-cast-flag-at
+cast-flag-at c = search needs
+
+add-flag-at-2 : tie.Need-add-flag-at-2
+add-flag-at-2 c = search needs
+
+flag-at-requires : tie.Need-flag-at-requires
+flag-at-requires c κs = search needs
+
+index-of-requires : tie.Need-index-of-requires
+index-of-requires c κs = search needs
+
+flag-at-requires-2 : tie.Need-flag-at-requires-2
+flag-at-requires-2 c κs = search needs
+
+add-result : tie.Need-add-result
+add-result c = search needs
+
+returns : tie.Need-returns
+returns c =
+    let t = c .before .before .before in
+    let a = t .before .before .args in
+    (turns-edge (a .inputs) (a .a) (a .b) (a .j) (a .x) _ _ _ _ (t .before .is-edge .ensures) (t .if1 .taken) (c .before .before .flag-at .ensures .0) (c .before .index-of .ensures) (c .flag-at2 .ensures .0), omega arith)
+
+returns-2 : tie.Need-returns-2
+returns-2 c =
+    let a = c .before .before .args in
+    (turns-mark (a .inputs) (a .a) (a .b) (a .j) (a .x) _ (c .before .is-edge .ensures) (c .if1 .left), omega arith)
+
+pub word-turns-spec : {M : Type 1} → statement M
+word-turns-spec =
+    tie.close
+    (tie.spec
+    is-edge-requires
+    add-flag-at
+    cast-flag-at
+    add-flag-at-2
+    flag-at-requires
+    index-of-requires
+    flag-at-requires-2
+    add-result
+    returns
+    returns-2)

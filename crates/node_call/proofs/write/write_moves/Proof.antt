@@ -1,0 +1,89 @@
+-- `write_moves` meets its contract. From the laws of two moves.
+use borrow.Author.Needs.{needs}
+use mathlib.Core.Path.{_≡_, _∙_, ap}
+use mathlib.Core.Bool.{Bool}
+use Prim.Native.Nat.{ℕ, _+_, _≤_}
+use lib.ListN.{getD}
+use Rattle.graph.specs.Graph.{Graph, graphOf}
+use Rattle.node_call.specs.Write.{moveWith}
+use Rattle.node_call.specs.declared.write.NodeMove.{NodeMove}
+use Rattle.node_call.proofs.Flags.{with-bits, both-written}
+use Rattle.node_call.proofs.write.write_moves.Statement.{statement}
+use Rattle.node_call.proofs.write.write_moves.Tie as tie
+
+bits-of : (a : NodeMove) (x : Bool) (u m : ℕ) → a ≡ moveWith x u m → (i : ℕ) → getD (a .flags) i 0 ≤ 1
+bits-of a x u m e i = rw e (with-bits x u m i)
+
+is-xor-requires : tie.Need-is-xor-requires
+is-xor-requires c κs = search needs
+
+add-move-with : tie.Need-add-move-with
+add-move-with c = search needs
+
+add-move-with-2 : tie.Need-add-move-with-2
+add-move-with-2 c = search needs
+
+move-with-requires : tie.Need-move-with-requires
+move-with-requires c κs =
+    let s = c .before .before .before .before in
+    let a = s .args in
+    rw (c .is-xor .ensures (a .inputs) (a .nodes) (a .outputs) (a .output-table .now)) (s .pre .3)
+
+is-xor-requires-2 : tie.Need-is-xor-requires-2
+is-xor-requires-2 c κs = search needs
+
+add-move-with-3 : tie.Need-add-move-with-3
+add-move-with-3 c = search needs
+
+add-move-with-4 : tie.Need-add-move-with-4
+add-move-with-4 c = search needs
+
+move-with-requires-2 : tie.Need-move-with-requires-2
+move-with-requires-2 c κs =
+    let s = c .before .before .before .before .before .before .before in
+    let a = s .args in
+    rw (c .is-xor2 .ensures (a .inputs) (a .nodes) (a .outputs) (a .output-table .now)) (s .pre .4)
+
+write-nodes-requires : tie.Need-write-nodes-requires
+write-nodes-requires c κs =
+    let s = c .before .before .before .before .before .before .before .before .before in
+    let d = s .pre .0 in
+    (bits-of _ _ _ _ (c .before .before .before .before .move-with .ensures), bits-of _ _ _ _ (c .before .move-with2 .ensures), d .few-inputs, d .few-nodes, d .long-nodes)
+
+write-outs-requires : tie.Need-write-outs-requires
+write-outs-requires c κs =
+    let s = c .before .before .before .before .before .before .before .before .before .before .before .before .before in
+    (bits-of _ _ _ _ (c .before .before .before .before .before .before .before .before .move-with .ensures), bits-of _ _ _ _ (c .before .before .before .before .before .move-with2 .ensures), s .pre .0 .long-outs)
+
+same-length : tie.Need-same-length
+same-length c = search needs
+
+same-length-2 : tie.Need-same-length-2
+same-length-2 c = search needs
+
+returns : tie.Need-returns
+returns c =
+    let s = c .before .before .before .before .before .before .before .before .before .before .before .before .before .before .before .before in
+    let a = s .args in
+    let g : Graph = graphOf (a .inputs) (a .nodes) (a .outputs) (a .node-table .now) (a .output-table .now) in
+    let p = c .before .before .before .before .before .before .before .before .before .before .before .move-with .ensures ∙ ap (λ (x : Bool). moveWith x (a .inputs + 1 + a .p) (a .k)) (c .before .before .before .before .before .before .before .before .before .before .before .before .is-xor .ensures (a .inputs) (a .nodes) (a .outputs) (a .output-table .now)) in
+    let v = c .before .before .before .before .before .before .before .before .move-with2 .ensures ∙ ap (λ (x : Bool). moveWith x (a .inputs + 1 + a .v) (a .m)) (c .before .before .before .before .before .before .before .before .before .is-xor2 .ensures (a .inputs) (a .nodes) (a .outputs) (a .output-table .now)) in
+    both-written g (a .p) (a .k) (a .v) (a .m) (s .pre .1) (s .pre .2) _ _ (rw (p, v) at (c .before .before .before .before .before .before .write-nodes .ensures)) (rw (p, v) at (c .before .before .write-outs .ensures))
+
+pub write-moves-spec : {M : Type 1} → statement M
+write-moves-spec =
+    tie.close
+    (tie.spec
+    is-xor-requires
+    add-move-with
+    add-move-with-2
+    move-with-requires
+    is-xor-requires-2
+    add-move-with-3
+    add-move-with-4
+    move-with-requires-2
+    write-nodes-requires
+    write-outs-requires
+    same-length
+    same-length-2
+    returns)

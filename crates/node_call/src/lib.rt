@@ -1,0 +1,58 @@
+ghost use mathlib.Core.Path.{_≡_};
+ghost use Rattle.graph.specs.Answer.{outcome};
+ghost use Rattle.graph.specs.Graph.{graphOf};
+ghost use Rattle.moves.specs.Call.{savingAnswer, nodeCall, pairCall};
+
+pub mod faults;
+pub mod rewrite;
+pub mod write;
+
+use graph::checks;
+use moves::Saving;
+
+// The node call: the move of a node with the least C, the lowest number among equals.
+pub fn node_call(
+    inputs: u32,
+    nodes: u32,
+    outputs: u32,
+    node_table: &mut [u32],
+    output_table: &mut [u32],
+    node: u32,
+) -> Saving
+    ensures { λ r. ⌜ outcome (savingAnswer r) (graphOf inputs nodes outputs (now («node_table» .exit)) (now («output_table» .exit))) ≡ nodeCall (graphOf inputs nodes outputs (now («node_table» .entry)) (now («output_table» .entry))) node ⌝ }
+{
+    let number = faults::node_number(inputs, nodes, outputs, node_table, output_table, node);
+    if number != 0 {
+        return Saving::Refused(checks::refused_by(number));
+    }
+    let v = node - (inputs + 1);
+    Saving::Saved(rewrite::rewrite_node(inputs, nodes, outputs, node_table, output_table, v))
+}
+
+// The pair call: of all moves at the node that a word names and at the node itself, those with the least C, the lowest move at
+// the named node first among equals. A word that names no node changes nothing.
+pub fn pair_call(
+    inputs: u32,
+    nodes: u32,
+    outputs: u32,
+    node_table: &mut [u32],
+    output_table: &mut [u32],
+    node: u32,
+    word: u32,
+) -> Saving
+    ensures { λ r. ⌜ outcome (savingAnswer r) (graphOf inputs nodes outputs (now («node_table» .exit)) (now («output_table» .exit))) ≡ pairCall (graphOf inputs nodes outputs (now («node_table» .entry)) (now («output_table» .entry))) node word ⌝ }
+{
+    let number = faults::pair_number(inputs, nodes, outputs, node_table, output_table, node, word);
+    if number != 0 {
+        return Saving::Refused(checks::refused_by(number));
+    }
+    Saving::Saved(rewrite::rewrite_named(
+        inputs,
+        nodes,
+        outputs,
+        node_table,
+        output_table,
+        node,
+        word,
+    ))
+}

@@ -1,0 +1,92 @@
+// A decision from numbers, then one sweep of each table.
+ghost use mathlib.Core.Path.{_≡_};
+ghost use mathlib.Core.List.{List, [], _∷_};
+ghost use Prim.Native.Nat.{ℕ, _+_, _-_, _*_, _≤_, _<_};
+ghost use lib.ListN.{length};
+ghost use Rattle.graph.specs.Admission.{Admitted};
+ghost use Rattle.graph.specs.Answer.{accepted, outcome};
+ghost use Rattle.graph.specs.Graph.{graphOf};
+ghost use Rattle.moves.specs.Call.{rewrite, pairNumber, namedBy, pairRewrite};
+use crate::write;
+use graph::literal;
+use moves::decide;
+use moves::reading;
+use moves::words;
+
+// The best move of node v, counted from 0; what it saves.
+pub fn rewrite_node(
+    inputs: u32,
+    nodes: u32,
+    outputs: u32,
+    node_table: &mut [u32],
+    output_table: &mut [u32],
+    v: u32,
+) -> u32
+    requires { ⌜ Admitted (graphOf inputs nodes outputs (now «node_table») (now «output_table»)) × (v < nodes) ⌝ }
+    ensures { λ r. ⌜ outcome (accepted (r ∷ [])) (graphOf inputs nodes outputs (now («node_table» .exit)) (now («output_table» .exit))) ≡ rewrite (graphOf inputs nodes outputs (now («node_table» .entry)) (now («output_table» .entry))) ((inputs + 1 + v) ∷ []) ⌝ }
+{
+    let n = reading::numbers_of(inputs, nodes, outputs, node_table, output_table, v);
+    let z = n.costs;
+    let m = decide::first_least(n.xor, z, n.readers, n.odd);
+    let before = decide::move_cost(n.xor, z, n.readers, n.odd, 0);
+    let after = decide::move_cost(n.xor, z, n.readers, n.odd, m);
+    write::write_moves(inputs, nodes, outputs, node_table, output_table, v, m, v, m);
+    before - after
+}
+
+// The best moves of node p and of node v above it, both counted from 0; what they save.
+pub fn rewrite_pair(
+    inputs: u32,
+    nodes: u32,
+    outputs: u32,
+    node_table: &mut [u32],
+    output_table: &mut [u32],
+    p: u32,
+    v: u32,
+) -> u32
+    requires { ⌜ Admitted (graphOf inputs nodes outputs (now «node_table») (now «output_table»)) × (p < v) × (v < nodes) ⌝ }
+    ensures { λ r. ⌜ outcome (accepted (r ∷ [])) (graphOf inputs nodes outputs (now («node_table» .exit)) (now («output_table» .exit))) ≡ rewrite (graphOf inputs nodes outputs (now («node_table» .entry)) (now («output_table» .entry))) ((inputs + 1 + p) ∷ (inputs + 1 + v) ∷ []) ⌝ }
+{
+    let named = reading::numbers_of(inputs, nodes, outputs, node_table, output_table, p);
+    let node = reading::numbers_of(inputs, nodes, outputs, node_table, output_table, v);
+    let which = words::which_name(node_table, v as usize, inputs + 1 + p);
+    let best = decide::first_pair(named, node, which);
+    let k = best.named;
+    let m = best.node;
+    let before = decide::pair_cost(named, node, which, 0, 0);
+    let after = decide::pair_cost(named, node, which, k, m);
+    write::write_moves(inputs, nodes, outputs, node_table, output_table, p, k, v, m);
+    before - after
+}
+
+// The index that a word of a node names.
+pub fn named_by(inputs: u32, node_table: &[u32], node: u32, word: u32) -> u32
+    requires { ⌜ (inputs < node) × (node ≤ 200000) × (1 ≤ word) × (word ≤ 3) × (3 * (node - (inputs + 1)) + (word - 1) < length (now «node_table»)) ⌝ }
+    ensures { λ r. ⌜ ((n o : ℕ) (os : List ℕ) → r ≡ namedBy (graphOf inputs n o (now («node_table» .entry)) os) node word) ⌝ }
+{
+    let v = node - (inputs + 1);
+    let at = 3 * v as usize + (word - 1) as usize;
+    literal::index_of(node_table[at])
+}
+
+// The best moves of a node and of the node that one of its words names, if it names one; what they save.
+pub fn rewrite_named(
+    inputs: u32,
+    nodes: u32,
+    outputs: u32,
+    node_table: &mut [u32],
+    output_table: &mut [u32],
+    node: u32,
+    word: u32,
+) -> u32
+    requires { ⌜ pairNumber (graphOf inputs nodes outputs (now «node_table») (now «output_table»)) node word ≡ 0 ⌝ }
+    ensures { λ r. ⌜ outcome (accepted (r ∷ [])) (graphOf inputs nodes outputs (now («node_table» .exit)) (now («output_table» .exit))) ≡ pairRewrite (graphOf inputs nodes outputs (now («node_table» .entry)) (now («output_table» .entry))) node word ⌝ }
+{
+    let named = named_by(inputs, node_table, node, word);
+    if named <= inputs {
+        return 0;
+    }
+    let p = named - (inputs + 1);
+    let v = node - (inputs + 1);
+    rewrite_pair(inputs, nodes, outputs, node_table, output_table, p, v)
+}

@@ -1,0 +1,9 @@
+pub mod Fields
+pub mod Noting
+pub mod Edges
+pub mod Rising
+pub mod Falling
+pub mod Turned
+pub mod Bridge
+pub mod Refused
+pub mod Saved

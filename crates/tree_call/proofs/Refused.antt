@@ -1,0 +1,112 @@
+-- Which number refuses a tree call, and what is known where none does. From the laws on tests and on admission.
+use mathlib.Core.Path.{_≡_, refl, _∙_}
+use mathlib.Core.Bool.{Bool, true, false, cond, and-false}
+use mathlib.Core.Logic.{_≢_}
+use Prim.Native.Nat.{ℕ, suc, _*_, _≤_, _<_}
+use native.Mathlib.Omega.{arith}
+use borrow.Author.Tests.{eq-eqb, ne-eqb, ltb-true}
+use lib.Dec.{ltb}
+use Rattle.graph.specs.Finite.{first}
+use Rattle.graph.specs.Graph.{Graph, node}
+use Rattle.graph.specs.Count.{readers, nodeReaders}
+use Rattle.graph.specs.Admission.{admissionNumber, Admitted}
+use Rattle.graph.proofs.Admit.{admitted}
+use Rattle.graph.specs.Answer.{Outcome, outcome, refused}
+use Rattle.graph.proofs.Answers.{first-le, ifLess-le, admission-le, refused-outcome, accepted-outcome}
+use Rattle.graph.proofs.Cases.{cond-le}
+use Rattle.graph.proofs.Tests.{off, both, fault, none, less, no-less}
+use Rattle.moves.specs.Call.{isNode, nodeFault, rootFault, scratchFault, treeNumber, rewrite, treeCall}
+use Rattle.moves.specs.Tree.{isRoot, IsRoot, tree}
+use Rattle.moves.proofs.Readers.{both-true}
+
+-- the test of a root, as the code makes it
+module _ (g : Graph) (u : ℕ) where
+  pub root-several : readers g u ≢ 1 → 0 ≡ rootFault g u
+  unfolding rootFault isRoot
+  root-several d = rw (ne-eqb (readers g u) 1 d)
+
+  pub root-read : nodeReaders g u ≢ 1 → 0 ≡ rootFault g u
+  unfolding rootFault isRoot
+  root-read d = rw (ne-eqb (nodeReaders g u) 1 d, and-false)
+
+  pub no-root : readers g u ≡ 1 → nodeReaders g u ≡ 1 → 7 ≡ rootFault g u
+  unfolding rootFault isRoot
+  no-root a b = rw (eq-eqb (readers g u) 1 a, eq-eqb (nodeReaders g u) 1 b)
+
+passes : (b : Bool) (k : ℕ) → cond b 0 (suc k) ≡ 0 → b ≡ true
+passes true k e = refl
+passes false k e = absurd (omega arith)
+
+module _ (g : Graph) where
+  pub root-known : (u : ℕ) → rootFault g u ≡ 0 → isRoot g u ≡ true
+  unfolding rootFault
+  root-known u e = passes (isRoot g u) 6 e
+
+  pub node-known : (u : ℕ) → nodeFault g u ≡ 0 → (g .I < u) × (u < node g (g .N))
+  unfolding nodeFault isNode
+  node-known u e = let b = both-true (ltb (g .I) u) (ltb u (node g (g .N))) (passes _ 6 e) in (ltb-true _ _ (b .0), ltb-true _ _ (b .1))
+
+  pub scratch-known : (s : ℕ) → scratchFault g s ≡ 0 → 8 * g .N ≤ s
+  unfolding scratchFault
+  scratch-known s e = off s (8 * g .N) 7 0 e .0
+
+  module _ (s r : ℕ) where
+    -- the numbers in their order
+    pub by-admission : (k : ℕ) → k ≡ admissionNumber g → k ≢ 0 → k ≡ treeNumber g s r
+    unfolding treeNumber
+    by-admission k e d = fault (admissionNumber g) _ e (λ z. d (e ∙ z))
+
+    pub by-node : admissionNumber g ≡ 0 → (k : ℕ) → k ≡ nodeFault g r → k ≢ 0 → k ≡ treeNumber g s r
+    unfolding treeNumber
+    by-node a k e d = none (admissionNumber g) _ a (fault (nodeFault g r) _ e (λ z. d (e ∙ z)))
+
+    pub by-rest : admissionNumber g ≡ 0 → nodeFault g r ≡ 0 → (k t m : ℕ) → k ≡ first t m → t ≡ rootFault g r → m ≡ scratchFault g s → k ≡ treeNumber g s r
+    unfolding treeNumber
+    by-rest a n k t m e p q = none (admissionNumber g) _ a (none (nodeFault g r) _ n (e ∙ rw (p, q)))
+
+    node-le : nodeFault g r ≤ 9
+    unfolding nodeFault
+    node-le = cond-le (isNode g r) 0 7 9 (omega arith) (omega arith)
+
+    root-le : rootFault g r ≤ 9
+    unfolding rootFault
+    root-le = cond-le (isRoot g r) 0 7 9 (omega arith) (omega arith)
+
+    scratch-le : scratchFault g s ≤ 9
+    unfolding scratchFault
+    scratch-le = ifLess-le s (8 * g .N) 8 0 9 (omega arith) (omega arith)
+
+    tree-le : treeNumber g s r ≤ 9
+    unfolding treeNumber
+    tree-le = first-le _ _ 9 (omega (arith, admission-le g)) (first-le _ _ 9 node-le (first-le _ _ 9 root-le scratch-le))
+
+    -- what `refused_by` asks of the number
+    pub tree-range : (k : ℕ) → k ≡ treeNumber g s r → k ≢ 0 → (1 ≤ k) × (k ≤ 9)
+    tree-range k e d = (omega (arith, d), omega (arith, tree-le))
+
+    -- what an accepted call may rest on
+    pub accepted-by : treeNumber g s r ≡ 0 → (Admitted g) × (IsRoot g r) × (8 * g .N ≤ s)
+    unfolding treeNumber
+    accepted-by e =
+        let a = both _ _ e in
+        let n = both _ _ (a .1) in
+        let t = both _ _ (n .1) in
+        let h = node-known r (n .0) in
+        (admitted g (a .0), record { after-inputs = h .0; within = h .1; root = root-known r (t .0) }, scratch-known s (t .1))
+
+pub short-scratch : (g : Graph) (s : ℕ) → s < 8 * g .N → 8 ≡ scratchFault g s
+unfolding scratchFault
+short-scratch g s h = less s (8 * g .N) 8 0 h refl
+
+pub long-scratch : (g : Graph) (s : ℕ) → 8 * g .N ≤ s → 0 ≡ scratchFault g s
+unfolding scratchFault
+long-scratch g s h = no-less s (8 * g .N) 8 0 h refl
+
+-- the call, refused and not
+pub refused-call : (g : Graph) (s r k : ℕ) → k ≡ treeNumber g s r → k ≢ 0 → outcome (refused k) g ≡ treeCall g s r
+unfolding treeCall
+refused-call g s r k e d = refused-outcome k (treeNumber g s r) g (rewrite g (tree g r)) e (λ z. d (e ∙ z))
+
+pub accepted-call : (g : Graph) (s r : ℕ) (o : Outcome) → treeNumber g s r ≡ 0 → o ≡ rewrite g (tree g r) → o ≡ treeCall g s r
+unfolding treeCall
+accepted-call g s r o e q = q ∙ accepted-outcome (treeNumber g s r) g (rewrite g (tree g r)) e
