@@ -1,0 +1,10 @@
+pub mod Alike
+pub mod Turned
+pub mod Stands
+pub mod Order
+pub mod Step
+pub mod Stores
+pub mod Made
+pub mod Counting
+pub mod Pairs
+pub mod Pending

@@ -1,0 +1,4 @@
+pub mod moving;
+pub mod state;
+pub mod turning;
+pub mod writing;

@@ -1,0 +1,10 @@
+pub mod Stores
+pub mod Noting
+pub mod LinkSteps
+pub mod Filled
+pub mod CostTable
+pub mod TreeNumbers
+pub mod EdgeCosts
+pub mod Ready
+pub mod CostPass
+pub mod MovePass

@@ -1,0 +1,4 @@
+pub mod Filling
+pub mod Linking
+pub mod Costing
+pub mod Stepping

@@ -1,0 +1,6 @@
+pub mod costs;
+pub mod fields;
+pub mod fill;
+pub mod links;
+pub mod start;
+pub mod trees;
