@@ -32,7 +32,6 @@ record HonestOn (g : Graph) (o : Outcome) : Type 0 where
   keeps : Kept g (o .graph) (savingOf (o .answer))
   still : savingOf (o .answer) ≡ 0 → o .graph ≡ g
 
-
 guarded-honest : (k : ℕ) (g : Graph) (o : Outcome) → Admitted g → HonestOn g o → HonestOn g (guarded k g o)
 unfolding guarded savingOf
 guarded-honest zero g o adm h = h
@@ -52,7 +51,6 @@ cond-honest g false x y p q = q
 
 by-each : (call : Graph → Outcome) → ((g : Graph) → Admitted g → HonestOn g (call g)) → Honest call
 by-each call h = record { keeps = λ g adm. h g adm .keeps; still = λ g adm. h g adm .still }
-
 
 pub node-honest : (at : Graph → ℕ) → Honest (λ g. nodeCall g (at g))
 unfolding nodeCall

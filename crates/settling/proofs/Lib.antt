@@ -1,4 +1,7 @@
 pub mod Calls
 pub mod Steps
 pub mod Rounds
-pub mod Phases
+pub mod Turns
+pub mod Stepping
+pub mod Repeating
+pub mod Answering

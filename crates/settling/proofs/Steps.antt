@@ -86,7 +86,8 @@ module _ (step : ℕ → Progress → Progress) (P : ℕ → Graph → Type 0) (
         saves = s .saves;
         moves = s .moves;
         still = λ p adm e.
-            let x = s .still p adm e in
-            ((x .0),
-            (λ v l. ⊎-elim (λ (q : v ≡ n). rw q (x .1 .1)) (λ (k : v < n). x .1 .0 v k) (eq-or-lt-of-le (le-of-suc-le-suc l))));
+            let x = s .still p adm e in (
+              (x .0),
+              (λ v l. ⊎-elim (λ (q : v ≡ n). rw q (x .1 .1)) (λ (k : v < n). x .1 .0 v k) (eq-or-lt-of-le (le-of-suc-le-suc l))),
+            );
       }

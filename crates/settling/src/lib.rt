@@ -1,4 +1,12 @@
-use graph::Refusal;
+ghost use mathlib.Core.Path.{_≡_};
+ghost use lib.ListN.{length};
+ghost use Rattle.graph.specs.Graph.{graphOf};
+ghost use Rattle.graph.specs.Answer.{outcome, ScratchKept};
+ghost use Rattle.settling.specs.Settle.{settledAnswer, settleCall};
+
+pub mod all;
+pub mod checks;
+pub mod phases;
 
 // What settling answers.
 pub enum Settled {
@@ -8,5 +16,36 @@ pub enum Settled {
         before: u32,
         after: u32,
     },
-    Refused(Refusal),
+    Refused(graph::Refusal),
+}
+
+// Rounds of tree, node and pair calls, until one does not lower C.
+pub fn settle(
+    inputs: u32,
+    nodes: u32,
+    outputs: u32,
+    node_table: &mut [u32],
+    output_table: &mut [u32],
+    scratch: &mut [u32],
+) -> Settled
+    ensures call { λ r. ⌜ outcome (settledAnswer r) (graphOf inputs nodes outputs (now («node_table» .exit)) (now («output_table» .exit))) ≡ settleCall (graphOf inputs nodes outputs (now («node_table» .entry)) (now («output_table» .entry))) (length (now (scratch .entry))) ⌝ }
+    ensures scratch { λ r. ⌜ ScratchKept (settledAnswer r) (now (scratch .entry)) (now (scratch .exit)) ⌝ }
+{
+    let refusal = checks::settle_number(
+        inputs,
+        nodes,
+        outputs,
+        node_table,
+        output_table,
+        scratch.len(),
+    );
+    if refusal != 0 {
+        return Settled::Refused(graph::checks::refused_by(refusal));
+    }
+    let figures = all::settle_admitted(inputs, nodes, outputs, node_table, output_table, scratch);
+    Settled::Rounds {
+        rounds: figures.rounds,
+        before: figures.before,
+        after: figures.after,
+    }
 }

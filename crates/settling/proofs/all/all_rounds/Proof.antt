@@ -1,0 +1,66 @@
+-- `all_rounds` makes rounds until one does not lower C: what is left after each is the rest of settling.
+use mathlib.Core.Path.{_≡_, refl, sym, ap, _∙_}
+use Prim.Native.Nat.{ℕ, _+_, _*_, _≤_, _<_}
+use native.Mathlib.Omega.{arith}
+use lib.ListN.{length}
+use Rattle.graph.specs.Graph.{Graph, graphOf}
+use Rattle.graph.proofs.Adds.{C-le}
+use Rattle.incremental.specs.State.{stands}
+use Rattle.incremental.proofs.Stands.{stands-admitted}
+use Rattle.settling.proofs.Repeating.{Going, count-few, going-first, going-last, going-few, going-more}
+use Rattle.settling.proofs.all.all_rounds.Statement.{statement}
+use Rattle.settling.proofs.all.all_rounds.Tie as tie
+
+abbrev Inv-loop : tie.InvT-loop
+Inv-loop inputs nodes outputs node-table₀ output-table count scratch₀ rounds₀ before₀ after₀ node-table scratch rounds before after =
+    (length node-table ≡ length node-table₀)
+    × Going (length scratch₀) (graphOf inputs nodes outputs node-table₀ output-table) scratch₀ (graphOf inputs nodes outputs node-table output-table) scratch rounds before after
+
+abbrev μ-loop : tie.MeasureT-loop
+μ-loop inputs nodes outputs node-table₀ output-table count scratch₀ rounds₀ before₀ after₀ node-table scratch rounds before after = before
+
+add-before : tie.Need-add-before Inv-loop μ-loop
+add-before c = let s = c .before .before .before in omega (arith, s .pre .1, count-few _ _ (s .pre .0))
+
+loop-holds : tie.Need-loop-holds Inv-loop μ-loop
+loop-holds c = let s = c .before .before .before in (refl, going-first _ _ _ (s .pre .0) _ (s .pre .1))
+
+one-round-requires : tie.Need-one-round-requires Inv-loop μ-loop
+one-round-requires c κs = let l = c .before .before .before in (l .loop .inv .1 .ordered, l .loop .inv .1 .here)
+
+add-rounds : tie.Need-add-rounds Inv-loop μ-loop
+add-rounds c = let l = c .before .before .before .before .before .before .before .before in let s = l .before .before .before .before in omega (arith, going-few _ _ _ _ _ _ _ _ (s .pre .0) (l .loop .inv .1))
+
+loop-less : tie.Need-loop-less Inv-loop μ-loop
+loop-less c = omega arith
+
+loop-again : tie.Need-loop-again Inv-loop μ-loop
+loop-again c =
+    let t = c .before .before .before .before in
+    let l = t .before .before .before .before in
+    (t .one-round .kept .1 .1 .1 .0 ∙ l .loop .inv .0, going-more _ _ _ _ _ _ _ _ (l .loop .inv .1) (omega arith) _ _ _ (rw (l .loop .inv .1 .long) at (t .one-round .ensures)))
+
+same-length : tie.Need-same-length Inv-loop μ-loop
+same-length c = c .before .loop .inv .0
+
+same-length-2 : tie.Need-same-length-2 Inv-loop μ-loop
+same-length-2 c = c .before .loop .inv .1 .long
+
+returns : tie.Need-returns Inv-loop μ-loop
+returns c = going-last _ _ _ _ _ _ _ _ (c .before .loop .inv .1) (omega arith)
+
+pub all-rounds-spec : {M : Type 1} → statement M
+all-rounds-spec =
+    tie.close
+    (tie.spec
+    Inv-loop
+    μ-loop
+    add-before
+    loop-holds
+    one-round-requires
+    add-rounds
+    loop-less
+    loop-again
+    same-length
+    same-length-2
+    returns)

@@ -1,0 +1,52 @@
+-- `settle_admitted` fills scratch, makes all rounds and writes the pending turns out: that is settling.
+use mathlib.Core.Path.{_≡_, sym, ap, _∙_}
+use Rattle.graph.specs.Count.{C}
+use Rattle.settling.proofs.Answering.{settled-to}
+use borrow.Author.Needs.{needs}
+use Rattle.settling.proofs.all.settle_admitted.Statement.{statement}
+use Rattle.settling.proofs.all.settle_admitted.Tie as tie
+
+complemented-requires : tie.Need-complemented-requires
+complemented-requires c κs = search needs
+
+fill-scratch-requires : tie.Need-fill-scratch-requires
+fill-scratch-requires c κs = search needs
+
+all-rounds-requires : tie.Need-all-rounds-requires
+all-rounds-requires c κs =
+    let f = c .before .before .before .before .before in
+    let m = f .before .before .before .before in
+    (f .fill-scratch .ensures .0, m .complemented .ensures .0 ∙ ap C (sym (f .fill-scratch .ensures .1)))
+
+write-out-requires : tie.Need-write-out-requires
+write-out-requires c κs = let a = c .before .before .before .before .before .before .before in a .all-rounds .ensures .ordered
+
+same-length : tie.Need-same-length
+same-length c = search needs
+
+same-length-2 : tie.Need-same-length-2
+same-length-2 c = search needs
+
+same-length-3 : tie.Need-same-length-3
+same-length-3 c = search needs
+
+returns : tie.Need-returns
+returns c =
+    let w = c .before .before .before .before in
+    let a = w .before .before .before .before .before .before .before .before in
+    let f = a .before .before .before .before .before .before in
+    let m = f .before .before .before .before in
+    settled-to _ _ _ _ _ _ _ _ _ _ (f .fill-scratch .kept .1 .1 .1 .1 .1 .0) (f .fill-scratch .ensures .1) (a .all-rounds .ensures) (w .write-out .ensures) (m .complemented .ensures .0)
+
+pub settle-admitted-spec : {M : Type 1} → statement M
+settle-admitted-spec =
+    tie.close
+    (tie.spec
+    complemented-requires
+    fill-scratch-requires
+    all-rounds-requires
+    write-out-requires
+    same-length
+    same-length-2
+    same-length-3
+    returns)

@@ -1,0 +1,64 @@
+-- `single_calls` makes the node call at each node: its loop has made those at the nodes below v.
+use mathlib.Core.Path.{_≡_, refl, sym, ap, _∙_}
+use Prim.Native.Nat.{ℕ, _+_, _-_, _≤_, _<_}
+use native.Mathlib.Omega.{arith}
+use lib.ListN.{length}
+use Rattle.graph.specs.Graph.{Graph, graphOf}
+use Rattle.settling.specs.Round.{each, nodeAt}
+use Rattle.settling.specs.Phase.{Phase}
+use Rattle.settling.proofs.Stepping.{each-none, each-more, node-phase}
+use Rattle.settling.proofs.phases.single_calls.Statement.{statement}
+use Rattle.settling.proofs.phases.single_calls.Tie as tie
+
+abbrev Inv-loop : tie.InvT-loop
+Inv-loop inputs nodes outputs node-table₀ output-table count scratch₀ end c₀ v₀ node-table scratch c v =
+    (v ≤ nodes) × (end ≡ nodes) × (length node-table ≡ length node-table₀)
+    × Phase (each nodeAt v) (graphOf inputs nodes outputs node-table₀ output-table) scratch₀ (graphOf inputs nodes outputs node-table output-table) scratch c
+
+abbrev μ-loop : tie.MeasureT-loop
+μ-loop inputs nodes outputs node-table₀ output-table count scratch₀ end c₀ v₀ node-table scratch c v = end - v
+
+loop-holds : tie.Need-loop-holds Inv-loop μ-loop
+loop-holds c = let s = c .before .before .before in (omega arith, refl, refl, each-none nodeAt _ _ _ (s .pre .0) (s .pre .1))
+
+node-step-requires : tie.Need-node-step-requires Inv-loop μ-loop
+node-step-requires c κs = let l = c .before .before .before in (l .loop .inv .3 .ordered, omega arith, l .loop .inv .3 .count)
+
+add-v : tie.Need-add-v Inv-loop μ-loop
+add-v c = omega arith
+
+loop-less : tie.Need-loop-less Inv-loop μ-loop
+loop-less c = omega arith
+
+loop-again : tie.Need-loop-again Inv-loop μ-loop
+loop-again c =
+    let t = c .before .before .before .before in
+    let l = t .before .before .before .before in
+    (omega arith, refl, t .node-step .kept .1 .1 .1 .0 ∙ l .loop .inv .2, each-more nodeAt _ _ (l .loop .v) _ _ _ _ _ _ (l .loop .inv .3) (node-phase _ _ (l .loop .inv .3 .ordered) (l .loop .v) (omega arith) _ _ _ (t .node-step .ensures)))
+
+same-length : tie.Need-same-length Inv-loop μ-loop
+same-length c = c .before .loop .inv .2
+
+same-length-2 : tie.Need-same-length-2 Inv-loop μ-loop
+same-length-2 c = c .before .loop .inv .3 .long
+
+returns : tie.Need-returns Inv-loop μ-loop
+returns c =
+    let l = c .before in
+    let e : l .loop .v ≡ l .before .before .before .before .args .nodes = omega arith in
+    rw e at (l .loop .inv .3)
+
+pub single-calls-spec : {M : Type 1} → statement M
+single-calls-spec =
+    tie.close
+    (tie.spec
+    Inv-loop
+    μ-loop
+    loop-holds
+    node-step-requires
+    add-v
+    loop-less
+    loop-again
+    same-length
+    same-length-2
+    returns)

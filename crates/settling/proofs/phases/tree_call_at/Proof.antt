@@ -1,0 +1,62 @@
+-- `tree_call_at` makes the tree call at a root, which the mark in field 3 tells, and nothing elsewhere.
+use native.Mathlib.Omega.{arith}
+use Rattle.graph.specs.Graph.{Graph, graphOf}
+use Rattle.settling.proofs.Stepping.{marked-root, unmarked-inner, tree-idle, tree-phase}
+use borrow.Author.Needs.{needs}
+use Rattle.settling.proofs.phases.tree_call_at.Statement.{statement}
+use Rattle.settling.proofs.phases.tree_call_at.Tie as tie
+
+abbrev graph-of : tie.Start → Graph
+graph-of s = graphOf (s .args .inputs) (s .args .nodes) (s .args .outputs) (s .args .node-table .now) (s .args .output-table .now)
+
+mul-only : tie.Need-mul-only
+mul-only c = search needs
+
+add-only : tie.Need-add-only
+add-only c = search needs
+
+mul-if1 : tie.Need-mul-if1
+mul-if1 c = search needs
+
+slice-read-if1 : tie.Need-slice-read-if1
+slice-read-if1 c = search needs
+
+returns : tie.Need-returns
+returns c =
+    let s = c .before .before .before .before .before in
+    tree-idle (graph-of s) (s .args .scratch .now) (s .pre .0) (s .args .v) (s .pre .1) (s .args .count) (s .pre .2)
+    (unmarked-inner (graph-of s) (s .args .scratch .now) (s .pre .0) (s .args .v) (s .pre .1) (c .if1 .taken))
+
+tree-step-requires : tie.Need-tree-step-requires
+tree-step-requires c κs =
+    let l = c .before .before in
+    let s = l .before .before .before .before .before in
+    (s .pre .0, s .pre .1, marked-root (graph-of s) (s .args .scratch .now) (s .pre .0) (s .args .v) (s .pre .1) (l .if1 .left), s .pre .2)
+
+same-length : tie.Need-same-length
+same-length c = search needs
+
+same-length-2 : tie.Need-same-length-2
+same-length-2 c = search needs
+
+returns-2 : tie.Need-returns-2
+returns-2 c =
+    let t = c .before .before .before .before in
+    let l = t .before .before .before in
+    let s = l .before .before .before .before .before in
+    tree-phase (graph-of s) (s .args .scratch .now) (s .pre .0) (s .args .v) (s .pre .1)
+    (marked-root (graph-of s) (s .args .scratch .now) (s .pre .0) (s .args .v) (s .pre .1) (l .if1 .left)) _ _ _ (t .tree-step .ensures)
+
+pub tree-call-at-spec : {M : Type 1} → statement M
+tree-call-at-spec =
+    tie.close
+    (tie.spec
+    mul-only
+    add-only
+    mul-if1
+    slice-read-if1
+    returns
+    tree-step-requires
+    same-length
+    same-length-2
+    returns-2)

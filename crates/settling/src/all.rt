@@ -1,0 +1,121 @@
+// Rounds, until one does not lower C.
+ghost use mathlib.Core.Path.{_≡_};
+ghost use Prim.Native.Nat.{_*_, _≤_};
+ghost use lib.ListN.{length};
+ghost use Rattle.graph.specs.Admission.{Admitted};
+ghost use Rattle.graph.specs.Graph.{graphOf};
+ghost use Rattle.graph.specs.Count.{C};
+ghost use Rattle.incremental.specs.State.{stands, Ordered};
+ghost use Rattle.settling.specs.Phase.{Phase, AllRounds, SettledTo, phases};
+use crate::phases;
+
+// The rounds made, and C after them.
+pub struct Tally {
+    pub rounds: u32,
+    pub count: u32,
+}
+
+// The rounds made, with C before and after.
+pub struct Figures {
+    pub rounds: u32,
+    pub before: u32,
+    pub after: u32,
+}
+
+pub fn one_round(
+    inputs: u32,
+    nodes: u32,
+    outputs: u32,
+    node_table: &mut [u32],
+    output_table: &[u32],
+    count: u32,
+    scratch: &mut [u32],
+) -> u32
+    requires { ⌜ Ordered (graphOf inputs nodes outputs (now «node_table») (now «output_table»)) (now scratch) × (count ≡ C (stands (graphOf inputs nodes outputs (now «node_table») (now «output_table»)) (now scratch))) ⌝ }
+    ensures { λ r. ⌜ Phase (phases (length (now (scratch .entry))) nodes) (graphOf inputs nodes outputs (now («node_table» .entry)) (now («output_table» .entry))) (now (scratch .entry)) (graphOf inputs nodes outputs (now («node_table» .exit)) (now («output_table» .entry))) (now (scratch .exit)) r ⌝ }
+{
+    let a = phases::tree_calls(
+        inputs,
+        nodes,
+        outputs,
+        node_table,
+        output_table,
+        count,
+        scratch,
+    );
+    let b = phases::single_calls(inputs, nodes, outputs, node_table, output_table, a, scratch);
+    phases::pair_calls(inputs, nodes, outputs, node_table, output_table, b, scratch)
+}
+
+// The first round is always made: it starts as if C had just fallen.
+pub fn all_rounds(
+    inputs: u32,
+    nodes: u32,
+    outputs: u32,
+    node_table: &mut [u32],
+    output_table: &[u32],
+    count: u32,
+    scratch: &mut [u32],
+) -> Tally
+    requires { ⌜ Ordered (graphOf inputs nodes outputs (now «node_table») (now «output_table»)) (now scratch) × (count ≡ C (stands (graphOf inputs nodes outputs (now «node_table») (now «output_table»)) (now scratch))) ⌝ }
+    ensures { λ r. ⌜ AllRounds (length (now (scratch .entry))) (graphOf inputs nodes outputs (now («node_table» .entry)) (now («output_table» .entry))) (now (scratch .entry)) (graphOf inputs nodes outputs (now («node_table» .exit)) (now («output_table» .entry))) (now (scratch .exit)) (r .rounds) (r .count) ⌝ }
+{
+    let mut rounds: u32 = 0;
+    let mut before = count + 1;
+    let mut after = count;
+    while after < before {
+        before = after;
+        after = one_round(
+            inputs,
+            nodes,
+            outputs,
+            node_table,
+            output_table,
+            before,
+            scratch,
+        );
+        rounds += 1;
+    }
+    Tally {
+        rounds,
+        count: after,
+    }
+}
+
+// Settling an admitted graph: scratch is filled, all rounds are made, and the turns that are still pending are written out.
+pub fn settle_admitted(
+    inputs: u32,
+    nodes: u32,
+    outputs: u32,
+    node_table: &mut [u32],
+    output_table: &mut [u32],
+    scratch: &mut [u32],
+) -> Figures
+    requires { ⌜ Admitted (graphOf inputs nodes outputs (now «node_table») (now «output_table»)) × (8 * nodes ≤ length (now scratch)) ⌝ }
+    ensures { λ r. ⌜ SettledTo (length (now (scratch .entry))) (graphOf inputs nodes outputs (now («node_table» .entry)) (now («output_table» .entry))) (graphOf inputs nodes outputs (now («node_table» .exit)) (now («output_table» .exit))) (r .rounds) (r .before) (r .after) ⌝ }
+{
+    let before = graph::edges::complemented(inputs, nodes, outputs, node_table, output_table);
+    incremental_trees::start::fill_scratch(
+        inputs,
+        nodes,
+        outputs,
+        node_table,
+        output_table,
+        scratch,
+    );
+    let tally = all_rounds(
+        inputs,
+        nodes,
+        outputs,
+        node_table,
+        output_table,
+        before,
+        scratch,
+    );
+    incremental::writing::write_out(inputs, nodes, outputs, node_table, output_table, scratch);
+    Figures {
+        rounds: tally.rounds,
+        before,
+        after: tally.count,
+    }
+}
