@@ -6,6 +6,8 @@
 //   8 words of the output table, 9 further bytes, 10 length of the result slice, 11 bytes of the body.
 // The body is the further bytes, the node table, the output table; zeros at its end are left out.
 mod answers;
+mod calls;
+mod lists;
 mod print;
 mod read;
 mod run;

@@ -16,7 +16,7 @@ pub fn value_of_literal(g: &Graph, assignment: &[bool], literal: u32) -> bool {
             x != y
         } else {
             let z = value_of_literal(g, assignment, g.word(index, 2));
-            (x && y) || (x && z) || (y && z)
+            (x & y) | (x & z) | (y & z)
         }
     };
     value != is_odd(literal)
@@ -50,7 +50,12 @@ pub fn output_values(g: &Graph, assignment: &[bool]) -> Vec<bool> {
 }
 
 /// Evaluation with `scratch` words of scratch; `results` is left alone when refused.
-pub fn evaluate(g: &Graph, input_words: &[u64], scratch: usize, results: &mut [u64]) -> Result<(), Number> {
+pub fn evaluate(
+    g: &Graph,
+    input_words: &[u64],
+    scratch: usize,
+    results: &mut [u64],
+) -> Result<(), Number> {
     check_limits(g.inputs, g.nodes, g.outputs)?;
     check_tables(g.nodes, g.outputs, g.node_table.len(), g.output_table.len())?;
     if input_words.len() < g.inputs as usize || results.len() < g.outputs as usize {
@@ -62,8 +67,10 @@ pub fn evaluate(g: &Graph, input_words: &[u64], scratch: usize, results: &mut [u
     }
     let mut filled = vec![0u64; g.outputs as usize];
     for place in 0..64 {
-        let assignment: Vec<bool> =
-            input_words[..g.inputs as usize].iter().map(|word| (word >> place) % 2 == 1).collect();
+        let assignment: Vec<bool> = input_words[..g.inputs as usize]
+            .iter()
+            .map(|word| (word >> place) % 2 == 1)
+            .collect();
         for (output, &value) in output_values(g, &assignment).iter().enumerate() {
             if value {
                 filled[output] += 1 << place;

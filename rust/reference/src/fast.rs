@@ -34,7 +34,13 @@ impl Fast {
             root[at] = above[at] == node;
             trees[above[at] as usize].push(node);
         }
-        Fast { g, readers, root, trees, costs: vec![[None; 2]; size] }
+        Fast {
+            g,
+            readers,
+            root,
+            trees,
+            costs: vec![[None; 2]; size],
+        }
     }
 
     fn make(&mut self, node: u32, number: usize) {
@@ -52,7 +58,9 @@ impl Fast {
     }
 
     fn own(&self, node: u32) -> Vec<Place> {
-        (0..self.g.words_of(node)).map(|word| Place::OfNode(node, word)).collect()
+        (0..self.g.words_of(node))
+            .map(|word| Place::OfNode(node, word))
+            .collect()
     }
 
     fn count(&self, places: &[Place]) -> u32 {
@@ -143,10 +151,16 @@ impl Fast {
         let odd = self.count(places);
         let other = places.len() as u32 - odd;
         let cost = |number: usize| {
-            let read = if rows(&self.g, node)[number].readers { other } else { odd };
+            let read = if rows(&self.g, node)[number].readers {
+                other
+            } else {
+                odd
+            };
             read + self.move_cost(node, number)
         };
-        (0..rows(&self.g, node).len()).min_by_key(|&number| (cost(number), number)).expect("move 0")
+        (0..rows(&self.g, node).len())
+            .min_by_key(|&number| (cost(number), number))
+            .expect("move 0")
     }
 
     pub fn tree_call(&mut self, root: u32) -> u32 {
@@ -195,7 +209,11 @@ impl Fast {
             rounds += 1;
             after -= saved;
             if saved == 0 {
-                return Settled { rounds, before, after };
+                return Settled {
+                    rounds,
+                    before,
+                    after,
+                };
             }
         }
     }

@@ -45,7 +45,10 @@ pub fn field_number(bytes: &[u8]) -> Number {
 }
 
 fn numbers(payload: &[u8]) -> Vec<u32> {
-    payload.chunks(4).map(|four| four.iter().fold(0u32, |sum, &byte| sum * 256 + byte as u32)).collect()
+    payload
+        .chunks(4)
+        .map(|four| four.iter().fold(0u32, |sum, &byte| sum * 256 + byte as u32))
+        .collect()
 }
 
 /// The words that a file holds, from front to back, with the first fault.
@@ -84,11 +87,21 @@ fn parse(file: &[u8], node_words: usize, output_words: usize) -> Result<Graph, N
     if at != file.len() {
         return Err(6);
     }
-    Ok(Graph { inputs, nodes, outputs, node_table, output_table })
+    Ok(Graph {
+        inputs,
+        nodes,
+        outputs,
+        node_table,
+        output_table,
+    })
 }
 
 /// I, N and O, with the tables filled; refused, the tables are left alone.
-pub fn load(file: &[u8], node_table: &mut [u32], output_table: &mut [u32]) -> Result<(u32, u32, u32), Number> {
+pub fn load(
+    file: &[u8],
+    node_table: &mut [u32],
+    output_table: &mut [u32],
+) -> Result<(u32, u32, u32), Number> {
     let g = parse(file, node_table.len(), output_table.len())?;
     node_table[..g.node_table.len()].copy_from_slice(&g.node_table);
     output_table[..g.output_table.len()].copy_from_slice(&g.output_table);
@@ -110,7 +123,9 @@ pub fn file_of(g: &Graph) -> Vec<u8> {
     let mut file = Vec::new();
     put_field(&mut file, 1, &[g.inputs, g.nodes, g.outputs]);
     for node in g.node_indices() {
-        let words: Vec<u32> = (0..g.words_of(node)).map(|word| g.word(node, word)).collect();
+        let words: Vec<u32> = (0..g.words_of(node))
+            .map(|word| g.word(node, word))
+            .collect();
         put_field(&mut file, if words.len() == 2 { 3 } else { 2 }, &words);
     }
     for output in 0..g.outputs as usize {

@@ -80,7 +80,13 @@ fn pick(random: &mut Random, shape: Shape, inputs: u32, node: u32, unread: &mut 
     }
 }
 
-fn node_words(random: &mut Random, shape: Shape, inputs: u32, node: u32, unread: &mut Vec<u32>) -> [u32; 3] {
+fn node_words(
+    random: &mut Random,
+    shape: Shape,
+    inputs: u32,
+    node: u32,
+    unread: &mut Vec<u32>,
+) -> [u32; 3] {
     let xor = match shape {
         Shape::Xor => !random.one_in(6),
         Shape::Chain => random.one_in(4),
@@ -129,7 +135,13 @@ pub fn graph(random: &mut Random, shape: Shape, inputs: u32, nodes: u32, outputs
         };
         output_table.push(2 * index + random.bit());
     }
-    Graph { inputs, nodes, outputs, node_table, output_table }
+    Graph {
+        inputs,
+        nodes,
+        outputs,
+        node_table,
+        output_table,
+    }
 }
 
 /// A graph whose three counts are random too, up to the bounds given.
@@ -145,7 +157,11 @@ pub fn small(random: &mut Random, most_inputs: u32, most_nodes: u32, most_output
 pub fn with_tails(random: &mut Random, mut g: Graph, most: u32) -> Graph {
     for table in [&mut g.node_table, &mut g.output_table] {
         for _ in 0..random.between(0, most) {
-            let word = if random.one_in(4) { MARK } else { random.below(1000) };
+            let word = if random.one_in(4) {
+                MARK
+            } else {
+                random.below(1000)
+            };
             table.push(word);
         }
     }

@@ -90,7 +90,9 @@ impl Graph {
                 let at = self.base(node) + word;
                 self.node_table[at] = turned(self.node_table[at]);
             }
-            Place::OfOutput(output) => self.output_table[output] = turned(self.output_table[output]),
+            Place::OfOutput(output) => {
+                self.output_table[output] = turned(self.output_table[output])
+            }
         }
     }
 
@@ -114,7 +116,10 @@ impl Graph {
     }
 
     pub fn readers(&self, node: u32) -> Vec<Place> {
-        self.edges().into_iter().filter(|&place| index_of(self.at(place)) == node).collect()
+        self.edges()
+            .into_iter()
+            .filter(|&place| index_of(self.at(place)) == node)
+            .collect()
     }
 
     /// Every word with its complement bit off, and every mark.
@@ -138,7 +143,12 @@ pub fn check_limits(inputs: u32, nodes: u32, outputs: u32) -> Result<(), Number>
     }
 }
 
-pub fn check_tables(nodes: u32, outputs: u32, node_words: usize, output_words: usize) -> Result<(), Number> {
+pub fn check_tables(
+    nodes: u32,
+    outputs: u32,
+    node_words: usize,
+    output_words: usize,
+) -> Result<(), Number> {
     if (node_words as u64) < 3 * nodes as u64 || (output_words as u64) < outputs as u64 {
         Err(4)
     } else {

@@ -14,6 +14,7 @@ pub mod moves;
 pub mod random;
 pub mod settling;
 pub mod trees;
+pub mod vectors;
 
 #[cfg(test)]
 mod tests;

@@ -9,7 +9,10 @@ pub struct Row {
 }
 
 const fn row(one: bool, two: bool, three: bool, readers: bool) -> Row {
-    Row { words: [one, two, three], readers }
+    Row {
+        words: [one, two, three],
+        readers,
+    }
 }
 
 const MAJORITY: [Row; 2] = [row(false, false, false, false), row(true, true, true, true)];
@@ -74,7 +77,7 @@ pub fn best(g: &Graph, nodes: &[u32]) -> Vec<usize> {
     let mut least: Option<(u32, Vec<usize>)> = None;
     for list in all_lists(g, nodes) {
         let c = after(g, nodes, &list).c();
-        if least.as_ref().map_or(true, |found| c < found.0) {
+        if least.as_ref().is_none_or(|found| c < found.0) {
             least = Some((c, list));
         }
     }
@@ -83,7 +86,9 @@ pub fn best(g: &Graph, nodes: &[u32]) -> Vec<usize> {
 
 /// How many lists of moves there are, or none if that is beyond counting.
 pub fn how_many(g: &Graph, nodes: &[u32]) -> Option<u64> {
-    nodes.iter().try_fold(1u64, |product, &node| product.checked_mul(rows(g, node).len() as u64))
+    nodes.iter().try_fold(1u64, |product, &node| {
+        product.checked_mul(rows(g, node).len() as u64)
+    })
 }
 
 fn make_best(g: &mut Graph, nodes: &[u32], list: &[usize]) -> u32 {
@@ -135,7 +140,10 @@ fn leads_to(g: &Graph, node: u32, root: u32) -> bool {
 
 /// The tree of a root by falling index.
 pub fn tree(g: &Graph, root: u32) -> Vec<u32> {
-    g.node_indices().rev().filter(|&node| leads_to(g, node, root)).collect()
+    g.node_indices()
+        .rev()
+        .filter(|&node| leads_to(g, node, root))
+        .collect()
 }
 
 fn check_tree_call(g: &Graph, root: u32, scratch: usize) -> Result<(), Number> {

@@ -42,7 +42,11 @@ pub fn settle(g: &mut Graph, scratch: usize) -> Result<Settled, Number> {
         round(g);
         rounds += 1;
         if g.c() >= start {
-            return Ok(Settled { rounds, before, after: g.c() });
+            return Ok(Settled {
+                rounds,
+                before,
+                after: g.c(),
+            });
         }
     }
 }

@@ -4,7 +4,9 @@ use crate::fast::Fast;
 use crate::file::{field, field_number, file_of, load, write};
 use crate::generate::{graph, small, with_tails, Shape, SHAPES};
 use crate::graph::{admit, complemented_edges, Graph, MARK};
-use crate::moves::{all_lists, best, how_many, is_root, node_call, pair_call, tree, tree_call, tree_call_by};
+use crate::moves::{
+    all_lists, best, how_many, is_root, node_call, pair_call, tree, tree_call, tree_call_by,
+};
 use crate::random::Random;
 use crate::settling::{settle, Settled};
 use crate::trees::best_of_tree;
@@ -29,30 +31,86 @@ fn goes(mut before: Graph, call: Call, after: Graph, from: u32, to: u32) {
 
 #[test]
 fn p1_to_p10() {
-    goes(of(3, &[[3, 5, 7]], &[9]), Call::Node(4), of(3, &[[2, 4, 6]], &[8]), 4, 0);
+    goes(
+        of(3, &[[3, 5, 7]], &[9]),
+        Call::Node(4),
+        of(3, &[[2, 4, 6]], &[8]),
+        4,
+        0,
+    );
     let p2 = of(5, &[[3, 5, 6], [13, 8, 11]], &[14]);
-    goes(p2, Call::Tree(7), of(5, &[[2, 4, 7], [12, 8, 11]], &[14]), 4, 2);
+    goes(
+        p2,
+        Call::Tree(7),
+        of(5, &[[2, 4, 7], [12, 8, 11]], &[14]),
+        4,
+        2,
+    );
     let p3 = of(5, &[[3, 5, 6], [12, 9, 10]], &[15]);
-    goes(p3.clone(), Call::Pair(7, 1), of(5, &[[2, 4, 7], [12, 8, 11]], &[14]), 4, 2);
+    goes(
+        p3.clone(),
+        Call::Pair(7, 1),
+        of(5, &[[2, 4, 7], [12, 8, 11]], &[14]),
+        4,
+        2,
+    );
     goes(p3.clone(), Call::Node(6), p3.clone(), 4, 4);
     goes(p3.clone(), Call::Node(7), p3, 4, 4);
-    goes(of(2, &[[3, 5, MARK]], &[6]), Call::Node(3), of(2, &[[2, 4, MARK]], &[6]), 2, 0);
+    goes(
+        of(2, &[[3, 5, MARK]], &[6]),
+        Call::Node(3),
+        of(2, &[[2, 4, MARK]], &[6]),
+        2,
+        0,
+    );
     assert_eq!(best(&of(2, &[[3, 5, MARK]], &[6]), &[3]), [1]);
-    goes(of(2, &[[3, 4, MARK]], &[7]), Call::Node(3), of(2, &[[2, 4, MARK]], &[6]), 2, 0);
+    goes(
+        of(2, &[[3, 4, MARK]], &[7]),
+        Call::Node(3),
+        of(2, &[[2, 4, MARK]], &[6]),
+        2,
+        0,
+    );
     assert_eq!(best(&of(2, &[[3, 4, MARK]], &[7]), &[3]), [2]);
-    goes(of(2, &[[0, 3, 5]], &[6]), Call::Node(3), of(2, &[[1, 2, 4]], &[7]), 2, 1);
+    goes(
+        of(2, &[[0, 3, 5]], &[6]),
+        Call::Node(3),
+        of(2, &[[1, 2, 4]], &[7]),
+        2,
+        1,
+    );
     let p8 = of(2, &[[2, 2, 5]], &[6]);
     goes(p8.clone(), Call::Tree(3), p8, 1, 1);
-    goes(of(3, &[[3, 5, 6]], &[9, 8]), Call::Node(4), of(3, &[[2, 4, 7]], &[8, 9]), 3, 2);
+    goes(
+        of(3, &[[3, 5, 6]], &[9, 8]),
+        Call::Node(4),
+        of(3, &[[2, 4, 7]], &[8, 9]),
+        3,
+        2,
+    );
     let mut p10 = of(1, &[], &[3]);
-    assert_eq!(settle(&mut p10, 0), Ok(Settled { rounds: 1, before: 1, after: 1 }));
+    assert_eq!(
+        settle(&mut p10, 0),
+        Ok(Settled {
+            rounds: 1,
+            before: 1,
+            after: 1
+        })
+    );
     assert_eq!(p10, of(1, &[], &[3]));
 }
 
 #[test]
 fn the_report_of_p1() {
     let mut p1 = of(3, &[[3, 5, 7]], &[9]);
-    assert_eq!(settle(&mut p1, 8), Ok(Settled { rounds: 2, before: 4, after: 0 }));
+    assert_eq!(
+        settle(&mut p1, 8),
+        Ok(Settled {
+            rounds: 2,
+            before: 4,
+            after: 0
+        })
+    );
     assert_eq!(p1, of(3, &[[2, 4, 6]], &[8]));
 }
 
@@ -76,17 +134,26 @@ fn edges_of_the_limits() {
     assert_eq!(load(&file, &mut tables.0[..2], &mut tables.1), Err(4));
     let full = of(0, &vec![[0, 1, MARK]; 100_000], &[]);
     let mut table = vec![7; 300_001];
-    assert_eq!(load(&file_of(&full), &mut table, &mut []), Ok((0, 100_000, 0)));
+    assert_eq!(
+        load(&file_of(&full), &mut table, &mut []),
+        Ok((0, 100_000, 0))
+    );
     assert_eq!(table[300_000], 7);
     assert_eq!(table[..300_000], full.node_table[..]);
-    assert_eq!(load(&file_of(&full), &mut table[..299_999], &mut []), Err(4));
+    assert_eq!(
+        load(&file_of(&full), &mut table[..299_999], &mut []),
+        Err(4)
+    );
     let over = of(0, &vec![[0, 1, MARK]; 100_001], &[]);
     let mut table = vec![7; 300_003];
     assert_eq!(load(&file_of(&over), &mut table, &mut []), Err(3));
     assert_eq!(admit(&over), Err(3));
     let mut results = [0; 2];
     let majority = of(3, &[[2, 4, 6]], &[8]);
-    assert_eq!(evaluate(&majority, &[0xf0, 0xcc, 0xaa], 1, &mut results), Ok(()));
+    assert_eq!(
+        evaluate(&majority, &[0xf0, 0xcc, 0xaa], 1, &mut results),
+        Ok(())
+    );
     assert_eq!(results, [0xe8, 0]);
 }
 
@@ -113,7 +180,10 @@ fn refusals() {
     let mut buffer = vec![1; file.len() - 1];
     assert_eq!(write(&g, &mut buffer), Err(9));
     let one = of(3, &[[3, 5, 7], [8, 6, MARK]], &[10]);
-    assert_eq!(step(&mut one.clone(), Call::Tree(4), 16), Answer::Refused(7));
+    assert_eq!(
+        step(&mut one.clone(), Call::Tree(4), 16),
+        Answer::Refused(7)
+    );
     assert_eq!(step(&mut one.clone(), Call::Tree(4), 0), Answer::Refused(7));
     assert_eq!(tree(&one, 5), [5, 4]);
 }
@@ -170,16 +240,24 @@ fn trees_by_branches_are_the_best_lists() {
     let mut deepest = 0;
     let mut several = 0;
     while tried < 12_000 {
-        let shape = if random.one_in(2) { Shape::Tree } else { SHAPES[random.below(8) as usize] };
+        let shape = if random.one_in(2) {
+            Shape::Tree
+        } else {
+            SHAPES[random.below(8) as usize]
+        };
         let (inputs, outputs) = (random.below(5), random.below(5));
         let nodes = random.below(10);
         let g = graph(&mut random, shape, inputs, nodes, outputs);
         for root in g.node_indices().filter(|&node| is_root(&g, node)) {
             let nodes = tree(&g, root);
-            if how_many(&g, &nodes).map_or(true, |lists| lists > 1024) {
+            if how_many(&g, &nodes).is_none_or(|lists| lists > 1024) {
                 continue;
             }
-            assert_eq!(best_of_tree(&g, &nodes), best(&g, &nodes), "{g:?} at {root}");
+            assert_eq!(
+                best_of_tree(&g, &nodes),
+                best(&g, &nodes),
+                "{g:?} at {root}"
+            );
             tried += 1;
             deepest = deepest.max(nodes.len());
             several += (nodes.len() >= 4) as u32;
@@ -201,7 +279,10 @@ fn fast_calls_are_the_plain_calls() {
             for word in 1..=plain.words_of(node) as u32 {
                 let mut fast = Fast::new(plain.clone());
                 let mut slow = plain.clone();
-                assert_eq!(Ok(fast.pair_call(node, word)), pair_call(&mut slow, node, word));
+                assert_eq!(
+                    Ok(fast.pair_call(node, word)),
+                    pair_call(&mut slow, node, word)
+                );
                 assert_eq!(fast.g, slow);
             }
             if is_root(&plain, node) && how_many(&plain, &tree(&plain, node)) <= Some(256) {
@@ -249,7 +330,10 @@ fn large_trees() {
             if nodes.len() > 100 {
                 let mut slow = g.clone();
                 let mut fast = Fast::new(g.clone());
-                assert_eq!(Ok(fast.tree_call(root)), tree_call_by(&mut slow, root, 3_200, &best_of_tree));
+                assert_eq!(
+                    Ok(fast.tree_call(root)),
+                    tree_call_by(&mut slow, root, 3_200, &best_of_tree)
+                );
                 assert_eq!(fast.g, slow);
             }
         }
@@ -288,8 +372,14 @@ fn what_calls_promise() {
                 Answer::Refused(_) => assert_eq!(before, now),
             }
             assert_eq!(before.wiring(), now.wiring());
-            assert_eq!(before.node_table[3 * g.nodes as usize..], now.node_table[3 * g.nodes as usize..]);
-            assert_eq!(before.output_table[g.outputs as usize..], now.output_table[g.outputs as usize..]);
+            assert_eq!(
+                before.node_table[3 * g.nodes as usize..],
+                now.node_table[3 * g.nodes as usize..]
+            );
+            assert_eq!(
+                before.output_table[g.outputs as usize..],
+                now.output_table[g.outputs as usize..]
+            );
         }
         assert_eq!(run(&mut g.clone(), &calls, 64).len(), calls.len());
         let bits = assignment(&mut random, g.inputs);
@@ -306,7 +396,10 @@ fn values_two_ways() {
         let all = values(&g, &bits);
         for index in 0..=g.inputs + g.nodes {
             assert_eq!(value_of_literal(&g, &bits, 2 * index), all[index as usize]);
-            assert_eq!(value_of_literal(&g, &bits, 2 * index + 1), !all[index as usize]);
+            assert_eq!(
+                value_of_literal(&g, &bits, 2 * index + 1),
+                !all[index as usize]
+            );
         }
     }
 }
@@ -319,12 +412,20 @@ fn files_come_back() {
         let file = file_of(&g);
         let mut node_table = vec![1; 30];
         let mut output_table = vec![2; 12];
-        assert_eq!(load(&file, &mut node_table, &mut output_table), Ok((g.inputs, g.nodes, g.outputs)));
+        assert_eq!(
+            load(&file, &mut node_table, &mut output_table),
+            Ok((g.inputs, g.nodes, g.outputs))
+        );
         assert_eq!(node_table[..g.node_table.len()], g.node_table[..]);
         assert_eq!(output_table[..g.output_table.len()], g.output_table[..]);
-        assert!(node_table[g.node_table.len()..].iter().all(|&word| word == 1));
+        assert!(node_table[g.node_table.len()..]
+            .iter()
+            .all(|&word| word == 1));
         for cut in 0..file.len() {
-            assert_eq!(load(&file[..cut], &mut node_table, &mut output_table), Err(1));
+            assert_eq!(
+                load(&file[..cut], &mut node_table, &mut output_table),
+                Err(1)
+            );
         }
         let mut longer = file.clone();
         longer.push(random.below(256) as u8);

@@ -26,14 +26,22 @@ impl Tree<'_> {
             return adds(literal);
         }
         let stays = self.least(index, false).map(|below| below + adds(literal));
-        let turns = self.least(index, true).map(|below| below + adds(turned(literal)));
-        [stays, turns].into_iter().flatten().min().expect("move 0 is always there")
+        let turns = self
+            .least(index, true)
+            .map(|below| below + adds(turned(literal)));
+        [stays, turns]
+            .into_iter()
+            .flatten()
+            .min()
+            .expect("move 0 is always there")
     }
 
     /// The least of a node's own words and all below it, its move given.
     fn move_cost(&mut self, node: u32, number: usize) -> u32 {
         let row = &rows(self.g, node)[number];
-        (0..self.g.words_of(node)).map(|word| self.word_cost(self.g.word(node, word), row.words[word])).sum()
+        (0..self.g.words_of(node))
+            .map(|word| self.word_cost(self.g.word(node, word), row.words[word]))
+            .sum()
     }
 
     fn least(&mut self, node: u32, readers: bool) -> Option<u32> {
@@ -56,9 +64,12 @@ impl Tree<'_> {
         let mut found: Option<(u32, usize)> = None;
         for number in 0..rows(self.g, node).len() {
             let turn = rows(self.g, node)[number].readers;
-            let read: u32 = reading.iter().map(|&word| adds(if turn { turned(word) } else { word })).sum();
+            let read: u32 = reading
+                .iter()
+                .map(|&word| adds(if turn { turned(word) } else { word }))
+                .sum();
             let cost = read + self.move_cost(node, number);
-            if found.map_or(true, |less| cost < less.0) {
+            if found.is_none_or(|less| cost < less.0) {
                 found = Some((cost, number));
             }
         }
@@ -73,7 +84,11 @@ impl Tree<'_> {
             let literal = self.g.word(node, word);
             if self.has(index_of(literal)) {
                 let turn = rows(self.g, node)[number].words[word];
-                self.descend(index_of(literal), &[if turn { turned(literal) } else { literal }], chosen);
+                self.descend(
+                    index_of(literal),
+                    &[if turn { turned(literal) } else { literal }],
+                    chosen,
+                );
             }
         }
     }
@@ -85,8 +100,16 @@ impl Tree<'_> {
 /// settled, is the list that is least at its first difference.
 pub fn best_of_tree(g: &Graph, nodes: &[u32]) -> Vec<usize> {
     let root = nodes[0];
-    let reading: Vec<u32> = g.readers(root).into_iter().map(|place| g.at(place)).collect();
-    let mut tree = Tree { g, nodes, known: HashMap::new() };
+    let reading: Vec<u32> = g
+        .readers(root)
+        .into_iter()
+        .map(|place| g.at(place))
+        .collect();
+    let mut tree = Tree {
+        g,
+        nodes,
+        known: HashMap::new(),
+    };
     let mut chosen = HashMap::new();
     tree.descend(root, &reading, &mut chosen);
     nodes.iter().map(|node| chosen[node]).collect()
@@ -94,7 +117,7 @@ pub fn best_of_tree(g: &Graph, nodes: &[u32]) -> Vec<usize> {
 
 /// By trying everything where that is at most `most` lists, else by branches.
 pub fn best_within(most: u64, g: &Graph, nodes: &[u32]) -> Vec<usize> {
-    if how_many(g, nodes).map_or(false, |lists| lists <= most) {
+    if how_many(g, nodes).is_some_and(|lists| lists <= most) {
         best(g, nodes)
     } else {
         best_of_tree(g, nodes)

@@ -1,0 +1,131 @@
+//! Graphs that the cases share.
+
+use crate::generate::{small, with_tails};
+use crate::graph::{Graph, MARK};
+use crate::random::Random;
+
+pub fn of(inputs: u32, nodes: &[[u32; 3]], outputs: &[u32]) -> Graph {
+    Graph {
+        inputs,
+        nodes: nodes.len() as u32,
+        outputs: outputs.len() as u32,
+        node_table: nodes.concat(),
+        output_table: outputs.to_vec(),
+    }
+}
+
+/// The paper's worked graphs, P4 being P3's.
+pub fn worked() -> Vec<Graph> {
+    vec![
+        of(3, &[[3, 5, 7]], &[9]),
+        of(5, &[[3, 5, 6], [13, 8, 11]], &[14]),
+        of(5, &[[3, 5, 6], [12, 9, 10]], &[15]),
+        of(2, &[[3, 5, MARK]], &[6]),
+        of(2, &[[3, 4, MARK]], &[7]),
+        of(2, &[[0, 3, 5]], &[6]),
+        of(2, &[[2, 2, 5]], &[6]),
+        of(3, &[[3, 5, 6]], &[9, 8]),
+        of(1, &[], &[3]),
+    ]
+}
+
+/// Graphs that are refused, or nearly, by 3, 4 or 5.
+pub fn at_the_edges() -> Vec<Graph> {
+    let bare = |inputs, nodes, outputs| Graph {
+        inputs,
+        nodes,
+        outputs,
+        node_table: vec![],
+        output_table: vec![],
+    };
+    let mut all = vec![bare(0, 0, 0)];
+    for (limit, at) in [(4_096, 0), (100_000, 1), (4_096, 2)] {
+        for number in [limit, limit + 1, 65_536, MARK / 3 + 1, MARK - 1, MARK] {
+            let mut three = [0; 3];
+            three[at] = number;
+            all.push(bare(three[0], three[1], three[2]));
+        }
+    }
+    let mut wide = bare(4_096, 0, 4_096);
+    wide.output_table = vec![0; 4_096];
+    wide.output_table[0] = 8_193;
+    all.push(wide.clone());
+    wide.output_table[0] = 8_194;
+    all.push(wide.clone());
+    wide.output_table.pop();
+    all.push(wide);
+    for nodes in [
+        [7, 7, 7],
+        [8, 7, 7],
+        [7, 8, 7],
+        [7, 7, 8],
+        [MARK, 7, 7],
+        [7, MARK, 7],
+        [7, 7, MARK],
+    ] {
+        all.push(of(3, &[nodes], &[9]));
+    }
+    for nodes in [
+        [MARK, 7, MARK],
+        [7, MARK, MARK],
+        [7, 7, MARK - 1],
+        [6, 6, 9],
+        [6, 6, 10],
+    ] {
+        all.push(of(3, &[[0, 1, 2], nodes], &[11]));
+    }
+    for output in [9, 10, 11, MARK - 1, MARK] {
+        all.push(of(3, &[[3, 5, 7]], &[0, output]));
+        all.push(of(0, &[], &[output - 9]));
+    }
+    // Tables that are too short, with literals that would be refused; and limits above both.
+    let bad = of(3, &[[3, 5, 7], [10, 10, 10]], &[12]);
+    for words in 0..=6 {
+        let mut short = bad.clone();
+        short.node_table.truncate(words);
+        all.push(short.clone());
+        short.inputs = 4_097;
+        all.push(short);
+    }
+    let mut short = bad.clone();
+    short.output_table.clear();
+    all.push(short);
+    // The tails are no part of the graph.
+    let mut longer = of(3, &[[3, 5, 7]], &[9]);
+    longer.node_table.extend([MARK, MARK, 99, 12]);
+    longer.output_table.extend([MARK, 10]);
+    all.push(longer);
+    all
+}
+
+/// A graph with one word changed to almost anything.
+pub fn damaged(random: &mut Random, mut g: Graph) -> Graph {
+    let table = if random.one_in(3) {
+        &mut g.output_table
+    } else {
+        &mut g.node_table
+    };
+    if !table.is_empty() {
+        let at = random.below(table.len() as u32) as usize;
+        table[at] = match random.below(4) {
+            0 => MARK,
+            1 => random.below(40),
+            2 => table[at].wrapping_add(2 * random.below(6)),
+            _ => random.word() as u32,
+        };
+    }
+    g
+}
+
+pub fn random_graphs(random: &mut Random, many: u32, most_nodes: u32) -> Vec<Graph> {
+    (0..many)
+        .map(|_| {
+            let g = small(random, 9, most_nodes, 6);
+            with_tails(random, g, 4)
+        })
+        .collect()
+}
+
+pub fn no_graph() -> Graph {
+    of(0, &[], &[])
+}
