@@ -61,7 +61,11 @@ pub fn three(x: u32, y: u32, z: u32) -> bool {
 
 pub fn loaded(answer: Loaded) -> bool {
     match answer {
-        Loaded::Graph { inputs, nodes, outputs } => three(inputs, nodes, outputs),
+        Loaded::Graph {
+            inputs,
+            nodes,
+            outputs,
+        } => three(inputs, nodes, outputs),
         Loaded::Refused(refusal) => refused(refusal),
     }
 }

@@ -16,12 +16,7 @@ pub fn print_tables(node_table: &[u32], output_table: &[u32]) {
     print::words(output_table);
 }
 
-pub fn make_node(
-    head: &[u8],
-    node: u32,
-    node_table: &mut [u32],
-    output_table: &mut [u32],
-) -> bool {
+pub fn make_node(head: &[u8], node: u32, node_table: &mut [u32], output_table: &mut [u32]) -> bool {
     saving(node_call::node_call(
         read::number(head, 1),
         read::number(head, 2),
@@ -74,7 +69,13 @@ pub fn node(head: &[u8], node_table: &mut [u32], output_table: &mut [u32]) {
 }
 
 pub fn pair(head: &[u8], node_table: &mut [u32], output_table: &mut [u32]) {
-    make_pair(head, read::number(head, 4), read::number(head, 5), node_table, output_table);
+    make_pair(
+        head,
+        read::number(head, 4),
+        read::number(head, 5),
+        node_table,
+        output_table,
+    );
     print_tables(node_table, output_table);
 }
 
@@ -95,7 +96,13 @@ fn tree_in(head: &[u8], node_table: &mut [u32], output_table: &mut [u32], space:
 }
 
 fn tree_on(head: &[u8], node_table: &mut [u32], output_table: &mut [u32], scratch: &mut [u32]) {
-    let refused = make_tree(head, read::number(head, 4), node_table, output_table, scratch);
+    let refused = make_tree(
+        head,
+        read::number(head, 4),
+        node_table,
+        output_table,
+        scratch,
+    );
     print_tables(node_table, output_table);
     print_kept(refused, scratch);
 }

@@ -7,7 +7,11 @@ use settling::Settled;
 
 fn settled(answer: Settled) -> bool {
     match answer {
-        Settled::Rounds { rounds, before, after } => answers::three(rounds, before, after),
+        Settled::Rounds {
+            rounds,
+            before,
+            after,
+        } => answers::three(rounds, before, after),
         Settled::Refused(refusal) => answers::refused(refusal),
     }
 }
@@ -83,7 +87,13 @@ fn list_on(
     let end = bytes.len() / 9;
     let mut i = 0;
     while i < end {
-        list_call(head, read::from(bytes, 9 * i), node_table, output_table, scratch);
+        list_call(
+            head,
+            read::from(bytes, 9 * i),
+            node_table,
+            output_table,
+            scratch,
+        );
         i += 1;
     }
     calls::print_tables(node_table, output_table);

@@ -32,7 +32,12 @@ fn nodes_in(head: &[u8], body: &[u8], words: &[u8], space: &mut [u32]) {
 
 fn nodes_of(head: &[u8], body: &[u8], words: &[u8], node_table: &mut [u32]) {
     read::fill_words(node_table, words);
-    make_outputs(head, body, read::after_words(words, node_table.len()), node_table);
+    make_outputs(
+        head,
+        body,
+        read::after_words(words, node_table.len()),
+        node_table,
+    );
 }
 
 fn make_outputs(head: &[u8], body: &[u8], words: &[u8], node_table: &mut [u32]) {
@@ -54,7 +59,12 @@ fn outputs_of(
     output_table: &mut [u32],
 ) {
     read::fill_words(output_table, words);
-    run(head, read::front(body, read::size(head, 9)), node_table, output_table);
+    run(
+        head,
+        read::front(body, read::size(head, 9)),
+        node_table,
+        output_table,
+    );
 }
 
 fn run(head: &[u8], bytes: &[u8], node_table: &mut [u32], output_table: &mut [u32]) {
@@ -158,7 +168,14 @@ fn evaluate_of(
 fn evaluate_words(head: &[u8], node_table: &[u32], output_table: &[u32], input_words: &[u64]) {
     let mut space = [81985529216486895u64; 4352];
     let mut scratch = [77u64; 4352];
-    evaluate_to(head, node_table, output_table, input_words, &mut scratch, &mut space);
+    evaluate_to(
+        head,
+        node_table,
+        output_table,
+        input_words,
+        &mut scratch,
+        &mut space,
+    );
 }
 
 fn evaluate_to(
