@@ -1,0 +1,114 @@
+-- What is printed of an outcome: the text of a settled graph, or a refusal's line; and what a settled graph has. From the laws on
+-- tests and on admission.
+use mathlib.Core.Path.{_≡_, refl, sym, ap, _∙_}
+use mathlib.Core.List.{List, [], _∷_, _++_}
+use Prim.Native.Nat.{ℕ, zero, suc, _≤_}
+use native.Mathlib.Omega.{arith}
+use lib.ListN.{length, drop}
+use lib.Seq.{sets}
+use Rattle.graph.specs.Graph.{Graph, graphOf}
+use Rattle.graph.specs.Admission.{Admitted}
+use Rattle.graph.specs.Answer.{accepted, refused, numberOf, Outcome, outcome, guarded}
+use Rattle.graph.specs.declared.Refusal.{Refusal}
+use Rattle.graph.specs.declared.Refusal.the-variants.{MissingBytes, WrongField, OverLimit, ShortSlice, BadLiteral, ExtraBytes, NoSuchNode, ShortScratch, ShortBuffer}
+use Rattle.graph.proofs.Tests.{equal, unequal, both}
+use Rattle.graph.proofs.Admit.{admitted}
+use Rattle.tagged_file.proofs.Stores.{front}
+use Rattle.tagged_file.specs.Load.{loadedAnswer, loadedGraph, blank}
+use Rattle.tagged_file.specs.declared.Loaded.{Loaded}
+use Rattle.tagged_file.specs.declared.Loaded.the-variants as loaded
+use Rattle.settling.specs.Settle.{settleNumber, settleCall, settledAnswer}
+use Rattle.settling.specs.declared.Settled.{Settled}
+use Rattle.settling.specs.declared.Settled.the-variants as settled
+use Rattle.report.specs.Text.{refusedText, line1}
+use Rattle.report.specs.Report.{settledText, textOf, thenSettle, settledFile, reportNumber, ReportOutcome, reportOutcome, printed, reportCall}
+
+pub numberOf-some : (r : Refusal) → numberOf r ≡ 0 → ⊥
+numberOf-some MissingBytes e = omega arith
+numberOf-some WrongField e = omega arith
+numberOf-some OverLimit e = omega arith
+numberOf-some ShortSlice e = omega arith
+numberOf-some BadLiteral e = omega arith
+numberOf-some ExtraBytes e = omega arith
+numberOf-some NoSuchNode e = omega arith
+numberOf-some ShortScratch e = omega arith
+numberOf-some ShortBuffer e = omega arith
+
+-- a text at the front of the buffer
+printed-is : (o : Outcome) (b b′ text : List ℕ) (r : ℕ) → textOf o ≡ text → r ≡ length text → r ≤ length b → b′ ≡ sets b 0 text
+    → reportOutcome (accepted (r ∷ [])) (o .graph .nodes) (o .graph .outs) b′ ≡ printed o b
+unfolding printed
+printed-is o b b′ text r et er l eb =
+    let e : b′ ≡ text ++ drop (length text) b = eb ∙ front text b (length text) refl (omega arith) in
+    rw (et, er, e) refl
+
+module _ (o : Outcome) (g : Graph) (b b′ : List ℕ) (r : ℕ) where
+  pub settled-printed : (rounds before after : ℕ) → outcome (accepted (rounds ∷ before ∷ after ∷ [])) g ≡ o
+      → (r ≡ length (settledText rounds before after g)) × (r ≤ length b) × (b′ ≡ sets b 0 (settledText rounds before after g))
+      → reportOutcome (accepted (r ∷ [])) (g .nodes) (g .outs) b′ ≡ printed o b
+  unfolding textOf
+  settled-printed rounds before after e h =
+      let s : Outcome = outcome (accepted (rounds ∷ before ∷ after ∷ [])) g in
+      printed-is s b b′ (settledText rounds before after g) r (sym (equal 0 0 _ _ refl refl)) (h .0) (h .1) (h .2)
+      ∙ ap (λ (x : Outcome). printed x b) e
+
+  pub refused-printed : (q : Refusal) → outcome (refused (numberOf q)) g ≡ o
+      → (r ≡ length (line1 refusedText (numberOf q))) × (r ≤ length b) × (b′ ≡ sets b 0 (line1 refusedText (numberOf q)))
+      → reportOutcome (accepted (r ∷ [])) (g .nodes) (g .outs) b′ ≡ printed o b
+  unfolding textOf
+  refused-printed q e h =
+      let s : Outcome = outcome (refused (numberOf q)) g in
+      printed-is s b b′ (line1 refusedText (numberOf q)) r (sym (unequal (numberOf q) 0 _ _ (numberOf-some q) refl)) (h .0) (h .1) (h .2)
+      ∙ ap (λ (x : Outcome). printed x b) e
+
+-- a file that is loaded is settled, and a refused one is left at that
+pub loaded-then : (l : Outcome) (vs : List ℕ) (g : Graph) (s : ℕ) → outcome (accepted vs) g ≡ l → settleCall g s ≡ thenSettle l s
+unfolding thenSettle
+loaded-then l vs g s e = equal 0 0 _ _ refl refl ∙ ap (λ (x : Outcome). thenSettle x s) e
+
+pub refused-then : (l : Outcome) (q : Refusal) (g : Graph) (s : ℕ) → outcome (refused (numberOf q)) g ≡ l → outcome (refused (numberOf q)) g ≡ thenSettle l s
+unfolding thenSettle
+refused-then l q g s e = unequal (numberOf q) 0 _ _ (numberOf-some q) refl ∙ ap (λ (x : Outcome). thenSettle x s) e
+
+-- a call that is accepted met no fault, and a graph that is settled was admitted
+pub guarded-zero : (k : ℕ) (g : Graph) (o : Outcome) → guarded k g o .answer .number ≡ 0 → k ≡ 0
+unfolding guarded
+guarded-zero zero g o e = refl
+guarded-zero (suc k) g o e = absurd (omega arith)
+
+pub guarded-graph : (k : ℕ) (g : Graph) (o : Outcome) → guarded k g o .answer .number ≡ 0 → guarded k g o .graph ≡ o .graph
+unfolding guarded
+guarded-graph zero g o e = refl
+guarded-graph (suc k) g o e = absurd (omega arith)
+
+pub settled-admitted : (g h : Graph) (s : ℕ) (vs : List ℕ) → outcome (accepted vs) h ≡ settleCall g s → Admitted g
+unfolding settleCall settleNumber
+settled-admitted g h s vs e = admitted g (both _ _ (guarded-zero (settleNumber g s) g _ (sym (ap (λ (o : Outcome). o .answer .number) e))) .0)
+
+-- the answers of both calls, by their cases
+pub settled-rounds : (q : Settled) (n before after : ℕ) (g : Graph) (o : Outcome) → q ≡ settled.Rounds n before after
+    → outcome (settledAnswer q) g ≡ o → outcome (accepted (n ∷ before ∷ after ∷ [])) g ≡ o
+settled-rounds q n before after g o e h = ap (λ (x : Settled). outcome (settledAnswer x) g) (sym e) ∙ h
+
+pub settled-refused : (q : Settled) (r : Refusal) (g : Graph) (o : Outcome) → q ≡ settled.Refused r → outcome (settledAnswer q) g ≡ o
+    → outcome (refused (numberOf r)) g ≡ o
+settled-refused q r g o e h = ap (λ (x : Settled). outcome (settledAnswer x) g) (sym e) ∙ h
+
+pub loaded-graph : (q : Loaded) (i n m : ℕ) (ns os : List ℕ) (o : Outcome) → q ≡ loaded.Graph i n m
+    → outcome (loadedAnswer q) (loadedGraph q ns os) ≡ o → outcome (accepted (i ∷ n ∷ m ∷ [])) (graphOf i n m ns os) ≡ o
+loaded-graph q i n m ns os o e h = ap (λ (x : Loaded). outcome (loadedAnswer x) (loadedGraph x ns os)) (sym e) ∙ h
+
+pub loaded-refused : (q : Loaded) (r : Refusal) (ns os : List ℕ) (o : Outcome) → q ≡ loaded.Refused r
+    → outcome (loadedAnswer q) (loadedGraph q ns os) ≡ o → outcome (refused (numberOf r)) (blank ns os) ≡ o
+loaded-refused q r ns os o e h = ap (λ (x : Loaded). outcome (loadedAnswer x) (loadedGraph x ns os)) (sym e) ∙ h
+
+-- what the report call answers, by its number
+pub report-refused : (k j : ℕ) (file ns os : List ℕ) (s : ℕ) (b : List ℕ) → j ≡ k → k ≡ reportNumber (length ns) (length os) s (length b) → (k ≡ 0 → ⊥)
+    → reportOutcome (refused j) ns os b ≡ reportCall file ns os s b
+unfolding reportCall
+report-refused k j file ns os s b ej e n = unequal _ 0 _ _ (λ z. n (e ∙ z)) (ap (λ (i : ℕ). reportOutcome (refused i) ns os b) (ej ∙ e))
+
+pub report-made : (r : ReportOutcome) (file ns os : List ℕ) (s : ℕ) (b : List ℕ) → reportNumber (length ns) (length os) s (length b) ≡ 0
+    → r ≡ printed (settledFile file ns os s) b → r ≡ reportCall file ns os s b
+unfolding reportCall
+report-made r file ns os s b z e = equal _ 0 _ _ z e

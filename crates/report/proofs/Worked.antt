@@ -1,0 +1,58 @@
+-- Document 01's report of P1, letter for letter, and that of P1's file with one byte more: by computation.
+use mathlib.Core.Path.{_≡_, refl}
+use mathlib.Core.List.{List, [], _∷_, _++_, flatMap}
+use Prim.Native.Nat.{ℕ}
+use Rattle.graph.specs.Finite.{tab, sum, count, ifLess, ifEqual, first, firstOf}
+use Rattle.graph.specs.Graph.{turn, isXor, isEdge}
+use Rattle.graph.specs.Count.{adds, wordAdds, nodeAdds, outAdds, C, named, outNamed, nodeReaders, readers}
+use Rattle.graph.specs.Admission.{limitNumber, tableNumber, wordNumber, outNumber, literalNumber, admissionNumber}
+use Rattle.graph.specs.Answer.{guarded}
+use Rattle.graph.specs.Decimal.{decimalIn, decimal}
+use Rattle.choice.specs.Choice.{from, choices, unlessLess, least, best}
+use Rattle.moves.specs.Rows.{rows, firstRow, arity, flag, movesAt}
+use Rattle.moves.specs.Apply.{at, put, seen, own, turns, outTurns, apply}
+use Rattle.moves.specs.Tree.{isRoot, last, place, reader, rootIn, rootOf, members, tree}
+use Rattle.moves.specs.Call.{moved, movedC, bestAt, rewrite, isNode, nodeFault, wordFault, rootFault, scratchFault, nodeNumber, nodeCall, namedBy, pairNumber, pairRewrite, pairCall, treeNumber, treeCall}
+use Rattle.settling.specs.Round.{savingOf, start, after, each, treeAt, nodeAt, pairAt, pairsAt, round}
+use Rattle.settling.specs.Settle.{settleIn, settle, settleNumber, settleCall}
+use Rattle.tagged_file.specs.File.{be2, be4, payloadOf, dueNumber, nodeSize, third, headNumber, endNumber, fileNumber}
+use Rattle.tagged_file.specs.File as file
+use Rattle.tagged_file.specs.Load.{graphRead, loadCall}
+use Rattle.report.specs.Text.{inputsText, nodesText, outputsText, beforeText, afterText, roundsText, nodeText, majText, xorText, spaceText, outText, refusedText, numbered, line1, line2, line3, line4}
+use Rattle.report.specs.Report.{sizesLine, countsLine, nodeLine, outLine, nodeLineAt, outLineAt, settledText, textOf, thenSettle, settledFile}
+
+-- P1's file: I = 3, one node 3 5 7, one output 9
+abbrev p1 : List ℕ
+p1 =
+    1 ∷ 0 ∷ 12 ∷ 0 ∷ 0 ∷ 0 ∷ 3 ∷ 0 ∷ 0 ∷ 0 ∷ 1 ∷ 0 ∷ 0 ∷ 0 ∷ 1
+    ∷ 2 ∷ 0 ∷ 12 ∷ 0 ∷ 0 ∷ 0 ∷ 3 ∷ 0 ∷ 0 ∷ 0 ∷ 5 ∷ 0 ∷ 0 ∷ 0 ∷ 7
+    ∷ 4 ∷ 0 ∷ 4 ∷ 0 ∷ 0 ∷ 0 ∷ 9
+    ∷ 5 ∷ 0 ∷ 0 ∷ []
+
+-- "inputs 3 nodes 1 outputs 1" and a newline
+abbrev text1 : List ℕ
+text1 = 105 ∷ 110 ∷ 112 ∷ 117 ∷ 116 ∷ 115 ∷ 32 ∷ 51 ∷ 32 ∷ 110 ∷ 111 ∷ 100 ∷ 101 ∷ 115 ∷ 32 ∷ 49 ∷ 32 ∷ 111 ∷ 117 ∷ 116 ∷ 112 ∷ 117 ∷ 116 ∷ 115 ∷ 32 ∷ 49 ∷ 10 ∷ []
+
+-- "before 4 after 0 rounds 2" and a newline
+abbrev text2 : List ℕ
+text2 = 98 ∷ 101 ∷ 102 ∷ 111 ∷ 114 ∷ 101 ∷ 32 ∷ 52 ∷ 32 ∷ 97 ∷ 102 ∷ 116 ∷ 101 ∷ 114 ∷ 32 ∷ 48 ∷ 32 ∷ 114 ∷ 111 ∷ 117 ∷ 110 ∷ 100 ∷ 115 ∷ 32 ∷ 50 ∷ 10 ∷ []
+
+-- "node 4 maj 2 4 6" and a newline
+abbrev text3 : List ℕ
+text3 = 110 ∷ 111 ∷ 100 ∷ 101 ∷ 32 ∷ 52 ∷ 32 ∷ 109 ∷ 97 ∷ 106 ∷ 32 ∷ 50 ∷ 32 ∷ 52 ∷ 32 ∷ 54 ∷ 10 ∷ []
+
+-- "out 8" and a newline
+abbrev text4 : List ℕ
+text4 = 111 ∷ 117 ∷ 116 ∷ 32 ∷ 56 ∷ 10 ∷ []
+
+-- "refused 6" and a newline
+abbrev refused6 : List ℕ
+refused6 = 114 ∷ 101 ∷ 102 ∷ 117 ∷ 115 ∷ 101 ∷ 100 ∷ 32 ∷ 54 ∷ 10 ∷ []
+
+pub p1-report : textOf (settledFile p1 (0 ∷ 0 ∷ 0 ∷ []) (0 ∷ []) 8) ≡ text1 ++ (text2 ++ (text3 ++ text4))
+unfolding flatMap tab sum count ifLess ifEqual first firstOf turn isXor isEdge adds wordAdds nodeAdds outAdds C named outNamed nodeReaders readers limitNumber tableNumber wordNumber outNumber literalNumber admissionNumber guarded decimalIn decimal from choices unlessLess least best rows firstRow arity flag movesAt at put seen own turns outTurns apply isRoot last place reader rootIn rootOf members tree moved movedC bestAt rewrite isNode nodeFault wordFault rootFault scratchFault nodeNumber nodeCall namedBy pairNumber pairRewrite pairCall treeNumber treeCall savingOf start after each treeAt nodeAt pairAt pairsAt round settleIn settle settleNumber settleCall be2 be4 payloadOf dueNumber nodeSize third headNumber endNumber fileNumber file.nodeNumber file.outNumber graphRead loadCall inputsText nodesText outputsText beforeText afterText roundsText nodeText majText xorText spaceText outText refusedText numbered line1 line2 line3 line4 sizesLine countsLine nodeLine outLine nodeLineAt outLineAt settledText textOf thenSettle settledFile
+p1-report = refl
+
+pub p1-longer : textOf (settledFile (p1 ++ (0 ∷ [])) (0 ∷ 0 ∷ 0 ∷ []) (0 ∷ []) 8) ≡ refused6
+unfolding flatMap tab sum count ifLess ifEqual first firstOf turn isXor isEdge adds wordAdds nodeAdds outAdds C named outNamed nodeReaders readers limitNumber tableNumber wordNumber outNumber literalNumber admissionNumber guarded decimalIn decimal from choices unlessLess least best rows firstRow arity flag movesAt at put seen own turns outTurns apply isRoot last place reader rootIn rootOf members tree moved movedC bestAt rewrite isNode nodeFault wordFault rootFault scratchFault nodeNumber nodeCall namedBy pairNumber pairRewrite pairCall treeNumber treeCall savingOf start after each treeAt nodeAt pairAt pairsAt round settleIn settle settleNumber settleCall be2 be4 payloadOf dueNumber nodeSize third headNumber endNumber fileNumber file.nodeNumber file.outNumber graphRead loadCall inputsText nodesText outputsText beforeText afterText roundsText nodeText majText xorText spaceText outText refusedText numbered line1 line2 line3 line4 sizesLine countsLine nodeLine outLine nodeLineAt outLineAt settledText textOf thenSettle settledFile
+p1-longer = refl

@@ -1,0 +1,107 @@
+-- `put_nodes` meets its contract: the lines that are left come to the whole. From the laws on fields in a row.
+use native.Mathlib.Omega.{arith}
+use mathlib.Core.Path.{_≡_, refl}
+use Prim.Native.Nat.{_+_, _*_, _≤_}
+use Rattle.tagged_file.proofs.Emitted.{Left, left-more, left-none}
+use Rattle.report.specs.Report.{nodeLineAt}
+use Rattle.report.proofs.LineLaws.{node-put}
+use Rattle.report.proofs.lines.put_nodes.Statement.{statement}
+use Rattle.report.proofs.lines.put_nodes.Tie as tie
+
+abbrev Inv-loop : tie.InvT-loop
+Inv-loop buffer₀ start inputs nodes node-table at₀ index₀ v₀ left₀ buffer at index v left =
+    Left (nodeLineAt inputs node-table) nodes start buffer₀ buffer at v left × (index ≡ inputs + 1 + v) × (at + 54 * left ≤ start + 54 * nodes)
+
+abbrev μ-loop : tie.MeasureT-loop
+μ-loop buffer₀ start inputs nodes node-table at₀ index₀ v₀ left₀ buffer at index v left = left
+
+add-index : tie.Need-add-index Inv-loop μ-loop
+add-index c = omega arith
+
+loop-holds : tie.Need-loop-holds Inv-loop μ-loop
+loop-holds c = (record { counted = omega arith; fits = refl; same = refl; bytes = refl }, omega arith, omega arith)
+
+mul-word : tie.Need-mul-word Inv-loop μ-loop
+mul-word c = omega (arith, c .before .loop .inv .0 .counted)
+
+mul-put-node : tie.Need-mul-put-node Inv-loop μ-loop
+mul-put-node c = omega (arith, c .before .before .loop .inv .0 .counted)
+
+shared-slice-read-put-node : tie.Need-shared-slice-read-put-node Inv-loop μ-loop
+shared-slice-read-put-node c = omega (arith, c .before .before .before .loop .inv .0 .counted)
+
+add-put-node : tie.Need-add-put-node Inv-loop μ-loop
+add-put-node c = omega (arith, c .before .before .before .loop .inv .0 .counted)
+
+mul-put-node-2 : tie.Need-mul-put-node-2 Inv-loop μ-loop
+mul-put-node-2 c = omega (arith, c .before .before .before .loop .inv .0 .counted)
+
+shared-slice-read-put-node-2 : tie.Need-shared-slice-read-put-node-2 Inv-loop μ-loop
+shared-slice-read-put-node-2 c = omega (arith, c .before .before .before .before .loop .inv .0 .counted)
+
+add-put-node-2 : tie.Need-add-put-node-2 Inv-loop μ-loop
+add-put-node-2 c = omega (arith, c .before .before .before .before .loop .inv .0 .counted)
+
+mul-put-node-3 : tie.Need-mul-put-node-3 Inv-loop μ-loop
+mul-put-node-3 c = omega (arith, c .before .before .before .before .loop .inv .0 .counted)
+
+shared-slice-read-put-node-3 : tie.Need-shared-slice-read-put-node-3 Inv-loop μ-loop
+shared-slice-read-put-node-3 c = omega (arith, c .before .before .before .before .before .loop .inv .0 .counted)
+
+put-node-requires : tie.Need-put-node-requires Inv-loop μ-loop
+put-node-requires c κs = omega (arith, c .before .before .before .before .before .loop .inv .0 .same)
+
+add-index-2 : tie.Need-add-index-2 Inv-loop μ-loop
+add-index-2 c = omega (arith, c .before .before .before .before .before .before .before .before .loop .inv .0 .counted)
+
+add-v : tie.Need-add-v Inv-loop μ-loop
+add-v c = omega (arith, c .before .before .before .before .before .before .before .before .loop .inv .0 .counted)
+
+sub-left : tie.Need-sub-left Inv-loop μ-loop
+sub-left c = omega arith
+
+loop-less : tie.Need-loop-less Inv-loop μ-loop
+loop-less c = omega arith
+
+loop-again : tie.Need-loop-again Inv-loop μ-loop
+loop-again c =
+    let l = c .before .before .before .before .before .before .before .before .loop in
+    let a = c .before .before .before .before .before .before .before .before .before .before .before .args in
+    let p = node-put (a .inputs) (a .node-table .now) (l .v) (l .index) (l .at) _ 54 (l .buffer) _ (l .inv .1) (c .before .before .put-node .ensures) in
+    (left-more (nodeLineAt (a .inputs) (a .node-table .now)) _ _ _ (l .buffer) (l .at) (l .v) (l .left) (l .inv .0) (omega arith) _ _ (p .1) (p .0), omega arith, omega (arith, c .before .before .put-node .ensures .1))
+
+same-length : tie.Need-same-length Inv-loop μ-loop
+same-length c = c .before .loop .inv .0 .same
+
+returns : tie.Need-returns Inv-loop μ-loop
+returns c =
+    let l = c .before .loop in
+    let a = c .before .before .before .before .args in
+    let e = left-none (nodeLineAt (a .inputs) (a .node-table .now)) _ _ _ (l .buffer) (l .at) (l .v) (l .left) (l .inv .0) (omega arith) in
+    (e .0, omega arith, e .1)
+
+pub put-nodes-spec : {M : Type 1} → statement M
+put-nodes-spec =
+    tie.close
+    (tie.spec
+    Inv-loop
+    μ-loop
+    add-index
+    loop-holds
+    mul-word
+    mul-put-node
+    shared-slice-read-put-node
+    add-put-node
+    mul-put-node-2
+    shared-slice-read-put-node-2
+    add-put-node-2
+    mul-put-node-3
+    shared-slice-read-put-node-3
+    put-node-requires
+    add-index-2
+    add-v
+    sub-left
+    loop-less
+    loop-again
+    same-length
+    returns)

@@ -1,0 +1,30 @@
+-- `put_output` meets its contract: an output's line. From the laws on lines.
+use native.Mathlib.Omega.{arith}
+use borrow.Author.Needs.{needs}
+use mathlib.Core.Path.{refl}
+use Rattle.report.specs.Text.{outText, line1}
+use Rattle.report.specs.Report.{outLine}
+use Rattle.report.proofs.Put.{put-as}
+use Rattle.report.proofs.LineLaws.{length-out}
+use Rattle.report.proofs.lines.put_output.Statement.{statement}
+use Rattle.report.proofs.lines.put_output.Tie as tie
+
+slice-aggregate-put-line1 : tie.Need-slice-aggregate-put-line1
+slice-aggregate-put-line1 c = search needs
+
+put-line1-requires : tie.Need-put-line1-requires
+unfolding outText
+put-line1-requires c κs = let a = c .before .before .before .args in let l = length-out (a .x) (omega arith) in omega arith
+
+same-length : tie.Need-same-length
+same-length c = search needs
+
+returns : tie.Need-returns
+unfolding outText outLine
+returns c =
+    let a = c .before .before .before .before .before .before .args in
+    let l = length-out (a .x) (omega arith) in
+    put-as (a .buffer .now) _ (line1 outText (a .x)) (outLine (a .x)) _ _ 15 refl (omega arith) (c .before .before .put-line1 .ensures)
+
+pub put-output-spec : {M : Type 1} → statement M
+put-output-spec = tie.close (tie.spec slice-aggregate-put-line1 put-line1-requires same-length returns)

@@ -1,0 +1,71 @@
+-- `put_outputs` meets its contract: the lines that are left come to the whole. From the laws on fields in a row.
+use native.Mathlib.Omega.{arith}
+use mathlib.Core.Path.{refl}
+use Prim.Native.Nat.{_+_, _*_, _≤_}
+use Rattle.tagged_file.proofs.Emitted.{Left, left-more, left-none}
+use Rattle.report.specs.Report.{outLineAt}
+use Rattle.report.proofs.lines.put_outputs.Statement.{statement}
+use Rattle.report.proofs.lines.put_outputs.Tie as tie
+
+abbrev Inv-loop : tie.InvT-loop
+Inv-loop buffer₀ start outputs output-table at₀ v₀ left₀ buffer at v left =
+    Left (outLineAt output-table) outputs start buffer₀ buffer at v left × (at + 15 * left ≤ start + 15 * outputs)
+
+abbrev μ-loop : tie.MeasureT-loop
+μ-loop buffer₀ start outputs output-table at₀ v₀ left₀ buffer at v left = left
+
+loop-holds : tie.Need-loop-holds Inv-loop μ-loop
+loop-holds c = (record { counted = omega arith; fits = refl; same = refl; bytes = refl }, omega arith)
+
+mul-put-output : tie.Need-mul-put-output Inv-loop μ-loop
+mul-put-output c = omega (arith, c .before .before .loop .inv .0 .counted)
+
+shared-slice-read-put-output : tie.Need-shared-slice-read-put-output Inv-loop μ-loop
+shared-slice-read-put-output c = omega (arith, c .before .before .before .loop .inv .0 .counted)
+
+put-output-requires : tie.Need-put-output-requires Inv-loop μ-loop
+put-output-requires c κs = omega (arith, c .before .before .before .loop .inv .0 .same)
+
+add-v : tie.Need-add-v Inv-loop μ-loop
+add-v c = omega (arith, c .before .before .before .before .before .before .loop .inv .0 .counted)
+
+sub-left : tie.Need-sub-left Inv-loop μ-loop
+sub-left c = omega arith
+
+loop-less : tie.Need-loop-less Inv-loop μ-loop
+loop-less c = omega arith
+
+loop-again : tie.Need-loop-again Inv-loop μ-loop
+unfolding outLineAt
+loop-again c =
+    let l = c .before .before .before .before .before .before .loop in
+    let a = c .before .before .before .before .before .before .before .before .before .args in
+    let p = c .before .before .put-output .ensures in
+    (left-more (outLineAt (a .output-table .now)) _ _ _ (l .buffer) (l .at) (l .v) (l .left) (l .inv .0) (omega arith) _ _ (p .2) (p .0), omega arith)
+
+same-length : tie.Need-same-length Inv-loop μ-loop
+same-length c = c .before .loop .inv .0 .same
+
+returns : tie.Need-returns Inv-loop μ-loop
+returns c =
+    let l = c .before .loop in
+    let a = c .before .before .before .before .args in
+    let e = left-none (outLineAt (a .output-table .now)) _ _ _ (l .buffer) (l .at) (l .v) (l .left) (l .inv .0) (omega arith) in
+    (e .0, omega arith, e .1)
+
+pub put-outputs-spec : {M : Type 1} → statement M
+put-outputs-spec =
+    tie.close
+    (tie.spec
+    Inv-loop
+    μ-loop
+    loop-holds
+    mul-put-output
+    shared-slice-read-put-output
+    put-output-requires
+    add-v
+    sub-left
+    loop-less
+    loop-again
+    same-length
+    returns)

@@ -1,0 +1,76 @@
+-- `put_report` meets its contract: a loaded graph is settled, a refusal is a line. From the laws on outcomes.
+use mathlib.Core.Path.{ap, _∙_}
+use Rattle.graph.specs.Answer.{Outcome}
+use Rattle.report.specs.Report.{settledFile, printed}
+use Rattle.report.proofs.Outcomes.{loaded-graph, loaded-refused, loaded-then, refused-then, refused-printed}
+use borrow.Author.Needs.{needs}
+use Rattle.report.proofs.whole.put_report.Statement.{statement}
+use Rattle.report.proofs.whole.put_report.Tie as tie
+
+load-requires : tie.Need-load-requires
+load-requires c κs = search needs
+
+enum-known-inputs : tie.Need-enum-known-inputs
+enum-known-inputs c = search needs
+
+put-settling-requires : tie.Need-put-settling-requires
+put-settling-requires c κs = search needs
+
+enum-known-refusal : tie.Need-enum-known-refusal
+enum-known-refusal c = search needs
+
+put-refused-requires : tie.Need-put-refused-requires
+put-refused-requires c κs = search needs
+
+same-length : tie.Need-same-length
+same-length c = search needs
+
+same-length-2 : tie.Need-same-length-2
+same-length-2 c = search needs
+
+same-length-3 : tie.Need-same-length-3
+same-length-3 c = search needs
+
+same-length-4 : tie.Need-same-length-4
+same-length-4 c = search needs
+
+returns : tie.Need-returns
+unfolding settledFile
+returns c =
+    let a = c .before .before .before .before .before .before .before .before .before .before .before .before .before .before .before .before .before .before .before .before .before .before .before .before .before .before .before .before .args in
+    c .before .before .before .before .before .before .before .before .put-settling .ensures
+    ∙ ap (λ (x : Outcome). printed x (a .buffer .now)) (loaded-then _ _ _ _ (loaded-graph _ _ _ _ _ _ _ (c .before .before .before .before .before .before .before .before .before .before .before .before .before .before .inputs .given .1) (c .before .before .before .before .before .before .before .before .before .before .before .before .before .before .before .before .before .before .before .before .load .ensures)))
+
+same-length-5 : tie.Need-same-length-5
+same-length-5 c = search needs
+
+same-length-6 : tie.Need-same-length-6
+same-length-6 c = search needs
+
+same-length-7 : tie.Need-same-length-7
+same-length-7 c = search needs
+
+returns-2 : tie.Need-returns-2
+unfolding settledFile
+returns-2 c =
+    refused-printed _ _ _ _ _ (c .before .before .before .before .before .refusal .given .0 .0) (refused-then _ (c .before .before .before .before .before .refusal .given .0 .0) _ _ (loaded-refused _ _ _ _ _ (c .before .before .before .before .before .refusal .given .1) (c .before .before .before .before .before .before .before .before .before .before .before .load .ensures)))
+    (c .before .before .put-refused .ensures)
+
+pub put-report-spec : {M : Type 1} → statement M
+put-report-spec =
+    tie.close
+    (tie.spec
+    load-requires
+    enum-known-inputs
+    put-settling-requires
+    enum-known-refusal
+    put-refused-requires
+    same-length
+    same-length-2
+    same-length-3
+    same-length-4
+    returns
+    same-length-5
+    same-length-6
+    same-length-7
+    returns-2)

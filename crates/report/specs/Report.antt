@@ -1,0 +1,89 @@
+-- The report of document 01: its lines, and what the call that makes it answers and leaves.
+use mathlib.Core.List.{List, [], _∷_, _++_}
+use Prim.Native.Nat.{ℕ, _+_, _*_, _/_}
+use lib.ListN.{length, getD, drop}
+use Rattle.graph.specs.Finite.{ifLess, ifEqual}
+use Rattle.graph.specs.Graph.{Graph, mark}
+use Rattle.graph.specs.Answer.{Answer, accepted, refused, numberOf, Outcome}
+use Rattle.tagged_file.specs.Write.{run}
+use Rattle.tagged_file.specs.Load.{loadCall}
+use Rattle.settling.specs.Settle.{settleCall}
+use Rattle.report.specs.declared.Reported.{Reported}
+use Rattle.report.specs.declared.Reported.the-variants as reported
+use Rattle.report.specs.Text.{inputsText, nodesText, outputsText, beforeText, afterText, roundsText, nodeText, majText, xorText, spaceText, outText, refusedText, line1, line3, line4}
+
+-- line 1: I, N and O; line 2: C before, C after, and the rounds
+unfoldable pub sizesLine : ℕ → ℕ → ℕ → List ℕ
+sizesLine i n o = line3 inputsText i nodesText n outputsText o
+
+unfoldable pub countsLine : ℕ → ℕ → ℕ → List ℕ
+countsLine before after rounds = line3 beforeText before afterText after roundsText rounds
+
+-- a node of this index and these words: an XOR, where the third is the mark, else a majority
+unfoldable pub nodeLine : ℕ → ℕ → ℕ → ℕ → List ℕ
+nodeLine i x y z =
+    ifEqual z mark (line3 nodeText i xorText x spaceText y) (line4 nodeText i majText x spaceText y spaceText z)
+
+unfoldable pub outLine : ℕ → List ℕ
+outLine x = line1 outText x
+
+-- node v, where there are i inputs, and output j of the tables
+unfoldable pub nodeLineAt : ℕ → List ℕ → ℕ → List ℕ
+nodeLineAt i ns v = nodeLine (i + 1 + v) (getD ns (3 * v) 0) (getD ns (3 * v + 1) 0) (getD ns (3 * v + 2) 0)
+
+unfoldable pub outLineAt : List ℕ → ℕ → List ℕ
+outLineAt os j = outLine (getD os j 0)
+
+-- the graph g, settled in so many rounds, with C before and after
+unfoldable pub settledText : ℕ → ℕ → ℕ → Graph → List ℕ
+settledText rounds before after g =
+    (sizesLine (g .I) (g .N) (g .O) ++ countsLine before after rounds)
+    ++ (run (nodeLineAt (g .I) (g .nodes)) 0 (g .N) ++ run (outLineAt (g .outs)) 0 (g .O))
+
+-- what is printed of settling's outcome: a refusal is one line
+unfoldable pub textOf : Outcome → List ℕ
+textOf o =
+    ifEqual (o .answer .number) 0
+    (settledText (getD (o .answer .values) 0 0) (getD (o .answer .values) 1 0) (getD (o .answer .values) 2 0) (o .graph))
+    (line1 refusedText (o .answer .number))
+
+-- loading's outcome settled, with s words of scratch; a refused file has nothing to settle
+unfoldable pub thenSettle : Outcome → ℕ → Outcome
+thenSettle loaded s = ifEqual (loaded .answer .number) 0 (settleCall (loaded .graph) s) loaded
+
+-- the file settled in the tables ns and os
+unfoldable pub settledFile : List ℕ → List ℕ → List ℕ → ℕ → Outcome
+settledFile file ns os s = thenSettle (loadCall file ns os) s
+
+-- The lengths alone decide whether there is a report. 8: scratch does not do for as many nodes as the node table has room
+-- for; 9: the buffer has fewer than 128 bytes for the first two lines and 18 for each word of the tables, which is enough
+-- for numbers of ten digits.
+unfoldable pub reportNumber : ℕ → ℕ → ℕ → ℕ → ℕ
+reportNumber nodeRoom outRoom s room =
+    ifLess s (8 * (nodeRoom / 3)) 8 (ifLess room (128 + 18 * (nodeRoom + outRoom)) 9 0)
+
+abbrev pub reportedAnswer : Reported → Answer
+reportedAnswer (reported.Text n) = accepted (n ∷ [])
+reportedAnswer (reported.Refused r) = refused (numberOf r)
+
+-- an answer with the tables and the buffer as the call leaves them
+pub record ReportOutcome : Type 0 where
+  pub answer : Answer
+  pub nodes : List ℕ
+  pub outs : List ℕ
+  pub buffer : List ℕ
+
+abbrev pub reportOutcome : Answer → List ℕ → List ℕ → List ℕ → ReportOutcome
+reportOutcome a ns os b = record { answer = a; nodes = ns; outs = os; buffer = b }
+
+-- the text of an outcome at the front of the buffer, the rest of which is left
+unfoldable pub printed : Outcome → List ℕ → ReportOutcome
+printed o b =
+    reportOutcome (accepted (length (textOf o) ∷ [])) (o .graph .nodes) (o .graph .outs) (textOf o ++ drop (length (textOf o)) b)
+
+-- reporting the file into the tables and the buffer, with s words of scratch
+unfoldable pub reportCall : List ℕ → List ℕ → List ℕ → ℕ → List ℕ → ReportOutcome
+reportCall file ns os s b =
+    ifEqual (reportNumber (length ns) (length os) s (length b)) 0
+    (printed (settledFile file ns os s) b)
+    (reportOutcome (refused (reportNumber (length ns) (length os) s (length b))) ns os b)

@@ -1,0 +1,40 @@
+// The report: a file's bytes in, the text of the settled graph out.
+ghost use mathlib.Core.Path.{_≡_};
+ghost use lib.ListN.{length};
+ghost use Rattle.graph.specs.Answer.{ScratchKept};
+ghost use Rattle.report.specs.Report.{reportedAnswer, reportOutcome, reportCall};
+
+pub mod lines;
+pub mod sizes;
+pub mod text;
+pub mod whole;
+
+// What reporting answers: how many bytes the text has.
+pub enum Reported {
+    Text(usize),
+    Refused(graph::Refusal),
+}
+
+// Loads the file, settles its graph and puts the report into the buffer; a refused file's report is one line. The lengths
+// decide first, so that a report that is begun is ended.
+pub fn report(
+    file: &[u8],
+    node_table: &mut [u32],
+    output_table: &mut [u32],
+    scratch: &mut [u32],
+    buffer: &mut [u8],
+) -> Reported
+    ensures { λ r. ⌜ reportOutcome (reportedAnswer r) (now («node_table» .exit)) (now («output_table» .exit)) (now (buffer .exit)) ≡ reportCall (now (file .entry)) (now («node_table» .entry)) (now («output_table» .entry)) (length (now (scratch .entry))) (now (buffer .entry)) ⌝ }
+    ensures { λ r. ⌜ ScratchKept (reportedAnswer r) (now (scratch .entry)) (now (scratch .exit)) ⌝ }
+{
+    let refusal = sizes::report_number(
+        node_table.len(),
+        output_table.len(),
+        scratch.len(),
+        buffer.len(),
+    );
+    if refusal != 0 {
+        return Reported::Refused(graph::checks::refused_by(refusal));
+    }
+    Reported::Text(whole::put_report(file, node_table, output_table, scratch, buffer))
+}

@@ -1,0 +1,161 @@
+// The lines of a report, put into a buffer one after another. Every number has at most ten digits: so a node's line takes at
+// most 54 bytes, an output's 15, and the first two lines 107.
+ghost use mathlib.Core.Path.{_≡_};
+ghost use mathlib.Core.List.{_++_};
+ghost use Prim.Native.Nat.{_+_, _*_, _≤_};
+ghost use lib.ListN.{length};
+ghost use lib.Seq.{sets};
+ghost use Rattle.graph.specs.Graph.{graphOf};
+ghost use Rattle.graph.specs.Answer.{numberOf};
+ghost use Rattle.tagged_file.specs.Write.{run};
+ghost use Rattle.report.specs.Text.{refusedText, line1};
+ghost use Rattle.report.specs.Report.{sizesLine, countsLine, nodeLine, outLine, nodeLineAt, outLineAt, settledText};
+use crate::text;
+use graph::Refusal;
+
+const MARK: u32 = 4294967295;
+
+pub fn put_node(buffer: &mut [u8], at: usize, index: u32, x: u32, y: u32, z: u32) -> usize
+    requires { ⌜ at + 54 ≤ length (now buffer) ⌝ }
+    ensures { λ r. ⌜ (r ≡ at + length (nodeLine index x y z)) × (r ≤ at + 54) × (now (buffer .exit) ≡ sets (now (buffer .entry)) at (nodeLine index x y z)) ⌝ }
+{
+    if z == MARK {
+        return text::put_line3(buffer, at, b"node ", index, b" xor ", x, b" ", y);
+    }
+    text::put_line4(buffer, at, b"node ", index, b" maj ", x, b" ", y, b" ", z)
+}
+
+pub fn put_output(buffer: &mut [u8], at: usize, x: u32) -> usize
+    requires { ⌜ at + 15 ≤ length (now buffer) ⌝ }
+    ensures { λ r. ⌜ (r ≡ at + length (outLine x)) × (r ≤ at + 15) × (now (buffer .exit) ≡ sets (now (buffer .entry)) at (outLine x)) ⌝ }
+{
+    text::put_line1(buffer, at, b"out ", x)
+}
+
+pub fn put_nodes(
+    buffer: &mut [u8],
+    start: usize,
+    inputs: u32,
+    nodes: u32,
+    node_table: &[u32],
+) -> usize
+    requires { ⌜ (inputs ≤ 4096) × (nodes ≤ 100000) × (3 * nodes ≤ length (now «node_table»)) ⌝ }
+    requires { ⌜ start + 54 * nodes ≤ length (now buffer) ⌝ }
+    ensures { λ r. ⌜ (r ≡ start + length (run (nodeLineAt inputs (now («node_table» .entry))) 0 nodes)) × (r ≤ start + 54 * nodes) × (now (buffer .exit) ≡ sets (now (buffer .entry)) start (run (nodeLineAt inputs (now («node_table» .entry))) 0 nodes)) ⌝ }
+{
+    let mut at = start;
+    let mut index = inputs + 1;
+    let mut v = 0;
+    let mut left = nodes;
+    while 0 < left {
+        let word = 3 * v;
+        at = put_node(
+            buffer,
+            at,
+            index,
+            node_table[word],
+            node_table[word + 1],
+            node_table[word + 2],
+        );
+        index += 1;
+        v += 1;
+        left -= 1;
+    }
+    at
+}
+
+pub fn put_outputs(buffer: &mut [u8], start: usize, outputs: u32, output_table: &[u32]) -> usize
+    requires { ⌜ outputs ≤ length (now «output_table») ⌝ }
+    requires { ⌜ start + 15 * outputs ≤ length (now buffer) ⌝ }
+    ensures { λ r. ⌜ (r ≡ start + length (run (outLineAt (now («output_table» .entry))) 0 outputs)) × (r ≤ start + 15 * outputs) × (now (buffer .exit) ≡ sets (now (buffer .entry)) start (run (outLineAt (now («output_table» .entry))) 0 outputs)) ⌝ }
+{
+    let mut at = start;
+    let mut v = 0;
+    let mut left = outputs;
+    while 0 < left {
+        at = put_output(buffer, at, output_table[v]);
+        v += 1;
+        left -= 1;
+    }
+    at
+}
+
+// The first two lines.
+pub fn put_head(
+    buffer: &mut [u8],
+    inputs: u32,
+    nodes: u32,
+    outputs: u32,
+    rounds: u32,
+    before: u32,
+    after: u32,
+) -> usize
+    requires { ⌜ 128 ≤ length (now buffer) ⌝ }
+    ensures { λ r. ⌜ (r ≡ length (sizesLine inputs nodes outputs ++ countsLine before after rounds)) × (r ≤ 107) × (now (buffer .exit) ≡ sets (now (buffer .entry)) 0 (sizesLine inputs nodes outputs ++ countsLine before after rounds)) ⌝ }
+{
+    let end = text::put_line3(
+        buffer,
+        0,
+        b"inputs ",
+        inputs,
+        b" nodes ",
+        nodes,
+        b" outputs ",
+        outputs,
+    );
+    text::put_line3(
+        buffer,
+        end,
+        b"before ",
+        before,
+        b" after ",
+        after,
+        b" rounds ",
+        rounds,
+    )
+}
+
+// The whole text of a settled graph.
+pub fn put_settled(
+    inputs: u32,
+    nodes: u32,
+    outputs: u32,
+    node_table: &[u32],
+    output_table: &[u32],
+    rounds: u32,
+    before: u32,
+    after: u32,
+    buffer: &mut [u8],
+) -> usize
+    requires { ⌜ (inputs ≤ 4096) × (nodes ≤ 100000) × (3 * nodes ≤ length (now «node_table»)) × (outputs ≤ length (now «output_table»)) ⌝ }
+    requires { ⌜ 128 + 18 * (length (now «node_table») + length (now «output_table»)) ≤ length (now buffer) ⌝ }
+    ensures { λ r. ⌜ (r ≡ length (settledText rounds before after (graphOf inputs nodes outputs (now («node_table» .entry)) (now («output_table» .entry))))) × (r ≤ length (now (buffer .entry))) × (now (buffer .exit) ≡ sets (now (buffer .entry)) 0 (settledText rounds before after (graphOf inputs nodes outputs (now («node_table» .entry)) (now («output_table» .entry))))) ⌝ }
+{
+    let first = put_head(buffer, inputs, nodes, outputs, rounds, before, after);
+    let middle = put_nodes(buffer, first, inputs, nodes, node_table);
+    put_outputs(buffer, middle, outputs, output_table)
+}
+
+pub fn number_of(refusal: Refusal) -> u32
+    ensures { λ r. ⌜ r ≡ numberOf refusal ⌝ }
+{
+    match refusal {
+        Refusal::MissingBytes => 1,
+        Refusal::WrongField => 2,
+        Refusal::OverLimit => 3,
+        Refusal::ShortSlice => 4,
+        Refusal::BadLiteral => 5,
+        Refusal::ExtraBytes => 6,
+        Refusal::NoSuchNode => 7,
+        Refusal::ShortScratch => 8,
+        Refusal::ShortBuffer => 9,
+    }
+}
+
+// The one line of a refusal.
+pub fn put_refused(buffer: &mut [u8], refusal: Refusal) -> usize
+    requires { ⌜ 128 ≤ length (now buffer) ⌝ }
+    ensures { λ r. ⌜ (r ≡ length (line1 refusedText (numberOf refusal))) × (r ≤ length (now (buffer .entry))) × (now (buffer .exit) ≡ sets (now (buffer .entry)) 0 (line1 refusedText (numberOf refusal))) ⌝ }
+{
+    text::put_line1(buffer, 0, b"refused ", number_of(refusal))
+}

@@ -1,0 +1,72 @@
+// From the file's bytes to the text: load, settle, put.
+ghost use mathlib.Core.Path.{_≡_};
+ghost use mathlib.Core.List.{[], _∷_};
+ghost use Prim.Native.Nat.{_+_, _*_, _≤_};
+ghost use lib.ListN.{length};
+ghost use Rattle.graph.specs.Graph.{graphOf};
+ghost use Rattle.graph.specs.Answer.{accepted};
+ghost use Rattle.settling.specs.Settle.{settleCall};
+ghost use Rattle.report.specs.Report.{reportOutcome, printed, settledFile};
+use crate::lines;
+
+// Settles a loaded graph, and puts the text of that.
+pub fn put_settling(
+    inputs: u32,
+    nodes: u32,
+    outputs: u32,
+    node_table: &mut [u32],
+    output_table: &mut [u32],
+    scratch: &mut [u32],
+    buffer: &mut [u8],
+) -> usize
+    requires { ⌜ 128 + 18 * (length (now «node_table») + length (now «output_table»)) ≤ length (now buffer) ⌝ }
+    ensures { λ r. ⌜ reportOutcome (accepted (r ∷ [])) (now («node_table» .exit)) (now («output_table» .exit)) (now (buffer .exit)) ≡ printed (settleCall (graphOf inputs nodes outputs (now («node_table» .entry)) (now («output_table» .entry))) (length (now (scratch .entry)))) (now (buffer .entry)) ⌝ }
+{
+    match settling::settle(inputs, nodes, outputs, node_table, output_table, scratch) {
+        settling::Settled::Rounds {
+            rounds,
+            before,
+            after,
+        } => lines::put_settled(
+            inputs,
+            nodes,
+            outputs,
+            node_table,
+            output_table,
+            rounds,
+            before,
+            after,
+            buffer,
+        ),
+        settling::Settled::Refused(refusal) => lines::put_refused(buffer, refusal),
+    }
+}
+
+// Loads the file, and puts the text of its settling, or of why it is refused.
+pub fn put_report(
+    file: &[u8],
+    node_table: &mut [u32],
+    output_table: &mut [u32],
+    scratch: &mut [u32],
+    buffer: &mut [u8],
+) -> usize
+    requires { ⌜ 128 + 18 * (length (now «node_table») + length (now «output_table»)) ≤ length (now buffer) ⌝ }
+    ensures { λ r. ⌜ reportOutcome (accepted (r ∷ [])) (now («node_table» .exit)) (now («output_table» .exit)) (now (buffer .exit)) ≡ printed (settledFile (now (file .entry)) (now («node_table» .entry)) (now («output_table» .entry)) (length (now (scratch .entry)))) (now (buffer .entry)) ⌝ }
+{
+    match tagged_file::load(file, node_table, output_table) {
+        tagged_file::Loaded::Graph {
+            inputs,
+            nodes,
+            outputs,
+        } => put_settling(
+            inputs,
+            nodes,
+            outputs,
+            node_table,
+            output_table,
+            scratch,
+            buffer,
+        ),
+        tagged_file::Loaded::Refused(refusal) => lines::put_refused(buffer, refusal),
+    }
+}
