@@ -89,19 +89,19 @@ pub fn best_move(
     first_least(is_xor(node_table, v), z, readers, odd)
 }
 
-// What node v costs, shown s.
+// What node v costs, shown s; its words cost z.
 pub fn node_cost(
     inputs: usize,
     nodes: usize,
     node_table: &[u32],
     scratch: &[u32],
     v: usize,
+    z: [u32; 6],
     s: u32,
 ) -> u32
-    requires { ⌜ Sized inputs nodes (now «node_table») (now scratch) × (v < nodes) × (s < 2) ⌝ }
+    requires { ⌜ Sized inputs nodes (now «node_table») (now scratch) × (v < nodes) × (s < 2) × (z ≡ wordCosts (nodesIn (now «node_table»)) (innerAt inputs (now scratch)) (costAt inputs (now scratch)) v) ⌝ }
     ensures { λ r. ⌜ r ≡ nodeCost (nodesIn (now («node_table» .entry))) (innerAt inputs (now (scratch .entry))) (costAt inputs (now (scratch .entry))) v s ⌝ }
 {
-    let z = word_costs(inputs, nodes, node_table, scratch, v);
     let xor = is_xor(node_table, v);
     let m = first_least(xor, z, 1, s);
     move_cost(xor, z, 1, s, m)
@@ -112,8 +112,9 @@ pub fn store_costs(inputs: usize, nodes: usize, node_table: &[u32], scratch: &mu
     requires { ⌜ Sized inputs nodes (now «node_table») (now scratch) × (v < nodes) × Filled inputs (now «node_table») (now scratch) v ⌝ }
     ensures { λ _. ⌜ Filled inputs (now («node_table» .entry)) (now (scratch .exit)) (v + 1) × KeptBut 1 2 (now (scratch .entry)) (now (scratch .exit)) ⌝ }
 {
-    let a = node_cost(inputs, nodes, node_table, scratch, v, 0);
-    let b = node_cost(inputs, nodes, node_table, scratch, v, 1);
+    let z = word_costs(inputs, nodes, node_table, scratch, v);
+    let a = node_cost(inputs, nodes, node_table, scratch, v, z, 0);
+    let b = node_cost(inputs, nodes, node_table, scratch, v, z, 1);
     scratch[8 * v + 1] = over(a, b);
     scratch[8 * v + 2] = over(b, a);
 }

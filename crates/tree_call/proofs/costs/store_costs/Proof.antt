@@ -6,6 +6,9 @@ use borrow.Author.Needs.{needs}
 use Rattle.tree_call.proofs.costs.store_costs.Statement.{statement}
 use Rattle.tree_call.proofs.costs.store_costs.Tie as tie
 
+word-costs-requires : tie.Need-word-costs-requires
+word-costs-requires c κs = search needs
+
 node-cost-requires : tie.Need-node-cost-requires
 node-cost-requires c κs = search needs
 
@@ -40,14 +43,13 @@ mul-scratch-4 : tie.Need-mul-scratch-4
 mul-scratch-4 c = search needs
 
 slice-write-scratch-2 : tie.Need-slice-write-scratch-2
-slice-write-scratch-2 c = simp length-set (omega (arith, c .before .before .before .before .before .before .before .before .pre .0 .long-scratch))
+slice-write-scratch-2 c = simp length-set (omega (arith, c .before .before .before .before .before .before .before .before .before .before .pre .0 .long-scratch))
 
 same-length : tie.Need-same-length
 same-length c = search needs
 
 returns : tie.Need-returns
-returns c =
-    let st = c .before .before .before .before .before .before .before .before in
+returns c = let st = c .before .before .before .before .before .before .before .before .before .before in
     let a = st .args in
     let x = c .before .before .before .before .node-cost .result in
     let y = c .before .before .node-cost2 .result in
@@ -60,6 +62,7 @@ pub store-costs-spec : {M : Type 1} → statement M
 store-costs-spec =
     tie.close
     (tie.spec
+    word-costs-requires
     node-cost-requires
     node-cost-requires-2
     over-requires
