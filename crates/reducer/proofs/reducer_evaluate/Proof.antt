@@ -1,0 +1,28 @@
+-- `reducer_evaluate` meets its contract. From those of `evaluate` and of its answer's number.
+use mathlib.Core.Path.{ap, _∙_}
+use Rattle.graph.specs.Answer.{Answer}
+use borrow.Author.Needs.{needs}
+use Rattle.reducer.proofs.reducer_evaluate.Statement.{statement}
+use Rattle.reducer.proofs.reducer_evaluate.Tie as tie
+
+evaluate-requires : tie.Need-evaluate-requires
+evaluate-requires c κs = search needs
+
+evaluated-number-requires : tie.Need-evaluated-number-requires
+evaluated-number-requires c κs = search needs
+
+same-length : tie.Need-same-length
+same-length c = search needs
+
+same-length-2 : tie.Need-same-length-2
+same-length-2 c = search needs
+
+returns : tie.Need-returns
+returns c =
+    let e = c .before .before .before .before .before .evaluate .ensures in
+    (c .evaluated-number .ensures ∙ ap (λ (a : Answer). a .number) (e .0), (e .1 .0, rw (e .0) at (e .1 .1)))
+
+pub reducer-evaluate-spec : {M : Type 1} → statement M
+reducer-evaluate-spec =
+    tie.close
+    (tie.spec evaluate-requires evaluated-number-requires same-length same-length-2 returns)

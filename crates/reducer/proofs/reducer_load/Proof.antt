@@ -1,0 +1,47 @@
+-- `reducer_load` meets its contract. From those of `load` and of its answer's number and values.
+use mathlib.Core.Path.{ap, _∙_}
+use Rattle.graph.specs.Answer.{Outcome}
+use Rattle.reducer.proofs.Told.{same-told, loaded-nodes, loaded-outs}
+use borrow.Author.Needs.{needs}
+use Rattle.reducer.proofs.reducer_load.Statement.{statement}
+use Rattle.reducer.proofs.reducer_load.Tie as tie
+
+load-requires : tie.Need-load-requires
+load-requires c κs = search needs
+
+loaded-told-requires : tie.Need-loaded-told-requires
+loaded-told-requires c κs = search needs
+
+loaded-number-requires : tie.Need-loaded-number-requires
+loaded-number-requires c κs = search needs
+
+same-length : tie.Need-same-length
+same-length c = search needs
+
+same-length-2 : tie.Need-same-length-2
+same-length-2 c = search needs
+
+returns : tie.Need-returns
+returns c =
+    let l = c .before .before .before .before .before .before .before .load in
+    let e = l .ensures in (
+      c .loaded-number .ensures ∙ ap (λ (o : Outcome). o .answer .number) e,
+      (
+        loaded-nodes (l .result) _ _ ∙ ap (λ (o : Outcome). o .graph .nodes) e,
+        (
+          loaded-outs (l .result) _ _ ∙ ap (λ (o : Outcome). o .graph .outs) e,
+          c .before .loaded-told .ensures ∙ same-told _ (ap (λ (o : Outcome). o .answer) e),
+        ),
+      ),
+    )
+
+pub reducer-load-spec : {M : Type 1} → statement M
+reducer-load-spec =
+    tie.close
+    (tie.spec
+    load-requires
+    loaded-told-requires
+    loaded-number-requires
+    same-length
+    same-length-2
+    returns)

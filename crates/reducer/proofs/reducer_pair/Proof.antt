@@ -1,0 +1,40 @@
+-- `reducer_pair` meets its contract. From those of `pair_call` and of its answer's number and value.
+use mathlib.Core.Path.{ap, _∙_}
+use Rattle.graph.specs.Answer.{Outcome}
+use Rattle.reducer.proofs.Told.{same-one}
+use borrow.Author.Needs.{needs}
+use Rattle.reducer.proofs.reducer_pair.Statement.{statement}
+use Rattle.reducer.proofs.reducer_pair.Tie as tie
+
+pair-call-requires : tie.Need-pair-call-requires
+pair-call-requires c κs = search needs
+
+saving-told-requires : tie.Need-saving-told-requires
+saving-told-requires c κs = search needs
+
+saving-number-requires : tie.Need-saving-number-requires
+saving-number-requires c κs = search needs
+
+same-length : tie.Need-same-length
+same-length c = search needs
+
+same-length-2 : tie.Need-same-length-2
+same-length-2 c = search needs
+
+returns : tie.Need-returns
+returns c =
+    let e = c .before .before .before .before .before .before .before .pair-call .ensures in (
+      c .saving-number .ensures ∙ ap (λ (o : Outcome). o .answer .number) e,
+      (ap (λ (o : Outcome). o .graph) e, c .before .saving-told .ensures ∙ same-one _ (ap (λ (o : Outcome). o .answer) e)),
+    )
+
+pub reducer-pair-spec : {M : Type 1} → statement M
+reducer-pair-spec =
+    tie.close
+    (tie.spec
+    pair-call-requires
+    saving-told-requires
+    saving-number-requires
+    same-length
+    same-length-2
+    returns)

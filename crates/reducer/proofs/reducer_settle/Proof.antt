@@ -1,0 +1,48 @@
+-- `reducer_settle` meets its contract. From those of `settle` and of its answer's number and values.
+use mathlib.Core.Path.{ap, _∙_}
+use Rattle.graph.specs.Answer.{Outcome}
+use Rattle.reducer.proofs.Told.{same-told, same-kept}
+use borrow.Author.Needs.{needs}
+use Rattle.reducer.proofs.reducer_settle.Statement.{statement}
+use Rattle.reducer.proofs.reducer_settle.Tie as tie
+
+settle-requires : tie.Need-settle-requires
+settle-requires c κs = search needs
+
+settled-told-requires : tie.Need-settled-told-requires
+settled-told-requires c κs = search needs
+
+settled-number-requires : tie.Need-settled-number-requires
+settled-number-requires c κs = search needs
+
+same-length : tie.Need-same-length
+same-length c = search needs
+
+same-length-2 : tie.Need-same-length-2
+same-length-2 c = search needs
+
+same-length-3 : tie.Need-same-length-3
+same-length-3 c = search needs
+
+returns : tie.Need-returns
+returns c =
+    let t = c .before .before .before .before .before .before .before .before .before .settle .ensures in
+    let e = t .0 in (
+      c .settled-number .ensures ∙ ap (λ (o : Outcome). o .answer .number) e,
+      (
+        ap (λ (o : Outcome). o .graph) e,
+        (c .before .settled-told .ensures ∙ same-told _ (ap (λ (o : Outcome). o .answer) e), same-kept _ _ (ap (λ (o : Outcome). o .answer) e) (t .1)),
+      ),
+    )
+
+pub reducer-settle-spec : {M : Type 1} → statement M
+reducer-settle-spec =
+    tie.close
+    (tie.spec
+    settle-requires
+    settled-told-requires
+    settled-number-requires
+    same-length
+    same-length-2
+    same-length-3
+    returns)

@@ -1,0 +1,143 @@
+// The number and the values of each answer.
+ghost use mathlib.Core.Path.{_≡_};
+ghost use mathlib.Core.List.{[], _∷_};
+ghost use Rattle.graph.specs.Answer.{accepted, unless, numberOf, countAnswer};
+ghost use Rattle.tagged_file.specs.Load.{loadedAnswer};
+ghost use Rattle.tagged_file.specs.Write.{writtenAnswer};
+ghost use Rattle.evaluation.specs.Evaluation.{evaluatedAnswer};
+ghost use Rattle.moves.specs.Call.{savingAnswer};
+ghost use Rattle.settling.specs.Settle.{settledAnswer};
+ghost use Rattle.reducer.specs.Interface.{told, toldOne};
+
+pub fn refusal_number(refusal: graph::Refusal) -> u32
+    ensures { λ r. ⌜ r ≡ numberOf refusal ⌝ }
+{
+    match refusal {
+        graph::Refusal::MissingBytes => 1,
+        graph::Refusal::WrongField => 2,
+        graph::Refusal::OverLimit => 3,
+        graph::Refusal::ShortSlice => 4,
+        graph::Refusal::BadLiteral => 5,
+        graph::Refusal::ExtraBytes => 6,
+        graph::Refusal::NoSuchNode => 7,
+        graph::Refusal::ShortScratch => 8,
+        graph::Refusal::ShortBuffer => 9,
+    }
+}
+
+// The payload of a field starts after the 3 bytes of its head.
+pub fn field_told(number: u32, length: usize, before: [usize; 2]) -> [usize; 2]
+    ensures { λ r. ⌜ r ≡ told (unless number (accepted (3 ∷ length ∷ []))) before ⌝ }
+{
+    if number != 0 {
+        return before;
+    }
+    [3, length]
+}
+
+pub fn count_number(answer: graph::Count) -> u32
+    ensures { λ r. ⌜ r ≡ countAnswer answer .number ⌝ }
+{
+    match answer {
+        graph::Count::Edges(_) => 0,
+        graph::Count::Refused(refusal) => refusal_number(refusal),
+    }
+}
+
+pub fn count_told(answer: graph::Count, before: u32) -> u32
+    ensures { λ r. ⌜ r ≡ toldOne (countAnswer answer) before ⌝ }
+{
+    match answer {
+        graph::Count::Edges(edges) => edges,
+        graph::Count::Refused(_) => before,
+    }
+}
+
+pub fn loaded_number(answer: tagged_file::Loaded) -> u32
+    ensures { λ r. ⌜ r ≡ loadedAnswer answer .number ⌝ }
+{
+    match answer {
+        tagged_file::Loaded::Graph { .. } => 0,
+        tagged_file::Loaded::Refused(refusal) => refusal_number(refusal),
+    }
+}
+
+pub fn loaded_told(answer: tagged_file::Loaded, before: [u32; 3]) -> [u32; 3]
+    ensures { λ r. ⌜ r ≡ told (loadedAnswer answer) before ⌝ }
+{
+    match answer {
+        tagged_file::Loaded::Graph {
+            inputs,
+            nodes,
+            outputs,
+        } => [inputs, nodes, outputs],
+        tagged_file::Loaded::Refused(_) => before,
+    }
+}
+
+pub fn written_number(answer: tagged_file::Written) -> u32
+    ensures { λ r. ⌜ r ≡ writtenAnswer answer .number ⌝ }
+{
+    match answer {
+        tagged_file::Written::Bytes(_) => 0,
+        tagged_file::Written::Refused(refusal) => refusal_number(refusal),
+    }
+}
+
+pub fn written_told(answer: tagged_file::Written, before: usize) -> usize
+    ensures { λ r. ⌜ r ≡ toldOne (writtenAnswer answer) before ⌝ }
+{
+    match answer {
+        tagged_file::Written::Bytes(length) => length,
+        tagged_file::Written::Refused(_) => before,
+    }
+}
+
+pub fn evaluated_number(answer: evaluation::Evaluated) -> u32
+    ensures { λ r. ⌜ r ≡ evaluatedAnswer answer .number ⌝ }
+{
+    match answer {
+        evaluation::Evaluated::Done => 0,
+        evaluation::Evaluated::Refused(refusal) => refusal_number(refusal),
+    }
+}
+
+pub fn saving_number(answer: moves::Saving) -> u32
+    ensures { λ r. ⌜ r ≡ savingAnswer answer .number ⌝ }
+{
+    match answer {
+        moves::Saving::Saved(_) => 0,
+        moves::Saving::Refused(refusal) => refusal_number(refusal),
+    }
+}
+
+pub fn saving_told(answer: moves::Saving, before: u32) -> u32
+    ensures { λ r. ⌜ r ≡ toldOne (savingAnswer answer) before ⌝ }
+{
+    match answer {
+        moves::Saving::Saved(saving) => saving,
+        moves::Saving::Refused(_) => before,
+    }
+}
+
+pub fn settled_number(answer: settling::Settled) -> u32
+    ensures { λ r. ⌜ r ≡ settledAnswer answer .number ⌝ }
+{
+    match answer {
+        settling::Settled::Rounds { .. } => 0,
+        settling::Settled::Refused(refusal) => refusal_number(refusal),
+    }
+}
+
+pub fn settled_told(answer: settling::Settled, before: [u32; 3]) -> [u32; 3]
+    ensures { λ r. ⌜ r ≡ told (settledAnswer answer) before ⌝ }
+{
+    match answer {
+        settling::Settled::Rounds {
+            rounds,
+            before: first,
+            after,
+        } => [rounds, first, after],
+        settling::Settled::Refused(_) => before,
+    }
+}

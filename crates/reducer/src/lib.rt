@@ -1,0 +1,205 @@
+// The entries for C: each returns 0 or document 01's number, and leaves what it answers beside it at a place that is lent.
+ghost use mathlib.Core.Path.{_≡_};
+ghost use mathlib.Core.List.{[], _∷_};
+ghost use lib.ListN.{length, getD, take, drop};
+ghost use Rattle.graph.specs.Graph.{graphOf};
+ghost use Rattle.graph.specs.Count.{C};
+ghost use Rattle.graph.specs.Admission.{admissionNumber};
+ghost use Rattle.graph.specs.Answer.{accepted, unless, ScratchKept};
+ghost use Rattle.tagged_file.specs.File.{fieldNumber, fieldPayload};
+ghost use Rattle.tagged_file.specs.Load.{loadCall};
+ghost use Rattle.tagged_file.specs.Write.{writeCall};
+ghost use Rattle.evaluation.specs.Evaluation.{evaluateNumber, resultsAfter};
+ghost use Rattle.moves.specs.Call.{nodeCall, pairCall, treeCall};
+ghost use Rattle.settling.specs.Settle.{settleCall};
+ghost use Rattle.reducer.specs.Interface.{told, toldOne, fieldAnswer};
+
+pub mod answers;
+
+// Where the payload of the field at the front starts, and its length.
+#[no_mangle]
+pub extern "C" fn reducer_field(bytes: &[u8], payload: &mut [usize; 2]) -> u32
+    ensures answer { λ r. ⌜ r ≡ fieldNumber (now (bytes .entry)) ⌝ }
+    ensures payload { λ r. ⌜ now (payload .exit) ≡ told (fieldAnswer (now (bytes .entry))) (now (payload .entry)) ⌝ }
+    ensures stretch { λ r. ⌜ (r ≡ 0 → take (getD (now (payload .exit)) 1 0) (drop (getD (now (payload .exit)) 0 0) (now (bytes .entry))) ≡ fieldPayload (now (bytes .entry))) ⌝ }
+{
+    let number = tagged_file::field_number(bytes);
+    *payload = answers::field_told(number, tagged_file::field(bytes).len(), *payload);
+    number
+}
+
+// Fills the tables, and `numbers` with I, N and O.
+#[no_mangle]
+pub extern "C" fn reducer_load(
+    file: &[u8],
+    node_table: &mut [u32],
+    output_table: &mut [u32],
+    numbers: &mut [u32; 3],
+) -> u32
+    ensures answer { λ r. ⌜ r ≡ loadCall (now (file .entry)) (now («node_table» .entry)) (now («output_table» .entry)) .answer .number ⌝ }
+    ensures nodes { λ r. ⌜ now («node_table» .exit) ≡ loadCall (now (file .entry)) (now («node_table» .entry)) (now («output_table» .entry)) .graph .nodes ⌝ }
+    ensures outs { λ r. ⌜ now («output_table» .exit) ≡ loadCall (now (file .entry)) (now («node_table» .entry)) (now («output_table» .entry)) .graph .outs ⌝ }
+    ensures numbers { λ r. ⌜ now (numbers .exit) ≡ told (loadCall (now (file .entry)) (now («node_table» .entry)) (now («output_table» .entry)) .answer) (now (numbers .entry)) ⌝ }
+{
+    let answer = tagged_file::load(file, node_table, output_table);
+    *numbers = answers::loaded_told(answer, *numbers);
+    answers::loaded_number(answer)
+}
+
+// Fills the front of `buffer` with the graph's file.
+#[no_mangle]
+pub extern "C" fn reducer_write(
+    inputs: u32,
+    nodes: u32,
+    outputs: u32,
+    node_table: &[u32],
+    output_table: &[u32],
+    buffer: &mut [u8],
+    length: &mut usize,
+) -> u32
+    ensures answer { λ r. ⌜ r ≡ writeCall (graphOf inputs nodes outputs (now («node_table» .entry)) (now («output_table» .entry))) (now (buffer .entry)) .answer .number ⌝ }
+    ensures buffer { λ r. ⌜ now (buffer .exit) ≡ writeCall (graphOf inputs nodes outputs (now («node_table» .entry)) (now («output_table» .entry))) (now (buffer .entry)) .buffer ⌝ }
+    ensures size { λ r. ⌜ now (length .exit) ≡ toldOne (writeCall (graphOf inputs nodes outputs (now («node_table» .entry)) (now («output_table» .entry))) (now (buffer .entry)) .answer) (now (length .entry)) ⌝ }
+{
+    let answer = tagged_file::write(inputs, nodes, outputs, node_table, output_table, buffer);
+    *length = answers::written_told(answer, *length);
+    answers::written_number(answer)
+}
+
+// Fills the first `outputs` words of `results`, each bit place an assignment of its own.
+#[no_mangle]
+pub extern "C" fn reducer_evaluate(
+    inputs: u32,
+    nodes: u32,
+    outputs: u32,
+    node_table: &[u32],
+    output_table: &[u32],
+    input_words: &[u64],
+    scratch: &mut [u64],
+    results: &mut [u64],
+) -> u32
+    ensures answer { λ r. ⌜ r ≡ unless (evaluateNumber (graphOf inputs nodes outputs (now («node_table» .entry)) (now («output_table» .entry))) (length (now («input_words» .entry))) (length (now (scratch .entry))) (length (now (results .entry)))) (accepted []) .number ⌝ }
+    ensures results { λ r. ⌜ now (results .exit) ≡ resultsAfter (graphOf inputs nodes outputs (now («node_table» .entry)) (now («output_table» .entry))) (now («input_words» .entry)) (length (now (scratch .entry))) (now (results .entry)) ⌝ }
+    ensures scratch { λ r. ⌜ ScratchKept (unless (evaluateNumber (graphOf inputs nodes outputs (now («node_table» .entry)) (now («output_table» .entry))) (length (now («input_words» .entry))) (length (now (scratch .entry))) (length (now (results .entry)))) (accepted [])) (now (scratch .entry)) (now (scratch .exit)) ⌝ }
+{
+    answers::evaluated_number(evaluation::evaluate(
+        inputs,
+        nodes,
+        outputs,
+        node_table,
+        output_table,
+        input_words,
+        scratch,
+        results,
+    ))
+}
+
+// How many edges are complemented: document 01's C.
+#[no_mangle]
+pub extern "C" fn reducer_count(
+    inputs: u32,
+    nodes: u32,
+    outputs: u32,
+    node_table: &[u32],
+    output_table: &[u32],
+    count: &mut u32,
+) -> u32
+    ensures answer { λ r. ⌜ r ≡ unless (admissionNumber (graphOf inputs nodes outputs (now («node_table» .entry)) (now («output_table» .entry)))) (accepted (C (graphOf inputs nodes outputs (now («node_table» .entry)) (now («output_table» .entry))) ∷ [])) .number ⌝ }
+    ensures count { λ r. ⌜ now (count .exit) ≡ toldOne (unless (admissionNumber (graphOf inputs nodes outputs (now («node_table» .entry)) (now («output_table» .entry)))) (accepted (C (graphOf inputs nodes outputs (now («node_table» .entry)) (now («output_table» .entry))) ∷ []))) (now (count .entry)) ⌝ }
+{
+    let answer = graph::complemented_edges(inputs, nodes, outputs, node_table, output_table);
+    *count = answers::count_told(answer, *count);
+    answers::count_number(answer)
+}
+
+// The best move of one node; `saving` is what it saves.
+#[no_mangle]
+pub extern "C" fn reducer_node(
+    inputs: u32,
+    nodes: u32,
+    outputs: u32,
+    node_table: &mut [u32],
+    output_table: &mut [u32],
+    node: u32,
+    saving: &mut u32,
+) -> u32
+    ensures answer { λ r. ⌜ r ≡ nodeCall (graphOf inputs nodes outputs (now («node_table» .entry)) (now («output_table» .entry))) node .answer .number ⌝ }
+    ensures graph { λ r. ⌜ graphOf inputs nodes outputs (now («node_table» .exit)) (now («output_table» .exit)) ≡ nodeCall (graphOf inputs nodes outputs (now («node_table» .entry)) (now («output_table» .entry))) node .graph ⌝ }
+    ensures told { λ r. ⌜ now (saving .exit) ≡ toldOne (nodeCall (graphOf inputs nodes outputs (now («node_table» .entry)) (now («output_table» .entry))) node .answer) (now (saving .entry)) ⌝ }
+{
+    let answer = node_call::node_call(inputs, nodes, outputs, node_table, output_table, node);
+    *saving = answers::saving_told(answer, *saving);
+    answers::saving_number(answer)
+}
+
+// The best moves of a node and of the node that one of its words, 1 to 3, names.
+#[no_mangle]
+pub extern "C" fn reducer_pair(
+    inputs: u32,
+    nodes: u32,
+    outputs: u32,
+    node_table: &mut [u32],
+    output_table: &mut [u32],
+    node: u32,
+    word: u32,
+    saving: &mut u32,
+) -> u32
+    ensures answer { λ r. ⌜ r ≡ pairCall (graphOf inputs nodes outputs (now («node_table» .entry)) (now («output_table» .entry))) node word .answer .number ⌝ }
+    ensures graph { λ r. ⌜ graphOf inputs nodes outputs (now («node_table» .exit)) (now («output_table» .exit)) ≡ pairCall (graphOf inputs nodes outputs (now («node_table» .entry)) (now («output_table» .entry))) node word .graph ⌝ }
+    ensures told { λ r. ⌜ now (saving .exit) ≡ toldOne (pairCall (graphOf inputs nodes outputs (now («node_table» .entry)) (now («output_table» .entry))) node word .answer) (now (saving .entry)) ⌝ }
+{
+    let answer = node_call::pair_call(inputs, nodes, outputs, node_table, output_table, node, word);
+    *saving = answers::saving_told(answer, *saving);
+    answers::saving_number(answer)
+}
+
+// The best moves of the tree of a root.
+#[no_mangle]
+pub extern "C" fn reducer_tree(
+    inputs: u32,
+    nodes: u32,
+    outputs: u32,
+    node_table: &mut [u32],
+    output_table: &mut [u32],
+    root: u32,
+    scratch: &mut [u32],
+    saving: &mut u32,
+) -> u32
+    ensures answer { λ r. ⌜ r ≡ treeCall (graphOf inputs nodes outputs (now («node_table» .entry)) (now («output_table» .entry))) (length (now (scratch .entry))) root .answer .number ⌝ }
+    ensures graph { λ r. ⌜ graphOf inputs nodes outputs (now («node_table» .exit)) (now («output_table» .exit)) ≡ treeCall (graphOf inputs nodes outputs (now («node_table» .entry)) (now («output_table» .entry))) (length (now (scratch .entry))) root .graph ⌝ }
+    ensures told { λ r. ⌜ now (saving .exit) ≡ toldOne (treeCall (graphOf inputs nodes outputs (now («node_table» .entry)) (now («output_table» .entry))) (length (now (scratch .entry))) root .answer) (now (saving .entry)) ⌝ }
+    ensures scratch { λ r. ⌜ ScratchKept (treeCall (graphOf inputs nodes outputs (now («node_table» .entry)) (now («output_table» .entry))) (length (now (scratch .entry))) root .answer) (now (scratch .entry)) (now (scratch .exit)) ⌝ }
+{
+    let answer = tree_call::tree_call(
+        inputs,
+        nodes,
+        outputs,
+        node_table,
+        output_table,
+        root,
+        scratch,
+    );
+    *saving = answers::saving_told(answer, *saving);
+    answers::saving_number(answer)
+}
+
+// Rounds until one does not lower C; `figures` are the rounds made, C before and C after.
+#[no_mangle]
+pub extern "C" fn reducer_settle(
+    inputs: u32,
+    nodes: u32,
+    outputs: u32,
+    node_table: &mut [u32],
+    output_table: &mut [u32],
+    scratch: &mut [u32],
+    figures: &mut [u32; 3],
+) -> u32
+    ensures answer { λ r. ⌜ r ≡ settleCall (graphOf inputs nodes outputs (now («node_table» .entry)) (now («output_table» .entry))) (length (now (scratch .entry))) .answer .number ⌝ }
+    ensures graph { λ r. ⌜ graphOf inputs nodes outputs (now («node_table» .exit)) (now («output_table» .exit)) ≡ settleCall (graphOf inputs nodes outputs (now («node_table» .entry)) (now («output_table» .entry))) (length (now (scratch .entry))) .graph ⌝ }
+    ensures told { λ r. ⌜ now (figures .exit) ≡ told (settleCall (graphOf inputs nodes outputs (now («node_table» .entry)) (now («output_table» .entry))) (length (now (scratch .entry))) .answer) (now (figures .entry)) ⌝ }
+    ensures scratch { λ r. ⌜ ScratchKept (settleCall (graphOf inputs nodes outputs (now («node_table» .entry)) (now («output_table» .entry))) (length (now (scratch .entry))) .answer) (now (scratch .entry)) (now (scratch .exit)) ⌝ }
+{
+    let answer = settling::settle(inputs, nodes, outputs, node_table, output_table, scratch);
+    *figures = answers::settled_told(answer, *figures);
+    answers::settled_number(answer)
+}

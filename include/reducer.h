@@ -1,0 +1,163 @@
+/*
+ * The inversion reducer for majority and XOR graphs, for C.
+ *
+ * Link the static library that `rt staticlib reducer` writes, target/staticlib/libreducer.a. It needs no other library,
+ * keeps no state, allocates nothing and may be called from several threads on tables of their own. Every function is proved
+ * to do what is said here, for all bytes, words and numbers.
+ *
+ * The graph
+ *
+ *   I inputs, N nodes and O outputs. Index 0 is the constant false, 1 to I are inputs, I + 1 to I + N are nodes. A literal is
+ *   2 * index, plus 1 if complemented. The node table has three words a node in index order, the output table one literal an
+ *   output. A node whose third word is REDUCER_MARK is an XOR of the first two; any other is a majority of the three. A node's
+ *   literals name indices below its own; an output may name any.
+ *
+ *   A table may be longer than the graph: only its first 3 * N, or O, words are looked at or changed.
+ *
+ * What a call answers
+ *
+ *   Every function returns 0 or the number of a refusal, below. What it answers beside that goes through its last pointer.
+ *   A refused call has changed nothing: tables, scratch, results, buffer and that last number or array are as they were. The
+ *   first fault is returned, in the order of the numbers 3, 4, 5, 7, 8, 9; loading meets its file from front to back.
+ *   Scratch holds nothing of use before or after a call.
+ *
+ * What a caller owes
+ *
+ *   A slice is a pointer and a length in elements. The pointer must not be null, even where the length is 0 (the address of
+ *   any variable of the type will do), must be aligned for its type, and must be good for so many elements. Slices of one call
+ *   must not overlap, and neither may the last pointer's target; two slices that the call only reads may.
+ */
+#ifndef REDUCER_H
+#define REDUCER_H
+
+#include <stddef.h>
+#include <stdint.h>
+
+#ifdef __cplusplus
+extern "C" {
+#endif
+
+/* The third word of an XOR. */
+#define REDUCER_MARK UINT32_C(4294967295)
+
+/* Limits: more is refused by REDUCER_OVER_LIMIT. */
+#define REDUCER_MOST_INPUTS 4096
+#define REDUCER_MOST_NODES 100000
+#define REDUCER_MOST_OUTPUTS 4096
+
+/* Scratch that calls need, in words of their type, for n nodes. */
+#define REDUCER_TREE_SCRATCH(n) (8 * (size_t)(n))
+#define REDUCER_SETTLE_SCRATCH(n) (8 * (size_t)(n))
+#define REDUCER_EVALUATE_SCRATCH(n) ((size_t)(n))
+
+/* Bytes that are enough for the file of a graph with n nodes and o outputs. */
+#define REDUCER_FILE_BYTES(n, o) (18 + 15 * (size_t)(n) + 7 * (size_t)(o))
+
+/* What is returned. */
+enum reducer_number {
+    REDUCER_OK = 0,
+    /* fewer bytes left than the due field's 3-byte head, or than its payload */
+    REDUCER_MISSING_BYTES = 1,
+    /* tag or length not the one due */
+    REDUCER_WRONG_FIELD = 2,
+    /* I, N or O above its limit */
+    REDUCER_OVER_LIMIT = 3,
+    /* a lent table, input or result slice too short */
+    REDUCER_SHORT_SLICE = 4,
+    /* a literal naming an index not allowed there */
+    REDUCER_BAD_LITERAL = 5,
+    /* bytes after the end field */
+    REDUCER_EXTRA_BYTES = 6,
+    /* not a node, not a root (tree call), or no such word of the node */
+    REDUCER_NO_SUCH_NODE = 7,
+    /* scratch too short */
+    REDUCER_SHORT_SCRATCH = 8,
+    /* write buffer too short */
+    REDUCER_SHORT_BUFFER = 9
+};
+
+/*
+ * The field at the front of the bytes: payload[0] is where its payload starts in them, payload[1] the payload's length.
+ * Refusals: 1, 2.
+ */
+uint32_t reducer_field(const uint8_t *bytes, size_t bytes_length, size_t payload[2]);
+
+/*
+ * Loads a tagged file: fills the first 3 * N words of the node table and the first O of the output table. numbers are I, N
+ * and O. Refusals: 1, 2, 3, 4, 5, 6.
+ */
+uint32_t reducer_load(const uint8_t *file, size_t file_length,
+                      uint32_t *node_table, size_t node_table_length,
+                      uint32_t *output_table, size_t output_table_length,
+                      uint32_t numbers[3]);
+
+/*
+ * Writes the graph's tagged file to the front of the buffer. length is the file's length, at most
+ * REDUCER_FILE_BYTES(nodes, outputs). Refusals: 3, 4, 5, 9.
+ */
+uint32_t reducer_write(uint32_t inputs, uint32_t nodes, uint32_t outputs,
+                       const uint32_t *node_table, size_t node_table_length,
+                       const uint32_t *output_table, size_t output_table_length,
+                       uint8_t *buffer, size_t buffer_length,
+                       size_t *length);
+
+/*
+ * Evaluates all outputs under 64 assignments: bit j of input word k is input k + 1 under assignment j, and bit j of result o
+ * output o under it. Needs I input words and O results. Refusals: 3, 4, 5, 8.
+ */
+uint32_t reducer_evaluate(uint32_t inputs, uint32_t nodes, uint32_t outputs,
+                          const uint32_t *node_table, size_t node_table_length,
+                          const uint32_t *output_table, size_t output_table_length,
+                          const uint64_t *input_words, size_t input_words_length,
+                          uint64_t *scratch, size_t scratch_length,
+                          uint64_t *results, size_t results_length);
+
+/* How many edges are complemented, those to the constant not counted. Refusals: 3, 4, 5. */
+uint32_t reducer_count(uint32_t inputs, uint32_t nodes, uint32_t outputs,
+                       const uint32_t *node_table, size_t node_table_length,
+                       const uint32_t *output_table, size_t output_table_length,
+                       uint32_t *count);
+
+/* Makes the best move of one node, given by its index. Refusals: 3, 4, 5, 7. */
+uint32_t reducer_node(uint32_t inputs, uint32_t nodes, uint32_t outputs,
+                      uint32_t *node_table, size_t node_table_length,
+                      uint32_t *output_table, size_t output_table_length,
+                      uint32_t node,
+                      uint32_t *saving);
+
+/*
+ * Makes the best moves of a node and of the node that its word 1, 2 or 3 names; a word that names no node changes nothing and
+ * saves 0. Refusals: 3, 4, 5, 7.
+ */
+uint32_t reducer_pair(uint32_t inputs, uint32_t nodes, uint32_t outputs,
+                      uint32_t *node_table, size_t node_table_length,
+                      uint32_t *output_table, size_t output_table_length,
+                      uint32_t node, uint32_t word,
+                      uint32_t *saving);
+
+/*
+ * Makes the best moves of the tree of a root: a node with other than one reader, or with one that is an output. Refusals: 3,
+ * 4, 5, 7, 8.
+ */
+uint32_t reducer_tree(uint32_t inputs, uint32_t nodes, uint32_t outputs,
+                      uint32_t *node_table, size_t node_table_length,
+                      uint32_t *output_table, size_t output_table_length,
+                      uint32_t root,
+                      uint32_t *scratch, size_t scratch_length,
+                      uint32_t *saving);
+
+/*
+ * Makes rounds of all tree, node and pair calls until one saves nothing. figures are the rounds made, that last one included,
+ * and the complemented edges before and after. Refusals: 3, 4, 5, 8.
+ */
+uint32_t reducer_settle(uint32_t inputs, uint32_t nodes, uint32_t outputs,
+                        uint32_t *node_table, size_t node_table_length,
+                        uint32_t *output_table, size_t output_table_length,
+                        uint32_t *scratch, size_t scratch_length,
+                        uint32_t figures[3]);
+
+#ifdef __cplusplus
+}
+#endif
+
+#endif

@@ -1,0 +1,277 @@
+"""The inversion reducer for majority and XOR graphs, for Python.
+
+    import panjerov
+    graph = panjerov.load(open("graph.bin", "rb").read())
+    print(graph.evaluate([0xF0, 0xCC, 0xAA]))
+    print(graph.settle())
+    open("settled.bin", "wb").write(graph.write())
+
+Every call is one of the proved library's. A call that cannot be made raises: Refused, with the number of the refusal, where
+the library refuses it; TypeError or ValueError where an argument is not of the kind that the library takes. Either way
+nothing has changed.
+
+The library is linked, at the first import, from target/staticlib/libreducer.a, which `rt staticlib reducer` writes.
+"""
+
+from __future__ import annotations
+
+import ctypes
+import operator
+import os
+import subprocess
+from pathlib import Path
+from typing import Iterable, List, NamedTuple, Sequence, Type
+
+__all__ = [
+    "Graph", "Refused", "Settled", "load", "field",
+    "MARK", "MOST_INPUTS", "MOST_NODES", "MOST_OUTPUTS",
+]
+
+#: The third word of an XOR node.
+MARK = 4294967295
+#: Limits of a graph.
+MOST_INPUTS = 4096
+MOST_NODES = 100000
+MOST_OUTPUTS = 4096
+
+_WHY = {
+    1: "the bytes end within a field",
+    2: "a field has not the tag or the length that is due",
+    3: "there are too many inputs, nodes or outputs",
+    4: "a table, input or result slice is too short",
+    5: "a literal names an index that is not allowed there",
+    6: "there are bytes after the end field",
+    7: "there is no such node, root or word",
+    8: "the scratch is too short",
+    9: "the buffer is too short",
+}
+
+
+class Refused(Exception):
+    """A call that the library refuses. `number` is 1 to 9; nothing has changed."""
+
+    def __init__(self, number: int) -> None:
+        super().__init__(f"refused {number}: {_WHY.get(number, 'for no known cause')}")
+        self.number = number
+
+
+class Settled(NamedTuple):
+    """What settling answers: the rounds made, and the complemented edges before and after."""
+
+    rounds: int
+    before: int
+    after: int
+
+
+_ROOT = Path(__file__).resolve().parent.parent
+_ARCHIVE = _ROOT / "target" / "staticlib" / "libreducer.a"
+_SHARED = _ROOT / "target" / "python" / "libreducer.so"
+
+
+def _link() -> Path:
+    """The shared object, linked anew where the static library is younger."""
+    if not _ARCHIVE.exists():
+        raise ImportError(f"there is no {_ARCHIVE}: run `rt staticlib reducer` in the repository's root first")
+    if not _SHARED.exists() or _SHARED.stat().st_mtime < _ARCHIVE.stat().st_mtime:
+        _SHARED.parent.mkdir(parents=True, exist_ok=True)
+        # Linked beside and renamed, so that two imports at once do not meet half a file.
+        beside = _SHARED.with_name(f"libreducer.{os.getpid()}.so")
+        words = ["gcc", "-shared", "-o", str(beside), "-Wl,--whole-archive", str(_ARCHIVE), "-Wl,--no-whole-archive"]
+        try:
+            subprocess.run(words, check=True, capture_output=True, text=True)
+        except FileNotFoundError:
+            raise ImportError("gcc is needed to link the library, and is not there") from None
+        except subprocess.CalledProcessError as error:
+            raise ImportError(f"the library could not be linked:\n{error.stderr}") from None
+        os.replace(beside, _SHARED)
+    return _SHARED
+
+
+_library = ctypes.CDLL(str(_link()))
+
+_U32 = ctypes.c_uint32
+_U64 = ctypes.c_uint64
+_SIZE = ctypes.c_size_t
+_WORDS = [ctypes.c_void_p, _SIZE]
+_GRAPH = [_U32, _U32, _U32] + _WORDS + _WORDS
+
+
+def _function(name: str, arguments: list):
+    function = getattr(_library, name)
+    function.argtypes = arguments
+    function.restype = _U32
+    return function
+
+
+_field = _function("reducer_field", _WORDS + [ctypes.c_void_p])
+_load = _function("reducer_load", _WORDS * 3 + [ctypes.c_void_p])
+_write = _function("reducer_write", _GRAPH + _WORDS + [ctypes.c_void_p])
+_evaluate = _function("reducer_evaluate", _GRAPH + _WORDS * 3)
+_count = _function("reducer_count", _GRAPH + [ctypes.c_void_p])
+_node = _function("reducer_node", _GRAPH + [_U32, ctypes.c_void_p])
+_pair = _function("reducer_pair", _GRAPH + [_U32, _U32, ctypes.c_void_p])
+_tree = _function("reducer_tree", _GRAPH + [_U32] + _WORDS + [ctypes.c_void_p])
+_settle = _function("reducer_settle", _GRAPH + _WORDS + [ctypes.c_void_p])
+
+
+def _number(value: int, bits: int, what: str) -> int:
+    """value as an int, if it is a whole number of so many bits: an int, or what counts as one."""
+    try:
+        if isinstance(value, bool):
+            raise TypeError
+        number = operator.index(value)
+    except TypeError:
+        raise TypeError(f"{what} must be an int, and is a {type(value).__name__}") from None
+    if not 0 <= number < 1 << bits:
+        raise ValueError(f"{what} must be from 0 to {(1 << bits) - 1}, and is {number}")
+    return number
+
+
+def _array(kind: Type, length: int):
+    """So many zeros. An array of length 0 has an element too, so that its address is one."""
+    return (kind * max(length, 1))()
+
+
+def _numbers(values: Iterable[int], kind: Type, what: str):
+    """The values as an array of the kind, and how many they are."""
+    bits = 8 * ctypes.sizeof(kind)
+    if isinstance(values, (str, bytes, bytearray)):
+        raise TypeError(f"{what} must be a sequence of ints, and is a {type(values).__name__}")
+    checked = [_number(value, bits, f"each of {what}") for value in values]
+    array = _array(kind, len(checked))
+    array[: len(checked)] = checked
+    return array, len(checked)
+
+
+def _bytes(value: bytes, what: str):
+    """The bytes as an array, and how many they are."""
+    if not isinstance(value, (bytes, bytearray, memoryview)):
+        raise TypeError(f"{what} must be bytes, and is a {type(value).__name__}")
+    value = bytes(value)
+    array = _array(ctypes.c_uint8, len(value))
+    ctypes.memmove(array, value, len(value))
+    return array, len(value)
+
+
+def _accept(number: int) -> None:
+    if number != 0:
+        raise Refused(number)
+
+
+def _said(file: bytes, at: int, most: int) -> int:
+    """What the head of a file says at this place, at most `most`; 0 where the file is too short to say it."""
+    return min(int.from_bytes(file[at : at + 4], "big"), most) if len(file) >= at + 4 else 0
+
+
+def field(data: bytes) -> bytes:
+    """The payload of the field at the front of the bytes."""
+    array, length = _bytes(data, "data")
+    payload = (_SIZE * 2)()
+    _accept(_field(array, length, payload))
+    return bytes(array[payload[0] : payload[0] + payload[1]])
+
+
+def load(file: bytes) -> "Graph":
+    """The graph that a tagged file holds."""
+    array, length = _bytes(file, "file")
+    file = bytes(file)
+    # Room for what the head says: a head that says more than the limits is refused before room is looked at.
+    node_words, output_words = 3 * _said(file, 7, MOST_NODES), _said(file, 11, MOST_OUTPUTS)
+    nodes, outputs = _array(_U32, node_words), _array(_U32, output_words)
+    numbers = (_U32 * 3)()
+    _accept(_load(array, length, nodes, node_words, outputs, output_words, numbers))
+    return Graph(numbers[0], nodes[:node_words], outputs[:output_words])
+
+
+class Graph:
+    """A graph of majorities and XORs.
+
+    `nodes` has three words a node, a third word MARK making it an XOR; `outputs` has one literal an output. A literal is
+    2 * index, plus 1 if complemented; index 0 is the constant false, inputs follow, then nodes.
+    """
+
+    inputs: int
+    nodes: List[int]
+    outputs: List[int]
+
+    def __init__(self, inputs: int, nodes: Sequence[int], outputs: Sequence[int]) -> None:
+        self.inputs = _number(inputs, 32, "inputs")
+        self.nodes = [_number(word, 32, "each of nodes") for word in nodes]
+        self.outputs = [_number(word, 32, "each of outputs") for word in outputs]
+        if len(self.nodes) % 3 != 0:
+            raise ValueError("nodes must have three words a node")
+
+    def __repr__(self) -> str:
+        return f"Graph({self.inputs}, {self.nodes}, {self.outputs})"
+
+    def __eq__(self, other: object) -> bool:
+        if not isinstance(other, Graph):
+            return NotImplemented
+        return (self.inputs, self.nodes, self.outputs) == (other.inputs, other.nodes, other.outputs)
+
+    def _lent(self) -> list:
+        """I, N, O and both tables, as every call takes them. What was set since is checked again."""
+        nodes, node_words = _numbers(self.nodes, _U32, "nodes")
+        outputs, output_words = _numbers(self.outputs, _U32, "outputs")
+        if node_words % 3 != 0:
+            raise ValueError("nodes must have three words a node")
+        inputs = _number(self.inputs, 32, "inputs")
+        count = _number(node_words // 3, 32, "the number of nodes")
+        return [inputs, count, _number(output_words, 32, "the number of outputs"), nodes, node_words, outputs, output_words]
+
+    def _take(self, lent: list) -> None:
+        """Keeps the tables as an accepted call left them."""
+        _, _, _, nodes, node_words, outputs, output_words = lent
+        self.nodes, self.outputs = nodes[:node_words], outputs[:output_words]
+
+    def write(self) -> bytes:
+        """The graph's tagged file."""
+        lent = self._lent()
+        room = 18 + 5 * lent[4] + 7 * lent[6]
+        buffer, length = _array(ctypes.c_uint8, room), _SIZE()
+        _accept(_write(*lent, buffer, room, ctypes.byref(length)))
+        return bytes(buffer[: length.value])
+
+    def evaluate(self, input_words: Sequence[int]) -> List[int]:
+        """The outputs' words of 64 bits for one such word an input: each bit place is an assignment of its own."""
+        lent = self._lent()
+        words, count = _numbers(input_words, _U64, "input_words")
+        scratch, results = _array(_U64, lent[1]), _array(_U64, lent[2])
+        _accept(_evaluate(*lent, words, count, scratch, lent[1], results, lent[2]))
+        return results[: lent[2]]
+
+    def complemented_edges(self) -> int:
+        """How many edges are complemented, those to the constant not counted."""
+        count = _U32()
+        _accept(_count(*self._lent(), ctypes.byref(count)))
+        return count.value
+
+    def node_call(self, node: int) -> int:
+        """Makes the best move of one node, given by its index; what it saves."""
+        lent, saving = self._lent(), _U32()
+        _accept(_node(*lent, _number(node, 32, "node"), ctypes.byref(saving)))
+        self._take(lent)
+        return saving.value
+
+    def pair_call(self, node: int, word: int) -> int:
+        """Makes the best moves of a node and of the one that its word (1 to 3) names; what they save."""
+        lent, saving = self._lent(), _U32()
+        _accept(_pair(*lent, _number(node, 32, "node"), _number(word, 32, "word"), ctypes.byref(saving)))
+        self._take(lent)
+        return saving.value
+
+    def tree_call(self, root: int) -> int:
+        """Makes the best moves of the tree of a root; what they save."""
+        lent, saving = self._lent(), _U32()
+        room = 8 * lent[1]
+        _accept(_tree(*lent, _number(root, 32, "root"), _array(_U32, room), room, ctypes.byref(saving)))
+        self._take(lent)
+        return saving.value
+
+    def settle(self) -> Settled:
+        """Makes rounds of tree, node and pair calls until one saves nothing."""
+        lent, figures = self._lent(), (_U32 * 3)()
+        room = 8 * lent[1]
+        _accept(_settle(*lent, _array(_U32, room), room, figures))
+        self._take(lent)
+        return Settled(*figures)

@@ -1,0 +1,157 @@
+//! Holds the proved reducer to two other implementations, and says how much was tried. `differential SEED` tries one
+//! seed of every kind again.
+
+use std::process::ExitCode;
+use std::sync::atomic::Ordering;
+use std::time::Instant;
+
+use differential::cases::{Case, Step};
+use differential::shrink::hold;
+use differential::{files, lengths, lists, raw};
+use reference::calls::Call;
+use reference::generate::{graph, Shape};
+use reference::random::Random;
+
+/// What one kind of test does with a seed: how many cases it tried, or what failed.
+type Kind = (&'static str, u64, fn(u64) -> Result<u64, String>);
+
+const KINDS: [Kind; 10] = [
+    ("the plain implementation, lists of calls", 30_000, plain_lists),
+    ("lists of calls on small graphs", 80_000, small_lists),
+    ("long lists of calls", 2_000, long_lists),
+    ("counts, values and files around lists", 40_000, readings),
+    ("settling hundreds of nodes", 400, settled),
+    ("all calls on thousands of nodes", 20, large),
+    ("lent slices of every length", 1_200, slices),
+    ("literals in every place, and limits", 1_000, literals),
+    ("files, whole and damaged", 400_000, damaged),
+    ("files with every byte changed, and cut anywhere", 100, every_byte),
+];
+
+fn plain_lists(seed: u64) -> Result<u64, String> {
+    let case = lists::random_case(seed, 7, 8);
+    let calls = case.steps.len() as u64;
+    hold(seed, case, &lists::check_plain)?;
+    Ok(calls)
+}
+
+fn small_lists(seed: u64) -> Result<u64, String> {
+    let case = lists::random_case(seed, 7, 8);
+    let calls = case.steps.len() as u64;
+    hold(seed, case, &lists::check_list)?;
+    Ok(calls)
+}
+
+fn long_lists(seed: u64) -> Result<u64, String> {
+    let case = lists::random_case(seed, 14, 60);
+    let calls = case.steps.len() as u64;
+    hold(seed, case, &lists::check_list)?;
+    Ok(calls)
+}
+
+fn readings(seed: u64) -> Result<u64, String> {
+    hold(seed, lists::random_case(seed, 12, 4), &lists::check_readings)?;
+    Ok(2)
+}
+
+const TALL: [Shape; 4] = [Shape::Tree, Shape::Chain, Shape::Xor, Shape::Random];
+
+fn settled(seed: u64) -> Result<u64, String> {
+    let mut random = Random::new(seed);
+    let shape = TALL[(seed % 4) as usize];
+    let nodes = random.between(50, 400);
+    let graph = graph(&mut random, shape, 12, nodes, 6);
+    hold(seed, Case { graph, steps: vec![], seed }, &lists::check_settled)?;
+    Ok(1)
+}
+
+fn large(seed: u64) -> Result<u64, String> {
+    let mut random = Random::new(seed);
+    let shape = TALL[(seed % 4) as usize];
+    // The largest that the limits allow, and smaller ones.
+    let nodes = if seed < 4 { 100_000 } else { random.between(2_000, 20_000) };
+    let graph = graph(&mut random, shape, 4_096, nodes, 4_096);
+    let node = |random: &mut Random| random.between(4_097, 4_096 + nodes);
+    let mut calls = vec![Call::Node(node(&mut random)), Call::Pair(node(&mut random), 1)];
+    calls.extend((0..6).map(|_| Call::Tree(node(&mut random))));
+    calls.extend([Call::Tree(4_096 + nodes), Call::Settle, Call::Pair(node(&mut random), 2)]);
+    let steps = calls.into_iter().map(|call| Step { call, spare: 0 }).collect();
+    let case = Case { graph, steps, seed };
+    let count = case.steps.len() as u64 + 3;
+    // Too large to be made smaller step by step: the seed says it all.
+    lists::check_large(&case).map_err(|wrong| format!("seed {seed}: {wrong}"))?;
+    Ok(count)
+}
+
+fn slices(seed: u64) -> Result<u64, String> {
+    let case = lists::random_case(seed, 4, 3);
+    let count = lengths::check_lengths(&case);
+    hold(seed, case, &|case| lengths::check_lengths(case).map(|_| ()))?;
+    count
+}
+
+fn literals(seed: u64) -> Result<u64, String> {
+    let limits = if seed == 0 { lengths::check_limits()? } else { 0 };
+    let case = lists::random_case(seed, 4, 3);
+    let count = lengths::check_literals(&case);
+    hold(seed, case, &|case| lengths::check_literals(case).map(|_| ()))?;
+    Ok(limits + count?)
+}
+
+fn damaged(seed: u64) -> Result<u64, String> {
+    hold(seed, files::random_file(seed), &files::check_file)?;
+    Ok(1)
+}
+
+fn every_byte(seed: u64) -> Result<u64, String> {
+    files::check_every_byte(seed)
+}
+
+fn run(kind: &Kind, only: Option<u64>) -> Result<u64, String> {
+    let (name, seeds, test) = *kind;
+    let start = Instant::now();
+    let mut count = 0;
+    for seed in only.map_or(0..seeds, |seed| seed..seed + 1) {
+        count += test(seed).map_err(|wrong| format!("FAILED: {name}: {wrong}"))?;
+    }
+    println!("{count:>9} {name} ({:.1} s)", start.elapsed().as_secs_f64());
+    Ok(count)
+}
+
+/// Says how often each number was met. One that never was says that the cases are too tame.
+fn all_met() -> Result<(), String> {
+    let met = raw::MET.each_ref().map(|count| count.load(Ordering::Relaxed));
+    let refused: Vec<String> = (1..10).map(|number| format!("{number}: {}", met[number])).collect();
+    println!("calls accepted: {}; refused, by number: {}", met[0], refused.join(", "));
+    match met.iter().position(|&count| count == 0) {
+        Some(number) => Err(format!("FAILED: no call was answered by {number}")),
+        None => Ok(()),
+    }
+}
+
+fn main() -> ExitCode {
+    let only = std::env::args().nth(1).map(|word| word.parse().expect("a seed is a number"));
+    let mut total = 0;
+    let mut failed = 0;
+    for kind in &KINDS {
+        match run(kind, only) {
+            Ok(count) => total += count,
+            Err(wrong) => {
+                println!("{wrong}");
+                failed += 1;
+            }
+        }
+    }
+    if only.is_none() {
+        if let Err(wrong) = all_met() {
+            println!("{wrong}");
+            failed += 1;
+        }
+    }
+    println!("differential: {total} cases passed, {failed} kinds failed");
+    if failed == 0 {
+        ExitCode::SUCCESS
+    } else {
+        ExitCode::FAILURE
+    }
+}

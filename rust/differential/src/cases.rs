@@ -1,0 +1,175 @@
+//! Graphs as cases: smaller ones, and how they are shown.
+
+use crate::shrink::Shrink;
+use reference::calls::Call;
+use reference::generate::{graph, with_tails, SHAPES};
+use reference::graph::{Graph, MARK};
+use reference::random::Random;
+
+/// A call, and by how many words its scratch is longer than it needs to be; by how many shorter, if less than 0.
+#[derive(Clone, Copy, Debug, PartialEq, Eq)]
+pub struct Step {
+    pub call: Call,
+    pub spare: i64,
+}
+
+impl Step {
+    pub fn scratch(&self, g: &Graph) -> usize {
+        (8 * g.nodes as i64 + self.spare).max(0) as usize
+    }
+
+    /// The same call once index `gone` is no more.
+    fn without(&self, gone: u32) -> Step {
+        let lower = |v: u32| if v >= gone && v > 0 { v - 1 } else { v };
+        let call = match self.call {
+            Call::Node(v) => Call::Node(lower(v)),
+            Call::Pair(v, word) => Call::Pair(lower(v), word),
+            Call::Tree(v) => Call::Tree(lower(v)),
+            Call::Settle => Call::Settle,
+        };
+        Step { call, ..*self }
+    }
+}
+
+/// A graph with a list of calls; what else a check varies, it takes from the seed.
+#[derive(Clone, Debug, PartialEq, Eq)]
+pub struct Case {
+    pub graph: Graph,
+    pub steps: Vec<Step>,
+    pub seed: u64,
+}
+
+/// A graph of a random shape, tails behind its tables.
+pub fn random_graph(random: &mut Random, most_inputs: u32, most_nodes: u32, most_outputs: u32) -> Graph {
+    let shape = SHAPES[random.below(SHAPES.len() as u32) as usize];
+    let inputs = random.between(0, most_inputs);
+    let nodes = random.between(0, most_nodes);
+    let outputs = random.between(0, most_outputs);
+    let g = graph(random, shape, inputs, nodes, outputs);
+    with_tails(random, g, 3)
+}
+
+/// A literal once index `gone` is no more: what named it names `instead`, indices above are one less.
+fn renamed(word: u32, gone: u32, instead: u32) -> u32 {
+    let index = word / 2;
+    if word == MARK || index < gone {
+        word
+    } else if index == gone {
+        instead ^ (word & 1)
+    } else {
+        word - 2
+    }
+}
+
+fn rename_all(g: &Graph, gone: u32, instead: u32) -> Graph {
+    let rename = |table: &Vec<u32>| table.iter().map(|&word| renamed(word, gone, instead)).collect();
+    Graph { node_table: rename(&g.node_table), output_table: rename(&g.output_table), ..g.clone() }
+}
+
+/// Without node v, counted from 0; its readers read its first word instead.
+fn without_node(g: &Graph, v: u32) -> Graph {
+    let at = 3 * v as usize;
+    let first = g.node_table[at];
+    let mut next = rename_all(g, g.inputs + 1 + v, first);
+    next.node_table.drain(at..at + 3);
+    next.nodes -= 1;
+    next
+}
+
+fn without_input(g: &Graph, input: u32) -> Graph {
+    let mut next = rename_all(g, input, 0);
+    next.inputs -= 1;
+    next
+}
+
+fn without_output(g: &Graph, output: usize) -> Graph {
+    let mut next = g.clone();
+    next.output_table.remove(output);
+    next.outputs -= 1;
+    next
+}
+
+/// Whether the tables are long enough to be taken apart.
+fn whole(g: &Graph) -> bool {
+    g.node_table.len() >= 3 * g.nodes as usize && g.output_table.len() >= g.outputs as usize
+}
+
+/// Smaller graphs, with the index that is no more, if one is.
+fn smaller_graphs(g: &Graph) -> Vec<(Graph, Option<u32>)> {
+    let mut all = Vec::new();
+    if !whole(g) {
+        return all;
+    }
+    for v in (0..g.nodes).rev() {
+        all.push((without_node(g, v), Some(g.inputs + 1 + v)));
+    }
+    for input in (1..=g.inputs).rev() {
+        all.push((without_input(g, input), Some(input)));
+    }
+    for output in 0..g.outputs as usize {
+        all.push((without_output(g, output), None));
+    }
+    all.extend(simpler_graphs(g).into_iter().map(|next| (next, None)));
+    all
+}
+
+/// Graphs with fewer words in the tables' tails, and with lower words.
+fn simpler_graphs(g: &Graph) -> Vec<Graph> {
+    let mut all = Vec::new();
+    let ends = (3 * g.nodes as usize, g.outputs as usize);
+    if g.node_table.len() > ends.0 || g.output_table.len() > ends.1 {
+        let mut next = g.clone();
+        next.node_table.truncate(ends.0);
+        next.output_table.truncate(ends.1);
+        all.push(next);
+    }
+    for place in 0..ends.0 + ends.1 {
+        let word = if place < ends.0 { g.node_table[place] } else { g.output_table[place - ends.0] };
+        for instead in [0, word & !1] {
+            if instead < word && word != MARK {
+                let mut next = g.clone();
+                let slot =
+                    if place < ends.0 { &mut next.node_table[place] } else { &mut next.output_table[place - ends.0] };
+                *slot = instead;
+                all.push(next);
+            }
+        }
+    }
+    all
+}
+
+pub fn show_graph(g: &Graph) -> String {
+    let mut text = format!("I={} N={} O={}:", g.inputs, g.nodes, g.outputs);
+    for (v, words) in g.node_table.chunks(3).enumerate() {
+        let tail = if v >= g.nodes as usize { "tail " } else { "" };
+        let shown: Vec<String> =
+            words.iter().map(|&word| if word == MARK { "mark".into() } else { word.to_string() }).collect();
+        text += &format!(" {tail}{};", shown.join(" "));
+    }
+    format!("{text} -> {:?}", g.output_table)
+}
+
+impl Shrink for Case {
+    fn smaller(&self) -> Vec<Case> {
+        let mut all = Vec::new();
+        for at in 0..self.steps.len() {
+            let mut next = self.clone();
+            next.steps.remove(at);
+            all.push(next);
+        }
+        for (graph, gone) in smaller_graphs(&self.graph) {
+            if let Some(gone) = gone {
+                let steps = self.steps.iter().map(|step| step.without(gone)).collect();
+                all.push(Case { graph: graph.clone(), steps, ..self.clone() });
+            }
+            all.push(Case { graph, ..self.clone() });
+        }
+        all
+    }
+
+    fn show(&self) -> String {
+        let steps: Vec<String> =
+            self.steps.iter().map(|step| format!("{:?} with scratch {:+}", step.call, step.spare)).collect();
+        format!("{}\ncalls: {}\n", show_graph(&self.graph), steps.join(", "))
+    }
+}

@@ -1,0 +1,12 @@
+//! The proved reducer held, through its C interface, to implementations that share no line with it.
+//!
+//! `plain` is a reducer in ordinary Rust by the same algorithms as the proved one: what the benchmark times it against, and
+//! a fast second opinion on graphs that are too large for the crate `reference`, to which it is itself held on small ones.
+
+pub mod cases;
+pub mod files;
+pub mod lengths;
+pub mod lists;
+pub mod plain;
+pub mod raw;
+pub mod shrink;

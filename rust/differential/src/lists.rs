@@ -1,0 +1,190 @@
+//! Lists of calls on one graph, and single calls of every entry, against the other implementations.
+
+use crate::cases::{random_graph, Case, Step};
+use crate::plain;
+use crate::plain::calls::Tables;
+use crate::plain::View;
+use crate::raw;
+use reference::calls::{self, Answer, Call};
+use reference::fast::Fast;
+use reference::graph::{complemented_edges, Graph};
+use reference::random::Random;
+use reference::settling::Settled;
+use reference::{evaluation, file};
+
+/// A call that is mostly sensible.
+fn random_call(random: &mut Random, g: &Graph) -> Call {
+    let end = g.inputs + g.nodes;
+    let node = match random.below(12) {
+        0 => random.below(end + 3),
+        1 => u32::MAX - random.below(2),
+        _ if g.nodes == 0 => end,
+        _ => random.between(g.inputs + 1, end),
+    };
+    match random.below(8) {
+        0 | 1 => Call::Node(node),
+        2 | 3 => Call::Pair(node, if random.one_in(10) { random.below(6) } else { random.between(1, 3) }),
+        4..=6 => Call::Tree(node),
+        _ => Call::Settle,
+    }
+}
+
+/// A random call, its scratch a word too short at times.
+fn random_step(random: &mut Random, g: &Graph) -> Step {
+    let spare = if random.one_in(8) { -1 } else { random.below(3) as i64 };
+    Step { call: random_call(random, g), spare }
+}
+
+pub fn random_case(seed: u64, most_nodes: u32, most_calls: u32) -> Case {
+    let mut random = Random::new(seed);
+    let graph = random_graph(&mut random, 6, most_nodes, 4);
+    let count = random.between(1, most_calls);
+    let steps = (0..count).map(|_| random_step(&mut random, &graph)).collect();
+    Case { graph, steps, seed }
+}
+
+fn differ<T: PartialEq + std::fmt::Debug>(what: &str, got: &T, due: &T) -> Result<(), String> {
+    if got == due {
+        Ok(())
+    } else {
+        Err(format!("{what}: {got:?}, and not {due:?}"))
+    }
+}
+
+/// The list, answer by answer and table by table.
+pub fn check_list(case: &Case) -> Result<(), String> {
+    let mut due = case.graph.clone();
+    let mut got = case.graph.clone();
+    for (at, step) in case.steps.iter().enumerate() {
+        let (call, scratch) = (step.call, step.scratch(&case.graph));
+        let answer = raw::step(&mut got, call, scratch)?;
+        differ(&format!("call {at}, {call:?}"), &answer, &calls::step(&mut due, call, scratch))?;
+        differ(&format!("the graph after call {at}, {call:?}"), &got, &due)?;
+    }
+    Ok(())
+}
+
+/// What the entries that rewrite nothing answer, before the list and after it; the outputs must not have changed.
+pub fn check_readings(case: &Case) -> Result<(), String> {
+    let mut random = Random::new(case.seed);
+    let words: Vec<u64> = (0..case.graph.inputs).map(|_| random.word()).collect();
+    let mut g = case.graph.clone();
+    let before = check_reading(&g, &words)?;
+    for step in &case.steps {
+        raw::step(&mut g, step.call, step.scratch(&case.graph))?;
+    }
+    let after = check_reading(&g, &words)?;
+    differ("the outputs after the list", &after, &before)
+}
+
+fn check_reading(g: &Graph, words: &[u64]) -> Result<Vec<u64>, String> {
+    differ("the count", &raw::count(g)?, &complemented_edges(g))?;
+    let outputs = g.outputs as usize;
+    let mut due = vec![7; outputs + 2];
+    let mut results = due.clone();
+    let number = evaluation::evaluate(g, words, g.nodes as usize, &mut due);
+    differ("evaluation", &raw::evaluate(g, words, &mut vec![3; g.nodes as usize], &mut results)?, &number)?;
+    differ("results", &results, &due)?;
+    check_round_trip(g)?;
+    Ok(results)
+}
+
+fn check_round_trip(g: &Graph) -> Result<(), String> {
+    let mut due = vec![0xee; 18 + 15 * g.nodes as usize + 7 * g.outputs as usize + 3];
+    let mut buffer = due.clone();
+    let length = file::write(g, &mut due);
+    differ("writing", &raw::write(g, &mut buffer)?, &length)?;
+    differ("the file", &buffer, &due)?;
+    let length = length.expect("an admitted graph and a long buffer");
+    let mut node_table = g.node_table.clone();
+    let mut output_table = g.output_table.clone();
+    node_table[..3 * g.nodes as usize].fill(77);
+    output_table[..g.outputs as usize].fill(77);
+    let loaded = raw::load(&buffer[..length], &mut node_table, &mut output_table)?;
+    differ("loading what was written", &loaded, &Ok((g.inputs, g.nodes, g.outputs)))?;
+    differ("the tables loaded", &(node_table, output_table), &(g.node_table.clone(), g.output_table.clone()))
+}
+
+fn tables(g: &mut Graph) -> Tables<'_> {
+    Tables {
+        inputs: g.inputs,
+        nodes: g.nodes,
+        outputs: g.outputs,
+        node_table: &mut g.node_table,
+        output_table: &mut g.output_table,
+    }
+}
+
+fn saving(result: Result<u32, u32>) -> Answer {
+    result.map_or_else(Answer::Refused, Answer::Saving)
+}
+
+/// One call by the plain implementation.
+pub fn plain_step(g: &mut Graph, call: Call, scratch: usize) -> Answer {
+    let t = &mut tables(g);
+    match call {
+        Call::Node(v) => saving(plain::calls::node_call(t, v)),
+        Call::Pair(v, word) => saving(plain::calls::pair_call(t, v, word)),
+        Call::Tree(root) => saving(plain::calls::tree_call(t, root, scratch)),
+        Call::Settle => plain::settle::settle(t, scratch).map_or_else(Answer::Refused, |s| {
+            Answer::Settled(Settled { rounds: s.rounds, before: s.before, after: s.after })
+        }),
+    }
+}
+
+/// The plain implementation held to the slow one, so that it may stand for it on large graphs.
+pub fn check_plain(case: &Case) -> Result<(), String> {
+    let mut due = case.graph.clone();
+    let mut got = case.graph.clone();
+    for (at, step) in case.steps.iter().enumerate() {
+        let (call, scratch) = (step.call, step.scratch(&case.graph));
+        let answer = plain_step(&mut got, call, scratch);
+        differ(&format!("plain: call {at}, {call:?}"), &answer, &calls::step(&mut due, call, scratch))?;
+        differ(&format!("plain: the graph after call {at}"), &got, &due)?;
+    }
+    Ok(())
+}
+
+/// Large graphs: every call against the plain implementation.
+pub fn check_large(case: &Case) -> Result<(), String> {
+    let mut due = case.graph.clone();
+    let mut got = case.graph.clone();
+    for (at, step) in case.steps.iter().enumerate() {
+        let (call, scratch) = (step.call, step.scratch(&case.graph));
+        let answer = raw::step(&mut got, call, scratch)?;
+        differ(&format!("call {at}, {call:?}"), &answer, &plain_step(&mut due, call, scratch))?;
+        if got != due {
+            return Err(format!("the graph after call {at}, {call:?}, differs"));
+        }
+    }
+    let words: Vec<u64> = (0..got.inputs as u64).map(|k| (k + case.seed).wrapping_mul(0x9e37_79b9_7f4a_7c15)).collect();
+    let mut results = (vec![0; got.outputs as usize], vec![0; got.outputs as usize]);
+    let mut scratch = vec![0; got.nodes as usize];
+    let view = View {
+        inputs: got.inputs,
+        nodes: got.nodes,
+        outputs: got.outputs,
+        node_table: &got.node_table,
+        output_table: &got.output_table,
+    };
+    differ(
+        "evaluation",
+        &raw::evaluate(&got, &words, &mut scratch, &mut results.0)?,
+        &plain::evaluate::evaluate(&view, &words, &mut vec![0; got.nodes as usize], &mut results.1),
+    )?;
+    differ("results", &results.0, &results.1)?;
+    check_round_trip(&got)
+}
+
+/// Settling of graphs of hundreds of nodes, against the other implementation's fast form.
+pub fn check_settled(case: &Case) -> Result<(), String> {
+    let mut got = case.graph.clone();
+    let answer = raw::step(&mut got, Call::Settle, 8 * case.graph.nodes as usize)?;
+    let mut fast = Fast::new(case.graph.clone());
+    let due = fast.settle();
+    differ("settling", &answer, &Answer::Settled(due))?;
+    if got != fast.g {
+        return Err("the settled graph differs".into());
+    }
+    Ok(())
+}

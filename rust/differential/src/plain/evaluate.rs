@@ -1,0 +1,43 @@
+//! Evaluation, a word of 64 assignments at a time.
+
+use super::{check_limits, check_literals, check_tables, Number, View};
+use reducer::MARK;
+
+fn value(inputs: u32, input_words: &[u64], values: &[u64], literal: u32) -> u64 {
+    let index = literal / 2;
+    let word = if index == 0 {
+        0
+    } else if index <= inputs {
+        input_words[index as usize - 1]
+    } else {
+        values[(index - inputs - 1) as usize]
+    };
+    word ^ (literal as u64 & 1).wrapping_neg()
+}
+
+pub fn evaluate(g: &View, input_words: &[u64], scratch: &mut [u64], results: &mut [u64]) -> Result<(), Number> {
+    check_limits(g.inputs, g.nodes, g.outputs)?;
+    check_tables(g.nodes, g.outputs, g.node_table.len(), g.output_table.len())?;
+    if input_words.len() < g.inputs as usize || results.len() < g.outputs as usize {
+        return Err(4);
+    }
+    check_literals(g)?;
+    if scratch.len() < g.nodes as usize {
+        return Err(8);
+    }
+    for (v, words) in g.words().chunks_exact(3).enumerate() {
+        let (values, rest) = scratch.split_at_mut(v);
+        let x = value(g.inputs, input_words, values, words[0]);
+        let y = value(g.inputs, input_words, values, words[1]);
+        rest[0] = if words[2] == MARK {
+            x ^ y
+        } else {
+            let z = value(g.inputs, input_words, values, words[2]);
+            x & y | x & z | y & z
+        };
+    }
+    for (result, &literal) in results.iter_mut().zip(g.outs()) {
+        *result = value(g.inputs, input_words, scratch, literal);
+    }
+    Ok(())
+}

@@ -1,0 +1,210 @@
+//! The C interface called as C calls it, with a canary where the call may leave a number: a refused call must leave it.
+
+use std::sync::atomic::{AtomicU64, Ordering};
+
+use reducer::raw;
+use reference::calls::{Answer, Call};
+use reference::graph::Graph;
+use reference::settling::Settled;
+
+const CANARY: u32 = 0xa5a5_a5a5;
+const LONG_CANARY: usize = 0xa5a5_a5a5_a5a5;
+
+/// How often each number was returned, 0 for an accepted call.
+pub static MET: [AtomicU64; 10] = [const { AtomicU64::new(0) }; 10];
+
+/// What a call answered, or what was wrong with how it answered.
+pub type Answered<T> = Result<Result<T, u32>, String>;
+
+/// The values where the number is 0, and else that they are still the canary.
+fn answered<T: PartialEq + std::fmt::Debug>(number: u32, told: T, canary: T) -> Answered<T> {
+    if let Some(met) = MET.get(number as usize) {
+        met.fetch_add(1, Ordering::Relaxed);
+    }
+    match number {
+        0 => Ok(Ok(told)),
+        1..=9 if told == canary => Ok(Err(number)),
+        1..=9 => Err(format!("refused by {number}, and yet told {told:?}")),
+        _ => Err(format!("the number {number}")),
+    }
+}
+
+pub fn field(bytes: &[u8]) -> Answered<&[u8]> {
+    let canary = [LONG_CANARY; 2];
+    let mut payload = canary;
+    let number = unsafe { raw::reducer_field(bytes.as_ptr(), bytes.len(), &mut payload) };
+    match answered(number, payload, canary)? {
+        Ok([start, length]) => match bytes.get(start..start + length) {
+            Some(stretch) => Ok(Ok(stretch)),
+            None => Err(format!("a stretch from {start} of {length} in {} bytes", bytes.len())),
+        },
+        Err(refused) => Ok(Err(refused)),
+    }
+}
+
+pub fn load(file: &[u8], node_table: &mut [u32], output_table: &mut [u32]) -> Answered<(u32, u32, u32)> {
+    let canary = [CANARY; 3];
+    let mut numbers = canary;
+    let number = unsafe {
+        raw::reducer_load(
+            file.as_ptr(),
+            file.len(),
+            node_table.as_mut_ptr(),
+            node_table.len(),
+            output_table.as_mut_ptr(),
+            output_table.len(),
+            &mut numbers,
+        )
+    };
+    Ok(answered(number, numbers, canary)?.map(|[inputs, nodes, outputs]| (inputs, nodes, outputs)))
+}
+
+pub fn write(g: &Graph, buffer: &mut [u8]) -> Answered<usize> {
+    let mut length = LONG_CANARY;
+    let number = unsafe {
+        raw::reducer_write(
+            g.inputs,
+            g.nodes,
+            g.outputs,
+            g.node_table.as_ptr(),
+            g.node_table.len(),
+            g.output_table.as_ptr(),
+            g.output_table.len(),
+            buffer.as_mut_ptr(),
+            buffer.len(),
+            &mut length,
+        )
+    };
+    answered(number, length, LONG_CANARY)
+}
+
+pub fn evaluate(g: &Graph, input_words: &[u64], scratch: &mut [u64], results: &mut [u64]) -> Answered<()> {
+    let number = unsafe {
+        raw::reducer_evaluate(
+            g.inputs,
+            g.nodes,
+            g.outputs,
+            g.node_table.as_ptr(),
+            g.node_table.len(),
+            g.output_table.as_ptr(),
+            g.output_table.len(),
+            input_words.as_ptr(),
+            input_words.len(),
+            scratch.as_mut_ptr(),
+            scratch.len(),
+            results.as_mut_ptr(),
+            results.len(),
+        )
+    };
+    answered(number, (), ())
+}
+
+pub fn count(g: &Graph) -> Answered<u32> {
+    let mut count = CANARY;
+    let number = unsafe {
+        raw::reducer_count(
+            g.inputs,
+            g.nodes,
+            g.outputs,
+            g.node_table.as_ptr(),
+            g.node_table.len(),
+            g.output_table.as_ptr(),
+            g.output_table.len(),
+            &mut count,
+        )
+    };
+    answered(number, count, CANARY)
+}
+
+pub fn node(g: &mut Graph, node: u32) -> Answered<u32> {
+    let mut saving = CANARY;
+    let number = unsafe {
+        raw::reducer_node(
+            g.inputs,
+            g.nodes,
+            g.outputs,
+            g.node_table.as_mut_ptr(),
+            g.node_table.len(),
+            g.output_table.as_mut_ptr(),
+            g.output_table.len(),
+            node,
+            &mut saving,
+        )
+    };
+    answered(number, saving, CANARY)
+}
+
+pub fn pair(g: &mut Graph, node: u32, word: u32) -> Answered<u32> {
+    let mut saving = CANARY;
+    let number = unsafe {
+        raw::reducer_pair(
+            g.inputs,
+            g.nodes,
+            g.outputs,
+            g.node_table.as_mut_ptr(),
+            g.node_table.len(),
+            g.output_table.as_mut_ptr(),
+            g.output_table.len(),
+            node,
+            word,
+            &mut saving,
+        )
+    };
+    answered(number, saving, CANARY)
+}
+
+pub fn tree(g: &mut Graph, root: u32, scratch: &mut [u32]) -> Answered<u32> {
+    let mut saving = CANARY;
+    let number = unsafe {
+        raw::reducer_tree(
+            g.inputs,
+            g.nodes,
+            g.outputs,
+            g.node_table.as_mut_ptr(),
+            g.node_table.len(),
+            g.output_table.as_mut_ptr(),
+            g.output_table.len(),
+            root,
+            scratch.as_mut_ptr(),
+            scratch.len(),
+            &mut saving,
+        )
+    };
+    answered(number, saving, CANARY)
+}
+
+pub fn settle(g: &mut Graph, scratch: &mut [u32]) -> Answered<Settled> {
+    let canary = [CANARY; 3];
+    let mut figures = canary;
+    let number = unsafe {
+        raw::reducer_settle(
+            g.inputs,
+            g.nodes,
+            g.outputs,
+            g.node_table.as_mut_ptr(),
+            g.node_table.len(),
+            g.output_table.as_mut_ptr(),
+            g.output_table.len(),
+            scratch.as_mut_ptr(),
+            scratch.len(),
+            &mut figures,
+        )
+    };
+    Ok(answered(number, figures, canary)?.map(|[rounds, before, after]| Settled { rounds, before, after }))
+}
+
+/// One call of a list, with so many words of scratch, which a refused call must leave.
+pub fn step(g: &mut Graph, call: Call, scratch: usize) -> Result<Answer, String> {
+    let mut lent = vec![CANARY; scratch];
+    let answer = match call {
+        Call::Node(v) => node(g, v)?.map(Answer::Saving),
+        Call::Pair(v, word) => pair(g, v, word)?.map(Answer::Saving),
+        Call::Tree(root) => tree(g, root, &mut lent)?.map(Answer::Saving),
+        Call::Settle => settle(g, &mut lent)?.map(Answer::Settled),
+    };
+    match answer {
+        Ok(answer) => Ok(answer),
+        Err(number) if lent.iter().all(|&word| word == CANARY) => Ok(Answer::Refused(number)),
+        Err(number) => Err(format!("refused by {number}, and yet scratch is changed")),
+    }
+}

@@ -1,0 +1,16 @@
+//! Settles the graph P1: one majority of three inverted inputs, its output inverted.
+//!
+//! Run it in the repository's root: `cargo run --release --manifest-path rust/reducer/Cargo.toml --example settle_p1`
+
+use reducer::{Graph, Refusal, Size};
+
+fn main() -> Result<(), Refusal> {
+    let mut graph =
+        Graph { size: Size { inputs: 3, nodes: 1, outputs: 1 }, node_table: vec![3, 5, 7], output_table: vec![9] };
+    let before = graph.evaluate(&[0xF0, 0xCC, 0xAA])?;
+    let settled = graph.settle()?;
+    println!("before {} after {} rounds {}", settled.before, settled.after, settled.rounds);
+    println!("node {:?} out {:?}", graph.node_table, graph.output_table);
+    assert_eq!(graph.evaluate(&[0xF0, 0xCC, 0xAA])?, before);
+    Ok(())
+}

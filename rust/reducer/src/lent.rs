@@ -1,0 +1,202 @@
+//! The calls on slices that the caller lends. Only the graph's part of each table is looked at; what stands after it is
+//! left, and a refused call leaves everything.
+
+use crate::raw;
+use crate::{Refusal, Settled, Size};
+
+/// The value where the number is 0, else its refusal.
+fn answer<T>(number: u32, value: T) -> Result<T, Refusal> {
+    match number {
+        0 => Ok(value),
+        refused => Err(Refusal::from_number(refused).expect("the library answers 0 to 9")),
+    }
+}
+
+/// The payload of the field at the front of the bytes.
+pub fn field(bytes: &[u8]) -> Result<&[u8], Refusal> {
+    let mut payload = [0usize; 2];
+    let number = unsafe { raw::reducer_field(bytes.as_ptr(), bytes.len(), &mut payload) };
+    answer(number, ())?;
+    Ok(&bytes[payload[0]..payload[0] + payload[1]])
+}
+
+/// Fills the front of both tables from a tagged file.
+pub fn load(file: &[u8], node_table: &mut [u32], output_table: &mut [u32]) -> Result<Size, Refusal> {
+    let mut numbers = [0u32; 3];
+    let number = unsafe {
+        raw::reducer_load(
+            file.as_ptr(),
+            file.len(),
+            node_table.as_mut_ptr(),
+            node_table.len(),
+            output_table.as_mut_ptr(),
+            output_table.len(),
+            &mut numbers,
+        )
+    };
+    answer(number, Size { inputs: numbers[0], nodes: numbers[1], outputs: numbers[2] })
+}
+
+/// Fills the front of the buffer with the graph's file; the file's length.
+pub fn write(size: Size, node_table: &[u32], output_table: &[u32], buffer: &mut [u8]) -> Result<usize, Refusal> {
+    let mut length = 0usize;
+    let number = unsafe {
+        raw::reducer_write(
+            size.inputs,
+            size.nodes,
+            size.outputs,
+            node_table.as_ptr(),
+            node_table.len(),
+            output_table.as_ptr(),
+            output_table.len(),
+            buffer.as_mut_ptr(),
+            buffer.len(),
+            &mut length,
+        )
+    };
+    answer(number, length)
+}
+
+/// Fills the front of the results with the outputs' words. Scratch is one word a node.
+pub fn evaluate(
+    size: Size,
+    node_table: &[u32],
+    output_table: &[u32],
+    input_words: &[u64],
+    scratch: &mut [u64],
+    results: &mut [u64],
+) -> Result<(), Refusal> {
+    let number = unsafe {
+        raw::reducer_evaluate(
+            size.inputs,
+            size.nodes,
+            size.outputs,
+            node_table.as_ptr(),
+            node_table.len(),
+            output_table.as_ptr(),
+            output_table.len(),
+            input_words.as_ptr(),
+            input_words.len(),
+            scratch.as_mut_ptr(),
+            scratch.len(),
+            results.as_mut_ptr(),
+            results.len(),
+        )
+    };
+    answer(number, ())
+}
+
+/// How many edges are complemented.
+pub fn complemented_edges(size: Size, node_table: &[u32], output_table: &[u32]) -> Result<u32, Refusal> {
+    let mut count = 0u32;
+    let number = unsafe {
+        raw::reducer_count(
+            size.inputs,
+            size.nodes,
+            size.outputs,
+            node_table.as_ptr(),
+            node_table.len(),
+            output_table.as_ptr(),
+            output_table.len(),
+            &mut count,
+        )
+    };
+    answer(number, count)
+}
+
+/// The best move of one node; what it saves.
+pub fn node_call(size: Size, node_table: &mut [u32], output_table: &mut [u32], node: u32) -> Result<u32, Refusal> {
+    let mut saving = 0u32;
+    let number = unsafe {
+        raw::reducer_node(
+            size.inputs,
+            size.nodes,
+            size.outputs,
+            node_table.as_mut_ptr(),
+            node_table.len(),
+            output_table.as_mut_ptr(),
+            output_table.len(),
+            node,
+            &mut saving,
+        )
+    };
+    answer(number, saving)
+}
+
+/// The best moves of a node and of the one that its word (1 to 3) names; what they save.
+pub fn pair_call(
+    size: Size,
+    node_table: &mut [u32],
+    output_table: &mut [u32],
+    node: u32,
+    word: u32,
+) -> Result<u32, Refusal> {
+    let mut saving = 0u32;
+    let number = unsafe {
+        raw::reducer_pair(
+            size.inputs,
+            size.nodes,
+            size.outputs,
+            node_table.as_mut_ptr(),
+            node_table.len(),
+            output_table.as_mut_ptr(),
+            output_table.len(),
+            node,
+            word,
+            &mut saving,
+        )
+    };
+    answer(number, saving)
+}
+
+/// The best moves of the tree of a root; what they save. Scratch is [`crate::scratch_words`] long.
+pub fn tree_call(
+    size: Size,
+    node_table: &mut [u32],
+    output_table: &mut [u32],
+    root: u32,
+    scratch: &mut [u32],
+) -> Result<u32, Refusal> {
+    let mut saving = 0u32;
+    let number = unsafe {
+        raw::reducer_tree(
+            size.inputs,
+            size.nodes,
+            size.outputs,
+            node_table.as_mut_ptr(),
+            node_table.len(),
+            output_table.as_mut_ptr(),
+            output_table.len(),
+            root,
+            scratch.as_mut_ptr(),
+            scratch.len(),
+            &mut saving,
+        )
+    };
+    answer(number, saving)
+}
+
+/// Rounds of tree, node and pair calls until one saves nothing. Scratch is [`crate::scratch_words`] long.
+pub fn settle(
+    size: Size,
+    node_table: &mut [u32],
+    output_table: &mut [u32],
+    scratch: &mut [u32],
+) -> Result<Settled, Refusal> {
+    let mut figures = [0u32; 3];
+    let number = unsafe {
+        raw::reducer_settle(
+            size.inputs,
+            size.nodes,
+            size.outputs,
+            node_table.as_mut_ptr(),
+            node_table.len(),
+            output_table.as_mut_ptr(),
+            output_table.len(),
+            scratch.as_mut_ptr(),
+            scratch.len(),
+            &mut figures,
+        )
+    };
+    answer(number, Settled { rounds: figures[0], before: figures[1], after: figures[2] })
+}

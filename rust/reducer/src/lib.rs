@@ -1,0 +1,204 @@
+//! The inversion reducer for majority and XOR graphs, for Rust.
+//!
+//! Every function here calls one entry of the proved library. What the header of that library asks of a C caller
+//! (pointers that are never null, slices that do not overlap) holds here by Rust's own rules, so that no call can
+//! go wrong: it answers, or it is refused and has changed nothing.
+//!
+//! A [`Graph`] owns its tables and lends what each call needs:
+//!
+//! ```no_run
+//! let file = std::fs::read("graph.bin").unwrap();
+//! let mut graph = reducer::Graph::load(&file).unwrap();
+//! let settled = graph.settle().unwrap();
+//! println!("{} complemented edges, before {}", settled.after, settled.before);
+//! std::fs::write("settled.bin", graph.write().unwrap()).unwrap();
+//! ```
+//!
+//! The module [`lent`] has the same calls on slices that the caller lends, without a heap.
+
+use std::fmt;
+
+pub mod lent;
+pub mod raw;
+
+/// The third word of an XOR node.
+pub const MARK: u32 = 4_294_967_295;
+/// The most inputs that a graph may have.
+pub const MOST_INPUTS: u32 = 4_096;
+/// The most nodes that a graph may have.
+pub const MOST_NODES: u32 = 100_000;
+/// The most outputs that a graph may have.
+pub const MOST_OUTPUTS: u32 = 4_096;
+
+/// Why a call is refused. A refused call has changed nothing that it was lent.
+#[derive(Clone, Copy, Debug, PartialEq, Eq, Hash)]
+#[repr(u32)]
+pub enum Refusal {
+    /// Fewer bytes are left than the due field's head of 3 bytes, or than its payload.
+    MissingBytes = 1,
+    /// A tag or a length is not the one due.
+    WrongField = 2,
+    /// There are too many inputs, nodes or outputs.
+    OverLimit = 3,
+    /// A lent table, input or result slice is too short.
+    ShortSlice = 4,
+    /// A literal names an index that is not allowed there.
+    BadLiteral = 5,
+    /// There are bytes after the end field.
+    ExtraBytes = 6,
+    /// That is not a node, not a root (tree call), or no such word of the node.
+    NoSuchNode = 7,
+    /// The scratch is too short.
+    ShortScratch = 8,
+    /// The buffer to write to is too short.
+    ShortBuffer = 9,
+}
+
+impl Refusal {
+    /// The refusal's number, 1 to 9.
+    pub fn number(self) -> u32 {
+        self as u32
+    }
+
+    /// The refusal that has this number, if there is one.
+    pub fn from_number(number: u32) -> Option<Refusal> {
+        match number {
+            1 => Some(Refusal::MissingBytes),
+            2 => Some(Refusal::WrongField),
+            3 => Some(Refusal::OverLimit),
+            4 => Some(Refusal::ShortSlice),
+            5 => Some(Refusal::BadLiteral),
+            6 => Some(Refusal::ExtraBytes),
+            7 => Some(Refusal::NoSuchNode),
+            8 => Some(Refusal::ShortScratch),
+            9 => Some(Refusal::ShortBuffer),
+            _ => None,
+        }
+    }
+}
+
+impl fmt::Display for Refusal {
+    fn fmt(&self, f: &mut fmt::Formatter<'_>) -> fmt::Result {
+        let why = match self {
+            Refusal::MissingBytes => "the bytes end within a field",
+            Refusal::WrongField => "a field has not the tag or the length that is due",
+            Refusal::OverLimit => "there are too many inputs, nodes or outputs",
+            Refusal::ShortSlice => "a table, input or result slice is too short",
+            Refusal::BadLiteral => "a literal names an index that is not allowed there",
+            Refusal::ExtraBytes => "there are bytes after the end field",
+            Refusal::NoSuchNode => "there is no such node, root or word",
+            Refusal::ShortScratch => "the scratch is too short",
+            Refusal::ShortBuffer => "the buffer is too short",
+        };
+        write!(f, "refused {}: {why}", self.number())
+    }
+}
+
+impl std::error::Error for Refusal {}
+
+/// How many inputs, nodes and outputs a graph has.
+#[derive(Clone, Copy, Debug, Default, PartialEq, Eq, Hash)]
+pub struct Size {
+    pub inputs: u32,
+    pub nodes: u32,
+    pub outputs: u32,
+}
+
+/// What settling answers.
+#[derive(Clone, Copy, Debug, PartialEq, Eq, Hash)]
+pub struct Settled {
+    /// The rounds made, with the last one, which saved nothing.
+    pub rounds: u32,
+    /// The complemented edges before.
+    pub before: u32,
+    /// The complemented edges after.
+    pub after: u32,
+}
+
+/// How many words of scratch the tree call and settling need for so many nodes.
+pub fn scratch_words(nodes: u32) -> usize {
+    8 * nodes as usize
+}
+
+/// How many bytes are enough for the file of a graph of this size.
+pub fn file_bytes(size: Size) -> usize {
+    18 + 15 * size.nodes as usize + 7 * size.outputs as usize
+}
+
+/// A graph that owns its tables.
+///
+/// The fields may be set to anything: a call on what is no graph is refused.
+#[derive(Clone, Debug, Default, PartialEq, Eq)]
+pub struct Graph {
+    pub size: Size,
+    /// Three words a node.
+    pub node_table: Vec<u32>,
+    /// One literal an output.
+    pub output_table: Vec<u32>,
+}
+
+/// What the head of a file says at this place, at most `most`; 0 where the file is too short to say it.
+fn head_number(file: &[u8], at: usize, most: u32) -> usize {
+    let bytes = file.get(at..at + 4).and_then(|four| four.try_into().ok());
+    bytes.map_or(0, |four| u32::from_be_bytes(four).min(most)) as usize
+}
+
+impl Graph {
+    /// The graph that a tagged file holds.
+    pub fn load(file: &[u8]) -> Result<Graph, Refusal> {
+        // Room for what the head says. A head that says more than the limits is refused before room is looked at.
+        let mut node_table = vec![0; 3 * head_number(file, 7, MOST_NODES)];
+        let mut output_table = vec![0; head_number(file, 11, MOST_OUTPUTS)];
+        let size = lent::load(file, &mut node_table, &mut output_table)?;
+        Ok(Graph { size, node_table, output_table })
+    }
+
+    /// The graph's tagged file.
+    pub fn write(&self) -> Result<Vec<u8>, Refusal> {
+        // A graph over the limits is refused before room is looked at, and gets none.
+        self.complemented_edges()?;
+        let mut file = vec![0; file_bytes(self.size)];
+        let length = lent::write(self.size, &self.node_table, &self.output_table, &mut file)?;
+        file.truncate(length);
+        Ok(file)
+    }
+
+    /// The outputs' words for one word an input: each of the 64 bit places is an assignment of its own.
+    pub fn evaluate(&self, input_words: &[u64]) -> Result<Vec<u64>, Refusal> {
+        let mut scratch = vec![0; self.size.nodes.min(MOST_NODES) as usize];
+        let mut results = vec![0; self.size.outputs.min(MOST_OUTPUTS) as usize];
+        lent::evaluate(self.size, &self.node_table, &self.output_table, input_words, &mut scratch, &mut results)?;
+        Ok(results)
+    }
+
+    /// How many edges are complemented. Edges to the constant do not count.
+    pub fn complemented_edges(&self) -> Result<u32, Refusal> {
+        lent::complemented_edges(self.size, &self.node_table, &self.output_table)
+    }
+
+    /// Makes the best move of one node; what it saves.
+    pub fn node_call(&mut self, node: u32) -> Result<u32, Refusal> {
+        lent::node_call(self.size, &mut self.node_table, &mut self.output_table, node)
+    }
+
+    /// Makes the best moves of a node and of the one that its word (1 to 3) names; what they save.
+    pub fn pair_call(&mut self, node: u32, word: u32) -> Result<u32, Refusal> {
+        lent::pair_call(self.size, &mut self.node_table, &mut self.output_table, node, word)
+    }
+
+    /// Makes the best moves of the tree of a root; what they save.
+    pub fn tree_call(&mut self, root: u32) -> Result<u32, Refusal> {
+        let mut scratch = self.scratch();
+        lent::tree_call(self.size, &mut self.node_table, &mut self.output_table, root, &mut scratch)
+    }
+
+    /// Makes rounds of tree, node and pair calls until one saves nothing.
+    pub fn settle(&mut self) -> Result<Settled, Refusal> {
+        let mut scratch = self.scratch();
+        lent::settle(self.size, &mut self.node_table, &mut self.output_table, &mut scratch)
+    }
+
+    fn scratch(&self) -> Vec<u32> {
+        vec![0; scratch_words(self.size.nodes.min(MOST_NODES))]
+    }
+}

@@ -1,0 +1,107 @@
+//! The functions of include/reducer.h as they stand. The rest of this crate is safe to use; these owe what that header says.
+
+extern "C" {
+    pub fn reducer_field(bytes: *const u8, bytes_length: usize, payload: *mut [usize; 2]) -> u32;
+
+    pub fn reducer_load(
+        file: *const u8,
+        file_length: usize,
+        node_table: *mut u32,
+        node_table_length: usize,
+        output_table: *mut u32,
+        output_table_length: usize,
+        numbers: *mut [u32; 3],
+    ) -> u32;
+
+    pub fn reducer_write(
+        inputs: u32,
+        nodes: u32,
+        outputs: u32,
+        node_table: *const u32,
+        node_table_length: usize,
+        output_table: *const u32,
+        output_table_length: usize,
+        buffer: *mut u8,
+        buffer_length: usize,
+        length: *mut usize,
+    ) -> u32;
+
+    pub fn reducer_evaluate(
+        inputs: u32,
+        nodes: u32,
+        outputs: u32,
+        node_table: *const u32,
+        node_table_length: usize,
+        output_table: *const u32,
+        output_table_length: usize,
+        input_words: *const u64,
+        input_words_length: usize,
+        scratch: *mut u64,
+        scratch_length: usize,
+        results: *mut u64,
+        results_length: usize,
+    ) -> u32;
+
+    pub fn reducer_count(
+        inputs: u32,
+        nodes: u32,
+        outputs: u32,
+        node_table: *const u32,
+        node_table_length: usize,
+        output_table: *const u32,
+        output_table_length: usize,
+        count: *mut u32,
+    ) -> u32;
+
+    pub fn reducer_node(
+        inputs: u32,
+        nodes: u32,
+        outputs: u32,
+        node_table: *mut u32,
+        node_table_length: usize,
+        output_table: *mut u32,
+        output_table_length: usize,
+        node: u32,
+        saving: *mut u32,
+    ) -> u32;
+
+    pub fn reducer_pair(
+        inputs: u32,
+        nodes: u32,
+        outputs: u32,
+        node_table: *mut u32,
+        node_table_length: usize,
+        output_table: *mut u32,
+        output_table_length: usize,
+        node: u32,
+        word: u32,
+        saving: *mut u32,
+    ) -> u32;
+
+    pub fn reducer_tree(
+        inputs: u32,
+        nodes: u32,
+        outputs: u32,
+        node_table: *mut u32,
+        node_table_length: usize,
+        output_table: *mut u32,
+        output_table_length: usize,
+        root: u32,
+        scratch: *mut u32,
+        scratch_length: usize,
+        saving: *mut u32,
+    ) -> u32;
+
+    pub fn reducer_settle(
+        inputs: u32,
+        nodes: u32,
+        outputs: u32,
+        node_table: *mut u32,
+        node_table_length: usize,
+        output_table: *mut u32,
+        output_table_length: usize,
+        scratch: *mut u32,
+        scratch_length: usize,
+        figures: *mut [u32; 3],
+    ) -> u32;
+}
