@@ -1,0 +1,4 @@
+pub mod One
+pub mod Left
+pub mod Refusing
+pub mod Whole

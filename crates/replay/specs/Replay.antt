@@ -1,0 +1,75 @@
+-- A replay: a file is loaded, and a list of calls is made on the loaded graph, each on what the one before left. A call is three
+-- words: its kind (0 node, 1 pair, 2 tree, 3 settling), a node and a word; its answer is two: the number and the saving.
+use mathlib.Core.Path.{_≡_}
+use mathlib.Core.List.{List, [], _∷_, _++_}
+use Prim.Native.Nat.{ℕ, _*_, _/_, _%_}
+use lib.ListN.{length, drop}
+use Rattle.graph.specs.Finite.{ifLess, ifEqual, first}
+use Rattle.graph.specs.Graph.{Graph, graphOf}
+use Rattle.graph.specs.Answer.{Answer, accepted, refused, numberOf, Outcome, outcome, guarded}
+use Rattle.tagged_file.specs.Load.{blank, loadCall}
+use Rattle.promises.specs.Demand.{Call, nodeAt, pairAt, treeAt, settling, step, run, reported}
+use Rattle.replay.specs.declared.Replayed.{Replayed}
+use Rattle.replay.specs.declared.Replayed.the-variants as replayed
+use Rattle.replay.specs.declared.calls.Told.{Told}
+
+-- the call of kind k at node u and word w, with the scratch that is lent: what a kind does not want is not looked at, and a kind
+-- above 3 is refused before any call
+unfoldable pub callOf : List ℕ → ℕ → ℕ → ℕ → Call
+callOf scratch k u w = ifEqual k 0 (nodeAt u) (ifEqual k 1 (pairAt u w) (ifEqual k 2 (treeAt u scratch) (settling scratch)))
+
+-- the calls that words say, three to a call
+abbrev pub decode : List ℕ → List ℕ → List Call
+decode scratch [] = []
+decode scratch (k ∷ []) = []
+decode scratch (k ∷ u ∷ []) = []
+decode scratch (k ∷ u ∷ w ∷ ws) = callOf scratch k u w ∷ decode scratch ws
+
+-- what the calls answer, two words to a call
+abbrev pub answersOf : Graph → List Call → List ℕ
+answersOf g [] = []
+answersOf g (c ∷ cs) = step g c .answer .number ∷ reported c (step g c .answer) ∷ answersOf (step g c .graph) cs
+
+-- 2: a kind above 3
+abbrev pub kindsNumber : List ℕ → ℕ
+kindsNumber [] = 0
+kindsNumber (k ∷ []) = 0
+kindsNumber (k ∷ u ∷ []) = 0
+kindsNumber (k ∷ u ∷ w ∷ ws) = first (ifLess 3 k 2 0) (kindsNumber ws)
+
+-- 1: words that are left over; 2: such a kind; 4: room for fewer than two words a call
+unfoldable pub codeNumber : List ℕ → ℕ → ℕ
+codeNumber ws room =
+    first (ifEqual (length ws % 3) 0 0 1) (first (kindsNumber ws) (ifLess room (2 * (length ws / 3)) 4 0))
+
+-- the number that refuses a replay: of the words, then of the file
+unfoldable pub replayNumber : List ℕ → List ℕ → List ℕ → List ℕ → ℕ → ℕ
+replayNumber file words ns os room = first (codeNumber words room) (loadCall file ns os .answer .number)
+
+-- the replay, in the tables ns and os: I, N and O are answered, and the graph is that after all calls
+unfoldable pub replayCall : List ℕ → List ℕ → List ℕ → List ℕ → List ℕ → ℕ → Outcome
+replayCall file words ns os scratch room =
+    let o = loadCall file ns os in
+    guarded (replayNumber file words ns os room) (blank ns os) (outcome (o .answer) (run (o .graph) (decode scratch words)))
+
+-- the words for answers after it: all calls' answers in front; as they were where it is refused
+unfoldable pub answersAfter : List ℕ → List ℕ → List ℕ → List ℕ → List ℕ → List ℕ → List ℕ
+answersAfter file words ns os scratch before =
+    ifEqual (replayNumber file words ns os (length before)) 0
+    (answersOf (loadCall file ns os .graph) (decode scratch words) ++ drop (2 * (length words / 3)) before)
+    before
+
+abbrev pub replayedAnswer : Replayed → Answer
+replayedAnswer (replayed.Done i n o) = accepted (i ∷ n ∷ o ∷ [])
+replayedAnswer (replayed.Refused r) = refused (numberOf r)
+
+-- the graph that the tables hold after it: none where it is refused
+abbrev pub replayedGraph : Replayed → List ℕ → List ℕ → Graph
+replayedGraph (replayed.Done i n o) ns os = graphOf i n o ns os
+replayedGraph (replayed.Refused r) ns os = blank ns os
+
+-- t is what the call c answers on g, and h the graph after it
+pub record Tells (g : Graph) (c : Call) (h : Graph) (t : Told) : Type 0 where
+  pub number : t .number ≡ step g c .answer .number
+  pub saving : t .saving ≡ reported c (step g c .answer)
+  pub graph : h ≡ step g c .graph

@@ -1,0 +1,152 @@
+// One call of a list, and all of them.
+ghost use mathlib.Core.Path.{_≡_};
+ghost use mathlib.Core.List.{[], _++_};
+ghost use Prim.Native.Nat.{_*_, _/_, _≤_};
+ghost use lib.ListN.{length, getD, drop};
+ghost use Rattle.graph.specs.Graph.{graphOf};
+ghost use Rattle.graph.specs.Answer.{numberOf};
+ghost use Rattle.moves.specs.Call.{savingAnswer};
+ghost use Rattle.settling.specs.Round.{savingOf};
+ghost use Rattle.settling.specs.Settle.{settledAnswer};
+ghost use Rattle.promises.specs.Demand.{run, reported, settling};
+ghost use Rattle.replay.specs.Replay.{callOf, decode, answersOf, Tells};
+
+// What a call answers.
+pub struct Told {
+    pub number: u32,
+    pub saving: u32,
+}
+
+pub fn refusal_number(refusal: graph::Refusal) -> u32
+    ensures { λ r. ⌜ r ≡ numberOf refusal ⌝ }
+{
+    match refusal {
+        graph::Refusal::MissingBytes => 1,
+        graph::Refusal::WrongField => 2,
+        graph::Refusal::OverLimit => 3,
+        graph::Refusal::ShortSlice => 4,
+        graph::Refusal::BadLiteral => 5,
+        graph::Refusal::ExtraBytes => 6,
+        graph::Refusal::NoSuchNode => 7,
+        graph::Refusal::ShortScratch => 8,
+        graph::Refusal::ShortBuffer => 9,
+    }
+}
+
+pub fn saving_told(answer: moves::Saving) -> Told
+    ensures { λ r. ⌜ (r .number ≡ savingAnswer answer .number) × (r .saving ≡ savingOf (savingAnswer answer)) ⌝ }
+{
+    match answer {
+        moves::Saving::Saved(saving) => Told { number: 0, saving },
+        moves::Saving::Refused(refusal) => Told {
+            number: refusal_number(refusal),
+            saving: 0,
+        },
+    }
+}
+
+// Settling never raises C.
+pub fn settled_told(answer: settling::Settled) -> Told
+    requires { ⌜ getD (settledAnswer answer .values) 2 0 ≤ getD (settledAnswer answer .values) 1 0 ⌝ }
+    ensures { λ r. ⌜ (r .number ≡ settledAnswer answer .number) × (r .saving ≡ reported (settling []) (settledAnswer answer)) ⌝ }
+{
+    match answer {
+        settling::Settled::Rounds {
+            rounds: _,
+            before,
+            after,
+        } => Told {
+            number: 0,
+            saving: before - after,
+        },
+        settling::Settled::Refused(refusal) => Told {
+            number: refusal_number(refusal),
+            saving: 0,
+        },
+    }
+}
+
+// The call that three words say; kinds above 3 are refused before.
+pub fn one_call(
+    inputs: u32,
+    nodes: u32,
+    outputs: u32,
+    node_table: &mut [u32],
+    output_table: &mut [u32],
+    kind: u32,
+    node: u32,
+    word: u32,
+    scratch: &mut [u32],
+) -> Told
+    ensures { λ r. ⌜ Tells (graphOf inputs nodes outputs (now («node_table» .entry)) (now («output_table» .entry))) (callOf (now (scratch .entry)) kind node word) (graphOf inputs nodes outputs (now («node_table» .exit)) (now («output_table» .exit))) r ⌝ }
+{
+    if kind == 0 {
+        return saving_told(node_call::node_call(
+            inputs,
+            nodes,
+            outputs,
+            node_table,
+            output_table,
+            node,
+        ));
+    }
+    if kind == 1 {
+        return saving_told(node_call::pair_call(
+            inputs,
+            nodes,
+            outputs,
+            node_table,
+            output_table,
+            node,
+            word,
+        ));
+    }
+    if kind == 2 {
+        return saving_told(tree_call::tree_call(
+            inputs,
+            nodes,
+            outputs,
+            node_table,
+            output_table,
+            node,
+            scratch,
+        ));
+    }
+    settled_told(settling::settle(inputs, nodes, outputs, node_table, output_table, scratch))
+}
+
+// Every call of the list, on what the one before left; the answers go in front.
+pub fn make_calls(
+    inputs: u32,
+    nodes: u32,
+    outputs: u32,
+    node_table: &mut [u32],
+    output_table: &mut [u32],
+    calls: &[u32],
+    scratch: &mut [u32],
+    answers: &mut [u32],
+)
+    requires { ⌜ 2 * (length (now calls) / 3) ≤ length (now answers) ⌝ }
+    ensures graph { λ _. ⌜ graphOf inputs nodes outputs (now («node_table» .exit)) (now («output_table» .exit)) ≡ run (graphOf inputs nodes outputs (now («node_table» .entry)) (now («output_table» .entry))) (decode (now (scratch .entry)) (now (calls .entry))) ⌝ }
+    ensures answers { λ _. ⌜ now (answers .exit) ≡ answersOf (graphOf inputs nodes outputs (now («node_table» .entry)) (now («output_table» .entry))) (decode (now (scratch .entry)) (now (calls .entry))) ++ drop (2 * (length (now (calls .entry)) / 3)) (now (answers .entry)) ⌝ }
+{
+    let mut s = calls;
+    let mut at = 0;
+    while 3 <= s.len() {
+        let told = one_call(
+            inputs,
+            nodes,
+            outputs,
+            node_table,
+            output_table,
+            s[0],
+            s[1],
+            s[2],
+            scratch,
+        );
+        answers[at] = told.number;
+        answers[at + 1] = told.saving;
+        s = &s[3..];
+        at += 2;
+    }
+}
