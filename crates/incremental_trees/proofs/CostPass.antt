@@ -18,7 +18,7 @@ use Rattle.incremental.specs.State.{field, Neighbours}
 use Rattle.incremental_trees.specs.Filling.{Stored}
 use Rattle.incremental_trees.specs.Costing.{innerAt, costAt, treeCost, CostedBelow, CostsOnly}
 use Rattle.incremental_trees.proofs.CostTable.{costs-are}
-use Rattle.incremental_trees.proofs.TreeNumbers.{bit-named}
+use Rattle.moves.proofs.Local.{bit-named}
 use Rattle.incremental_trees.proofs.Ready.{Ready, ready-costs, inner-same, named-below, named-in}
 
 -- at node v of the tree of r, those below it are done
@@ -66,7 +66,7 @@ module _ (h : Graph) (sc₀ : List ℕ) (rd : Ready h sc₀) (r : ℕ) (rn : r <
         let u : ℕ = word h (3 * v + i) / 2 in
         let q : node h (u - (h .I + 1)) ≡ u = omega arith in
         (rw q at (ct .costed (u - (h .I + 1)) t (omega arith) m (rw q (a .1 ∙ ct .here)))))
-        s l ∙
+        s ∙
         sym (costs-are h (rd .admitted) v s below l)
 
     module _ (sc′ : List ℕ) (x : ℕ) (st : Stored v 4 x sc sc′) (b₀ : x % 2 ≡ bitCost h (innerAt (h .I) sc) (costAt (h .I) sc) v 0)

@@ -9,7 +9,7 @@ use borrow.Author.Tests.{eq-eqb, ne-eqb, lt-ltb, le-ltb}
 use lib.Dec.{eqb}
 use Rattle.graph.specs.Finite.{ifEqual}
 use Rattle.graph.specs.Graph.{Graph, mark, node, word, isEdge, isXor}
-use Rattle.moves.specs.Cost.{edgeCost, bitCost}
+use Rattle.moves.specs.Cost.{edgeCost, turnedCost, wordCosts, bitCost}
 use Rattle.choice.specs.Choice.{FirstBelow}
 use Rattle.moves.specs.Rows.{arity}
 use Rattle.moves.specs.Decide.{Numbers, numbersOf, costWith}
@@ -18,8 +18,9 @@ use Rattle.moves.proofs.Shown.{shown-both}
 use Rattle.incremental.specs.State.{field, stands, Ordered}
 use Rattle.incremental.proofs.Alike.{alike-xor, alike-readers}
 use Rattle.incremental.proofs.Stands.{stands-alike, stands-admitted}
-use Rattle.incremental_trees.specs.Costing.{innerAt, costAt, wordNumber, treeNumbers, CostBits}
-use Rattle.incremental_trees.proofs.TreeNumbers.{bits-are, numbers-low}
+use Rattle.incremental_trees.specs.Costing.{innerAt, costAt, CostBits}
+use Rattle.moves.proofs.NodeCosts.{numbers-low}
+use Rattle.incremental_trees.proofs.TreeNumbers.{bits-are}
 
 module _ (i : ℕ) (sc : List ℕ) (u b : ℕ) where
   pub edge-constant : u ≡ 0 → 0 ≡ edgeCost (innerAt i sc) (costAt i sc) u b
@@ -68,15 +69,15 @@ number-fits g sc o j x h e t =
     omega (arith, ap (λ z. z / 2) e)
 
 pub number-is : (h : Graph) (t : ℕ → Bool) (c : ℕ → ℕ → ℕ) (v i f j x r : ℕ) → j ≡ 3 * v + i → x ≡ word h j
-    → r ≡ cond (not (eqb (j % 3) 2 && eqb x mark)) (edgeCost t c (x / 2) ((x + f) % 2)) 0 → r ≡ wordNumber h t c v i f
-unfolding wordNumber isEdge
+    → r ≡ cond (not (eqb (j % 3) 2 && eqb x mark)) (edgeCost t c (x / 2) ((x + f) % 2)) 0 → r ≡ turnedCost h t c v i f
+unfolding turnedCost isEdge
 number-is h t c v i f j x r e q s = rw (← e, ← q) s
 
-pub numbers-of : (h : Graph) (i : ℕ) (sc : List ℕ) (v : ℕ) (z : List ℕ) (s : ℕ) → z ≡ treeNumbers h (innerAt i sc) (costAt i sc) v → s ≤ 1 → Numbers z 1 s
+pub numbers-of : (h : Graph) (i : ℕ) (sc : List ℕ) (v : ℕ) (z : List ℕ) (s : ℕ) → z ≡ wordCosts h (innerAt i sc) (costAt i sc) v → s ≤ 1 → Numbers z 1 s
 numbers-of h i sc v z s e l = numbers-low h (innerAt i sc) (costAt i sc) v (costs-low i sc) z 1 s e l (omega arith)
 
 -- with the readers that scratch has
-pub numbers-now : (g : Graph) (sc : List ℕ) → Ordered g sc → (v : ℕ) → v < g .N → (z : List ℕ) (a b : ℕ) → z ≡ treeNumbers (stands g sc) (innerAt (g .I) sc) (costAt (g .I) sc) v
+pub numbers-now : (g : Graph) (sc : List ℕ) → Ordered g sc → (v : ℕ) → v < g .N → (z : List ℕ) (a b : ℕ) → z ≡ wordCosts (stands g sc) (innerAt (g .I) sc) (costAt (g .I) sc) v
     → a ≡ field sc v 0 → b ≡ field sc v 1 → Numbers z a b
 unfolding numbersOf
 numbers-now g sc o v l z a b e ea eb =
@@ -91,11 +92,11 @@ pub decided-by : (x y : Bool) (z w : List ℕ) (a b c d m : ℕ) → x ≡ y →
 decided-by x y z w a b c d m p q s t f = rw (← p, ← q, ← s, ← t) f
 
 -- the stored bits of a node
-pub bits-of : (g : Graph) (sc : List ℕ) → Ordered g sc → (v : ℕ) (x : Bool) (z : List ℕ) (r : ℕ) → z ≡ treeNumbers (stands g sc) (innerAt (g .I) sc) (costAt (g .I) sc) v
+pub bits-of : (g : Graph) (sc : List ℕ) → Ordered g sc → (v : ℕ) (x : Bool) (z : List ℕ) (r : ℕ) → z ≡ wordCosts (stands g sc) (innerAt (g .I) sc) (costAt (g .I) sc) v
     → x ≡ isXor g v → CostBits x z r
     → (r % 2 ≡ bitCost (stands g sc) (innerAt (g .I) sc) (costAt (g .I) sc) v 0) × (r / 2 % 2 ≡ bitCost (stands g sc) (innerAt (g .I) sc) (costAt (g .I) sc) v 1)
 bits-of g sc o v x z r e k cb =
     let q : x ≡ isXor (stands g sc) v = k ∙ sym (alike-xor g (stands g sc) (stands-alike g sc (o .admitted)) v) in
-    let c : CostBits (isXor (stands g sc) v) (treeNumbers (stands g sc) (innerAt (g .I) sc) (costAt (g .I) sc) v) r = rw (← q, ← e) cb in
+    let c : CostBits (isXor (stands g sc) v) (wordCosts (stands g sc) (innerAt (g .I) sc) (costAt (g .I) sc) v) r = rw (← q, ← e) cb in
     bits-are (stands g sc) (innerAt (g .I) sc) (costAt (g .I) sc) v (c .zero-least .move) (c .one-least .move) (c .zero-cost) (c .one-cost)
     (c .zero-least .least) (c .one-least .least) (c .zero-least .cost) (c .one-least .cost) r _ _ refl refl (c .bits)

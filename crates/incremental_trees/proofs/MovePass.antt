@@ -23,7 +23,7 @@ use Rattle.moves.specs.Rows.{arity, combined}
 use Rattle.moves.specs.Apply.{Choice, Permitted, none, at, seen, turns, apply, compose}
 use Rattle.moves.specs.Tree.{isRoot, place, rootOf, tree}
 use Rattle.moves.specs.Call.{moved, bestAt}
-use Rattle.moves.specs.Cost.{inner, moveCost, rootCost, shown, shows, Decided, baseCost}
+use Rattle.moves.specs.Cost.{inner, wordCosts, moveCost, rootCost, shown, shows, Decided, baseCost}
 use Rattle.moves.specs.Decide.{costWith}
 use Rattle.moves.proofs.Apply as applied
 use Rattle.moves.proofs.Changed.{at-same, at-other, seen-none, own-none, own-other}
@@ -37,9 +37,10 @@ use Rattle.incremental.specs.State.{field, stands, Neighbours, Ordered}
 use Rattle.incremental.specs.Step.{TreesKept, Became}
 use Rattle.incremental.proofs.Alike.{Alike, alike-isRoot, alike-place, alike-xor}
 use Rattle.incremental.proofs.Stands.{stands-alike}
-use Rattle.incremental_trees.specs.Costing.{innerAt, costAt, treeNumbers, treeCost, CostedBelow}
+use Rattle.incremental_trees.specs.Costing.{innerAt, costAt, treeCost, CostedBelow}
 use Rattle.incremental_trees.proofs.CostTable.{costs-hold}
-use Rattle.incremental_trees.proofs.TreeNumbers.{with-local, cost-other, cost-root}
+use Rattle.moves.proofs.NodeCosts.{move-is, root-is}
+use Rattle.moves.proofs.Local.{with-named}
 use Rattle.incremental_trees.proofs.Ready.{Ready, ready-kept, inner-same, named-below, named-in, stands-I, stands-N}
 
 -- moves change complement bits alone
@@ -95,7 +96,7 @@ first-as : {f f′ : ℕ → ℕ} {x x′ : Bool} {m : ℕ} → f ≡ f′ → x
 first-as p q t = rw (← p, ← q) t
 
 first-at : (sc : List ℕ) (v a b m : ℕ) (x y : Bool) (k l : Graph) (i j : ℕ) → x ≡ y → k ≡ l → i ≡ j
-    → FirstBelow (costWith x (treeNumbers k (innerAt i sc) (costAt i sc) v) a b) (arity x) m → FirstBelow (costWith y (treeNumbers l (innerAt j sc) (costAt j sc) v) a b) (arity y) m
+    → FirstBelow (costWith x (wordCosts k (innerAt i sc) (costAt i sc) v) a b) (arity x) m → FirstBelow (costWith y (wordCosts l (innerAt j sc) (costAt j sc) v) a b) (arity y) m
 first-at sc v a b m x y k l i j p q s t = rw (← p, ← q, ← s) t
 
 one-reader : (h : Graph) (u : ℕ) → isRoot h u ≡ false → readers h u ≡ 1
@@ -263,10 +264,10 @@ module _ (h : Graph) (sc₁ : List ℕ) (rd : Ready h sc₁) (r : ℕ) (rn : r <
     unfolding costAt
     cost-kept w s = rw (df .kept .others (node h w - (h .I + 1)) 4 (omega arith) (λ e. omega arith) (λ e. omega arith))
 
-    numbers : (a b : ℕ) → costWith (isXor k v) (treeNumbers k (innerAt (h .I) sc) (costAt (h .I) sc) v) a b ≡ costWith (isXor h v) (treeNumbers h (inner h) (treeCost h) v) a b
+    numbers : (a b : ℕ) → costWith (isXor k v) (wordCosts k (innerAt (h .I) sc) (costAt (h .I) sc) v) a b ≡ costWith (isXor h v) (wordCosts h (inner h) (treeCost h) v) a b
     unfolding k
     numbers =
-        with-local k h (innerAt (h .I) sc) (inner h) (costAt (h .I) sc) (treeCost h) v (applied.same-xor h (df .d) adm v) (λ i l. applied.same-edge h (df .d) adm (3 * v + i)) own-words
+        with-named k h (innerAt (h .I) sc) (inner h) (costAt (h .I) sc) (treeCost h) v (applied.same-xor h (df .d) adm v) (λ i l. applied.same-edge h (df .d) adm (3 * v + i)) own-words
         (λ i l e. inner-same h sc ready _ (omega (arith, named-below h adm v i below l e)))
         (λ i s l e n m.
         let a = named-in h adm v i below l e n in
@@ -280,7 +281,7 @@ module _ (h : Graph) (sc₁ : List ℕ) (rd : Ready h sc₁) (r : ℕ) (rn : r <
     odd-now = df .ordered .odd v (rw same-N below) ∙ ap (λ x. shown x (node g v) 0) (df .stands-for) ∙ ap (λ x. shown (apply h (df .d)) (x + 1 + v) 0) same-I
 
     module _ (m i : ℕ) (x : Bool) (ei : i ≡ h .I) (ex : x ≡ isXor g v)
-        (fb : FirstBelow (costWith x (treeNumbers (stands g sc) (innerAt i sc) (costAt i sc) v) (field sc v 0) (field sc v 1)) (arity x) m) where
+        (fb : FirstBelow (costWith x (wordCosts (stands g sc) (innerAt i sc) (costAt i sc) v) (field sc v 0) (field sc v 1)) (arity x) m) where
       kind : x ≡ isXor h v
       kind =
           ex ∙ sym (alike-xor g (stands g sc) (stands-alike g sc (df .ordered .admitted)) v) ∙ ap (λ z. isXor z v) (df .stands-for) ∙
@@ -290,7 +291,7 @@ module _ (h : Graph) (sc₁ : List ℕ) (rd : Ready h sc₁) (r : ℕ) (rn : r <
       unfolding k
       same-kind = applied.same-xor h (df .d) adm v
 
-      found : FirstBelow (costWith (isXor h v) (treeNumbers h (inner h) (treeCost h) v) (field sc v 0) (field sc v 1)) (arity (isXor h v)) m
+      found : FirstBelow (costWith (isXor h v) (wordCosts h (inner h) (treeCost h) v) (field sc v 0) (field sc v 1)) (arity (isXor h v)) m
       unfolding k
       found =
           first-as (numbers (field sc v 0) (field sc v 1)) same-kind
@@ -312,8 +313,8 @@ module _ (h : Graph) (sc₁ : List ℕ) (rd : Ready h sc₁) (r : ℕ) (rn : r <
       found-other : v ≢ r → FirstBelow (moveCost h (inner h) (treeCost h) v (shows h (df .d) (node h v))) (arity (isXor h v)) m
       found-other z =
           let s = not-root h adm (node h r) (node h v) here (λ q. z (omega arith)) in
-          first-as (ap (λ a. costWith (isXor h v) (treeNumbers h (inner h) (treeCost h) v) a (field sc v 1)) (ready .reads v below ∙ one-reader h (node h v) s) ∙
-          ap (costWith (isXor h v) (treeNumbers h (inner h) (treeCost h) v) 1) (shown-now z) ∙ cost-other h (inner h) (treeCost h) v (shows h (df .d) (node h v)) (shows-bit h (df .d) (node h v)))
+          first-as (ap (λ a. costWith (isXor h v) (wordCosts h (inner h) (treeCost h) v) a (field sc v 1)) (ready .reads v below ∙ one-reader h (node h v) s) ∙
+          ap (costWith (isXor h v) (wordCosts h (inner h) (treeCost h) v) 1) (shown-now z) ∙ move-is h (inner h) (treeCost h) v (shows h (df .d) (node h v)) (omega (arith, shows-bit h (df .d) (node h v))))
           refl found
 
       found-root : v ≡ r → FirstBelow (rootCost h (inner h) (treeCost h) r) (arity (isXor h r)) m
@@ -327,8 +328,8 @@ module _ (h : Graph) (sc₁ : List ℕ) (rd : Ready h sc₁) (r : ℕ) (rn : r <
           (eq-or-ne (rootOf h u) (node h r)) in
           let o : field sc v 1 ≡ shown h (node h v) 0 = odd-now ∙ ap (λ y. shown y (node h v) 0) (apply-idle h (df .d) adm idle) in
           rw (← z)
-          (first-as (ap (λ a. costWith (isXor h v) (treeNumbers h (inner h) (treeCost h) v) a (field sc v 1)) (ready .reads v below) ∙
-          ap (costWith (isXor h v) (treeNumbers h (inner h) (treeCost h) v) (readers h (node h v))) o ∙ cost-root h (inner h) (treeCost h) v)
+          (first-as (ap (λ a. costWith (isXor h v) (wordCosts h (inner h) (treeCost h) v) a (field sc v 1)) (ready .reads v below) ∙
+          ap (costWith (isXor h v) (wordCosts h (inner h) (treeCost h) v) (readers h (node h v))) o ∙ root-is h (inner h) (treeCost h) v)
           refl found)
 
       -- the move made

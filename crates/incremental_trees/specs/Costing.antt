@@ -12,7 +12,7 @@ use Rattle.graph.specs.Graph.{Graph, mark, node, word, isEdge}
 use Rattle.moves.specs.Tree.{rootOf}
 use Rattle.choice.specs.Choice.{FirstBelow}
 use Rattle.moves.specs.Rows.{arity}
-use Rattle.moves.specs.Cost.{inner, edgeCost, bitCost}
+use Rattle.moves.specs.Cost.{inner, bitCost}
 use Rattle.moves.specs.Decide.{costWith}
 use Rattle.incremental.specs.State.{field}
 
@@ -24,16 +24,7 @@ innerAt i sc u = ltb i u && not (eqb (field sc (u - (i + 1)) 3) mark)
 unfoldable pub costAt : ℕ → List ℕ → ℕ → ℕ → ℕ
 costAt i sc u s = ifEqual s 0 (field sc (u - (i + 1)) 4 % 2) (field sc (u - (i + 1)) 4 / 2 % 2)
 
--- what word i + 1 of node v costs, turned f times, with the costs c of the non-roots, which t tells
-unfoldable pub wordNumber : Graph → (ℕ → Bool) → (ℕ → ℕ → ℕ) → ℕ → ℕ → ℕ → ℕ
-wordNumber h t c v i f = cond (isEdge h (3 * v + i)) (edgeCost t c (word h (3 * v + i) / 2) ((word h (3 * v + i) + f) % 2)) 0
-
--- the same of each word, as it stands and turned
-unfoldable pub treeNumbers : Graph → (ℕ → Bool) → (ℕ → ℕ → ℕ) → ℕ → List ℕ
-treeNumbers h t c v =
-    wordNumber h t c v 0 0 ∷ wordNumber h t c v 0 1 ∷ wordNumber h t c v 1 0 ∷ wordNumber h t c v 1 1 ∷ wordNumber h t c v 2 0 ∷ wordNumber h t c v 2 1 ∷ []
-
--- r is what the least move of a kind x with such numbers z and one reader costs, shown the bit s
+-- r is what the least move of a kind x with numbers z of its words and one reader costs, shown the bit s
 pub record LeastCost (x : Bool) (z : List ℕ) (s r : ℕ) : Type 0 where
   pub move : ℕ
   pub least : FirstBelow (costWith x z 1 s) (arity x) move

@@ -8,9 +8,9 @@ ghost use Rattle.graph.specs.Finite.{ifEqual};
 ghost use Rattle.graph.specs.Graph.{graphOf, mark};
 ghost use Rattle.moves.specs.Decide.{Numbers};
 ghost use Rattle.moves.specs.Tree.{isRoot};
-ghost use Rattle.moves.specs.Cost.{edgeCost, bitCost};
+ghost use Rattle.moves.specs.Cost.{edgeCost, turnedCost, wordCosts, bitCost};
 ghost use Rattle.incremental.specs.State.{stands, Ordered};
-ghost use Rattle.incremental_trees.specs.Costing.{innerAt, costAt, treeNumbers, LeastCost, CostBits, CostedBelow, CostsOnly};
+ghost use Rattle.incremental_trees.specs.Costing.{innerAt, costAt, LeastCost, CostBits, CostedBelow, CostsOnly};
 use crate::fields::read;
 use crate::fields::store;
 use crate::fields::wide;
@@ -70,7 +70,7 @@ pub fn tree_numbers(
     scratch: &[u32],
 ) -> [u32; 6]
     requires { ⌜ Ordered (graphOf inputs nodes outputs (now «node_table») (now «output_table»)) (now scratch) × (v < nodes) ⌝ }
-    ensures { λ r. ⌜ r ≡ treeNumbers (stands (graphOf inputs nodes outputs (now («node_table» .entry)) (now («output_table» .entry))) (now (scratch .entry))) (innerAt inputs (now (scratch .entry))) (costAt inputs (now (scratch .entry))) v ⌝ }
+    ensures { λ r. ⌜ r ≡ wordCosts (stands (graphOf inputs nodes outputs (now («node_table» .entry)) (now («output_table» .entry))) (now (scratch .entry))) (innerAt inputs (now (scratch .entry))) (costAt inputs (now (scratch .entry))) v ⌝ }
 {
     let at = 3 * v;
     let x = state::word_now(
@@ -125,8 +125,8 @@ pub fn least_cost(xor: bool, z: [u32; 6], s: u32) -> u32
     requires { ⌜ Numbers z 1 s ⌝ }
     ensures { λ r. ⌜ LeastCost xor z s r ⌝ }
 {
-    let m = decide::first_least(xor, z, 1, s);
-    decide::move_cost(xor, z, 1, s, m)
+    let least = decide::least_move(xor, z, 1, s);
+    least.cost
 }
 
 // The two bits of a node's costs: how much each exceeds the other.

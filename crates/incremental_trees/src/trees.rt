@@ -7,10 +7,11 @@ ghost use Rattle.graph.specs.Count.{C};
 ghost use Rattle.choice.specs.Choice.{FirstBelow};
 ghost use Rattle.moves.specs.Rows.{arity};
 ghost use Rattle.moves.specs.Tree.{isRoot};
+ghost use Rattle.moves.specs.Cost.{wordCosts};
 ghost use Rattle.moves.specs.Decide.{costWith};
 ghost use Rattle.incremental.specs.State.{field, stands, Ordered};
 ghost use Rattle.incremental.specs.Step.{Made};
-ghost use Rattle.incremental_trees.specs.Costing.{innerAt, costAt, treeNumbers, CostedBelow};
+ghost use Rattle.incremental_trees.specs.Costing.{innerAt, costAt, CostedBelow};
 ghost use Rattle.incremental_trees.specs.Stepping.{TreeMade, treeMoved};
 use crate::costs;
 use crate::fields::narrow;
@@ -32,7 +33,7 @@ pub fn decide_at(
     scratch: &[u32],
 ) -> u32
     requires { ⌜ Ordered (graphOf inputs nodes outputs (now «node_table») (now «output_table»)) (now scratch) × (v < nodes) ⌝ }
-    ensures { λ r. ⌜ FirstBelow (costWith (isXor (graphOf inputs nodes outputs (now («node_table» .entry)) (now («output_table» .entry))) v) (treeNumbers (stands (graphOf inputs nodes outputs (now («node_table» .entry)) (now («output_table» .entry))) (now (scratch .entry))) (innerAt inputs (now (scratch .entry))) (costAt inputs (now (scratch .entry))) v) (field (now (scratch .entry)) v 0) (field (now (scratch .entry)) v 1)) (arity (isXor (graphOf inputs nodes outputs (now («node_table» .entry)) (now («output_table» .entry))) v)) r ⌝ }
+    ensures { λ r. ⌜ FirstBelow (costWith (isXor (graphOf inputs nodes outputs (now («node_table» .entry)) (now («output_table» .entry))) v) (wordCosts (stands (graphOf inputs nodes outputs (now («node_table» .entry)) (now («output_table» .entry))) (now (scratch .entry))) (innerAt inputs (now (scratch .entry))) (costAt inputs (now (scratch .entry))) v) (field (now (scratch .entry)) v 0) (field (now (scratch .entry)) v 1)) (arity (isXor (graphOf inputs nodes outputs (now («node_table» .entry)) (now («output_table» .entry))) v)) r ⌝ }
 {
     let z = costs::tree_numbers(inputs, nodes, outputs, node_table, output_table, v, scratch);
     let readers = read(scratch, v, 0);

@@ -1,8 +1,8 @@
 -- A node's rows and its costs as numbers: bounds, and how the words' costs are met. From the laws on tests.
-use mathlib.Core.Path.{_≡_}
+use mathlib.Core.Path.{_≡_, refl}
 use mathlib.Core.Bool.{Bool, true, false, cond}
 use mathlib.Core.Logic.{⊎-elim}
-use mathlib.Core.List.{List, []}
+use mathlib.Core.List.{List, [], _∷_}
 use Prim.Native.Nat.{ℕ, zero, suc, _+_, _-_, _*_, _%_, _≤_, _<_}
 use native.Mathlib.Omega.{arith}
 use borrow.Author.Tests.{lt-ltb, ne-eqb}
@@ -13,14 +13,14 @@ use Rattle.graph.specs.Count.{adds, named, outNamed, nodeReaders, readers}
 use Rattle.graph.specs.Finite.{ifLess, ifEqual, count}
 use Rattle.graph.specs.Graph.{Graph, mark, node, word, turn, isEdge}
 use Rattle.moves.specs.Rows.{rows, firstRow, arity, flag}
-use Rattle.moves.specs.Decide.{readersCost, costWith, Numbers, wordAfter, ownCosts, swapped, given, others, costOf, costGiven, pairCost, numbersOf, naming, Counted}
+use Rattle.moves.specs.Decide.{costBy, costWith, Weighed, Numbers, LeastBelow, Answered, FirstPair, wordAfter, ownCosts, swapped, given, others, costOf, costGiven, pairCost, numbersOf, naming, Counted}
 use Rattle.moves.specs.declared.decide.NodeNumbers.{NodeNumbers}
 use Rattle.choice.specs.Choice.{FirstBelow}
-use Rattle.choice.proofs.Best.{first-shift}
 use Rattle.graph.proofs.Adds.{adds-le}
 use Rattle.graph.proofs.Cases.{true-or-false}
 use Rattle.graph.proofs.Finite.{sum-le}
 use Rattle.moves.proofs.Shown.{shown-both}
+use Rattle.moves.proofs.Flags.{by-flag}
 use Rattle.moves.proofs.Tally.{if-bit}
 
 -- the table has the flags
@@ -38,23 +38,31 @@ unfolding arity
 arity-low true = omega arith
 arity-low false = omega arith
 
--- the readers
-pub readers-le : (f r d : ℕ) → d ≤ r → readersCost f r d ≤ r
-unfolding readersCost ifEqual
-readers-le f r d h = go (eqb f 0)
+-- one of two numbers
+pub either-le : (f s t : ℕ) → ifEqual f 0 s t ≤ s + t
+unfolding ifEqual
+either-le f s t = go (eqb f 0)
   where
-    go : (b : Bool) → cond b d (r - d) ≤ r
+    go : (b : Bool) → cond b s t ≤ s + t
     go true = omega arith
     go false = omega arith
 
+pub by-le : (x : Bool) (z : List ℕ) (s t m : ℕ) → ((i : ℕ) → getD z i 0 ≤ 1) → costBy x z s t m ≤ 3 + (s + t)
+unfolding costBy
+by-le x z s t m n = omega (arith, n (flag x m 0), n (2 + flag x m 1), n (4 + flag x m 2), either-le (flag x m 3) s t)
+
 pub cost-le : (x : Bool) (z : List ℕ) (r d m : ℕ) → Numbers z r d → costWith x z r d m ≤ 3 + r
 unfolding costWith
-cost-le x z r d m n = omega (arith, n .bits (flag x m 0), n .bits (2 + flag x m 1), n .bits (4 + flag x m 2), readers-le (flag x m 3) r d (n .some))
+cost-le x z r d m n = omega (arith, n .some, by-le x z d (r - d) m (n .bits))
 
-pub cost-is : (x : Bool) (z : List ℕ) (r d m a b c e f : ℕ) → a ≡ flag x m 0 → b ≡ flag x m 1 → c ≡ flag x m 2 → e ≡ flag x m 3 → f ≡ readersCost e r d
-    → getD z a 0 + getD z (2 + b) 0 + getD z (4 + c) 0 + f ≡ costWith x z r d m
-unfolding costWith
-cost-is x z r d m a b c e f p q s t u = rw (u, p, q, s, t)
+pub cost-is : (x : Bool) (z : List ℕ) (s t m a b c e f : ℕ) → a ≡ flag x m 0 → b ≡ flag x m 1 → c ≡ flag x m 2 → e ≡ flag x m 3 → f ≡ ifEqual e 0 s t
+    → getD z a 0 + getD z (2 + b) 0 + getD z (4 + c) 0 + f ≡ costBy x z s t m
+unfolding costBy
+cost-is x z s t m a b c e f p q o n u = rw (u, p, q, o, n)
+
+-- the numbers of a node, weighed
+pub numbers-weigh : (z : List ℕ) (r d : ℕ) → Numbers z r d → Weighed z d (r - d)
+numbers-weigh z r d n = record { bits = n .bits; still = omega (arith, n .some, n .few); turned = omega (arith, n .few) }
 
 -- the words
 pub first-place : (l : List ℕ) (v : ℕ) → getD l (3 * v) 0 ≡ getD l (3 * v + 0) 0
@@ -129,9 +137,30 @@ onlyIf-le f w h = go (eqb f 0)
     go true = omega arith
     go false = h
 
-pub given-is : (z w : List ℕ) (f a b c : ℕ) → a ≡ ifEqual f 0 0 (getD w 0 0) → b ≡ ifEqual f 0 0 (getD w 1 0) → c ≡ ifEqual f 0 0 (getD w 2 0) → swapped z a b c ≡ given z w f
+either-read : (z : List ℕ) (i j k a : ℕ) → a ≤ 1 → j ≡ i + a → k ≡ i + 1 - a
+    → (ifEqual a 0 (getD z i 0) (getD z (i + 1) 0) ≡ getD z j 0) × (ifEqual a 0 (getD z (i + 1) 0) (getD z i 0) ≡ getD z k 0)
+unfolding ifEqual
+either-read z i j k zero l p q = let e : j ≡ i = omega arith in let f : k ≡ i + 1 = omega arith in rw (e, f) (refl, refl)
+either-read z i j k (suc zero) l p q = let e : j ≡ i + 1 = omega arith in let f : k ≡ i = omega arith in rw (e, f) (refl, refl)
+either-read z i j k (suc (suc a)) l p q = absurd (omega arith)
+
+swap-is : (z : List ℕ) (a b c : ℕ) → a ≤ 1 → b ≤ 1 → c ≤ 1
+    → ifEqual a 0 (getD z 0 0) (getD z 1 0) ∷ ifEqual a 0 (getD z 1 0) (getD z 0 0) ∷ ifEqual b 0 (getD z 2 0) (getD z 3 0) ∷ ifEqual b 0 (getD z 3 0) (getD z 2 0)
+    ∷ ifEqual c 0 (getD z 4 0) (getD z 5 0) ∷ ifEqual c 0 (getD z 5 0) (getD z 4 0) ∷ []
+    ≡ swapped z a b c
+unfolding swapped
+swap-is z a b c l m n =
+    let p = either-read z 0 a (1 - a) a l (omega arith) (omega arith) in
+    let q = either-read z 2 (2 + b) (3 - b) b m (omega arith) (omega arith) in
+    let r = either-read z 4 (4 + c) (5 - c) c n (omega arith) (omega arith) in
+    rw (p .0, p .1, q .0, q .1, r .0, r .1)
+
+pub given-is : (z w : List ℕ) (f a b c : ℕ) → ((i : ℕ) → getD w i 0 ≤ 1) → a ≡ ifEqual f 0 0 (getD w 0 0) → b ≡ ifEqual f 0 0 (getD w 1 0) → c ≡ ifEqual f 0 0 (getD w 2 0)
+    → (r s t u v x : ℕ) → r ≡ ifEqual a 0 (getD z 0 0) (getD z 1 0) → s ≡ ifEqual a 0 (getD z 1 0) (getD z 0 0) → t ≡ ifEqual b 0 (getD z 2 0) (getD z 3 0)
+    → u ≡ ifEqual b 0 (getD z 3 0) (getD z 2 0) → v ≡ ifEqual c 0 (getD z 4 0) (getD z 5 0) → x ≡ ifEqual c 0 (getD z 5 0) (getD z 4 0) → r ∷ s ∷ t ∷ u ∷ v ∷ x ∷ [] ≡ given z w f
 unfolding given
-given-is z w f a b c p q r = rw (p, q, r)
+given-is z w f a b c h p q o r s t u v x e₀ e₁ e₂ e₃ e₄ e₅ =
+    rw (e₀, e₁, e₂, e₃, e₄, e₅, p, q, o) (swap-is z _ _ _ (onlyIf-le f _ (h 0)) (onlyIf-le f _ (h 1)) (onlyIf-le f _ (h 2)))
 
 swapped-le : (z : List ℕ) (a b c : ℕ) → ((i : ℕ) → getD z i 0 ≤ 1) → (i : ℕ) → getD (swapped z a b c) i 0 ≤ 1
 unfolding swapped
@@ -156,13 +185,58 @@ module _ (p n : NodeNumbers) (w : List ℕ) (a : ℕ) where
   unfolding pairCost costGiven others
   pair-is k s t z e q r = rw (q, r, e)
 
-  pub given-first : (k f : ℕ) (z : List ℕ) → f ≡ flag (p .xor) a 3 → z ≡ given (n .costs) w f
-      → FirstBelow (costWith (n .xor) z (n .readers) (n .odd)) (arity (n .xor)) k → FirstBelow (costGiven p n w a) (arity (n .xor)) k
-  unfolding costGiven
-  given-first k f z e q h =
-      let same : (j : ℕ) → costGiven p n w a j + 0 ≡ costWith (n .xor) z (n .readers) (n .odd) j + 0 = λ j. rw (q, e) in
-      first-shift (costGiven p n w a) (costWith (n .xor) z (n .readers) (n .odd)) 0 0 (arity (n .xor)) k same h
+-- the node's answer
+pub answered : (n : NodeNumbers) (w z : List ℕ) (f k c : ℕ) → Counted n → z ≡ given (n .costs) w f → LeastBelow (costWith (n .xor) z (n .readers) (n .odd)) (arity (n .xor)) k c
+    → Answered n w f k (c + (getD z 1 0 + getD z 3 0 + getD z 5 0))
+unfolding others
+answered n w z f k c h e l =
+    let b = given-counted (n .costs) w z f (n .readers) (n .odd) e h in
+    record {
+      found = rw (← e) (l .found);
+      cost = rw (← e) (omega (arith, l .cost));
+      low = omega (arith, l .cost, cost-le (n .xor) z (n .readers) (n .odd) k b, b .bits 1, b .bits 3, b .bits 5, h .few);
+    }
 
-  pub pair-first : (k : ℕ) → FirstBelow (costGiven p n w a) (arity (n .xor)) k → FirstBelow (pairCost p n w a) (arity (n .xor)) k
-  unfolding pairCost
-  pair-first k h = first-shift (pairCost p n w a) (costGiven p n w a) 0 (costOf p a + others (given (n .costs) w (flag (p .xor) a 3))) (arity (n .xor)) k (λ j. omega arith) h
+-- the first least pair: the named node's move is weighed with the node's answer to it
+module _ (p n : NodeNumbers) (w : List ℕ) (k₀ c₀ k₁ c₁ : ℕ) (still : Answered n w 0 k₀ c₀) (turned : Answered n w 1 k₁ c₁) where
+  -- the answer to move a
+  answer : ℕ → ℕ
+  answer a = ifEqual (flag (p .xor) a 3) 0 k₀ k₁
+
+  -- what move a leaves, with what the answer to it leaves
+  weighed : ℕ → ℕ
+  weighed a = costBy (p .xor) (p .costs) (p .odd + c₀) (p .readers - p .odd + c₁) a
+
+  costs : ℕ → ℕ → ℕ
+  costs f k = costWith (n .xor) (given (n .costs) w f) (n .readers) (n .odd) k
+
+  answer-first : (a : ℕ) → FirstBelow (costs (flag (p .xor) a 3)) (arity (n .xor)) (answer a)
+  unfolding answer ifEqual costs
+  answer-first a = by-flag (λ f. FirstBelow (costs f) (arity (n .xor)) (ifEqual f 0 k₀ k₁)) (still .found) (turned .found) (p .xor) a 3 (omega arith)
+
+  weighed-is : (a : ℕ) → weighed a ≡ pairCost p n w a (answer a)
+  unfolding weighed costBy pairCost costWith costGiven answer costs ifEqual
+  weighed-is a =
+      let own : ℕ = getD (p .costs) (flag (p .xor) a 0) 0 + getD (p .costs) (2 + flag (p .xor) a 1) 0 + getD (p .costs) (4 + flag (p .xor) a 2) 0 in
+      by-flag
+      (λ f. own + ifEqual f 0 (p .odd + c₀) (p .readers - p .odd + c₁) ≡ own + ifEqual f 0 (p .odd) (p .readers - p .odd) + costs f (ifEqual f 0 k₀ k₁) + others (given (n .costs) w f))
+      (omega (arith, still .cost))
+      (omega (arith, turned .cost))
+      (p .xor)
+      a
+      3
+      (omega arith)
+
+  pub pair-of : (a f k : ℕ) → FirstBelow (costBy (p .xor) (p .costs) (p .odd + c₀) (p .readers - p .odd + c₁)) (arity (p .xor)) a → f ≡ flag (p .xor) a 3 → k ≡ ifEqual f 0 k₀ k₁
+      → FirstPair (pairCost p n w) (arity (p .xor)) (arity (n .xor)) a k
+  unfolding pairCost costGiven costs weighed answer
+  pair-of a f k b d r =
+      let same : k ≡ answer a = rw d at r in
+      rw same
+      (record {
+        below = b .below;
+        fits = answer-first a .below;
+        low = λ c l i j. omega (arith, b .low c i, weighed-is a, weighed-is c, answer-first c .low l j);
+        first = λ c l i j. omega (arith, b .first c i, weighed-is a, weighed-is c, answer-first c .low l j);
+        second = λ l i. omega (arith, answer-first a .first l i);
+      })

@@ -85,3 +85,12 @@ flag-bit x m k h =
     (λ (l : m < arity x). leb→le _ _ (all-at 4 (λ k. bitRight x m k) (all-at (arity x) (λ m. all 4 (λ k. bitRight x m k)) (all-bits x) m l) k h))
     (λ (l : arity x ≤ m). omega (arith, flag-past x m k l))
     (lt-or-le m (arity x))
+
+-- what holds for 0 and for 1 holds for a flag
+pub by-flag : (P : ℕ → Type 0) → P 0 → P 1 → (x : Bool) (m k : ℕ) → k < 4 → P (flag x m k)
+by-flag P zeroth first x m k h = go (flag x m k) (flag-bit x m k h)
+  where
+    go : (f : ℕ) → f ≤ 1 → P f
+    go zero l = zeroth
+    go (suc zero) l = first
+    go (suc (suc f)) l = absurd (omega arith)

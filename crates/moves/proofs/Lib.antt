@@ -17,4 +17,5 @@ pub mod Deciding
 pub mod Tally
 pub mod Step
 pub mod NodeBest
+pub mod NodeCosts
 pub mod Sweeping

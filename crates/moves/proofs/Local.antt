@@ -1,51 +1,77 @@
--- The cost of a node looks only at the costs of lower non-roots.
-use mathlib.Core.Path.{_≡_, refl, sym, ap, _∙_, fun-ext}
-use mathlib.Core.Bool.{Bool, true, false, not, cond, _&&_}
-use mathlib.Core.Logic.{_⊎_, inl, inr, ⊎-elim, _≢_}
-use Prim.Native.Nat.{ℕ, zero, suc, _+_, _-_, _*_, _/_, _%_, _≤_, _<_, min}
+-- The cost of a node looks only at its words and at the costs of the nodes that they name.
+use mathlib.Core.Path.{_≡_, refl, _∙_, fun-ext}
+use mathlib.Core.Bool.{Bool, true, false}
+use mathlib.Core.Logic.{⊎-elim}
+use Prim.Native.Nat.{ℕ, _+_, _*_, _/_, _%_, _<_}
 use native.Mathlib.Omega.{arith}
-use borrow.Author.Tests.{ltb-true, not-true}
-use lib.Dec.{eqb, ltb}
-use Rattle.graph.specs.Admission.{Admitted}
-use Rattle.graph.specs.Graph.{Graph, isEdge, isXor, node, word}
-use Rattle.moves.specs.Cost.{inner, edgeCost, wordCost, ownCost, moveCost, nodeCost, rootCost, pick, baseCost, bitCost}
-use Rattle.moves.specs.Rows.{flag, arity}
-use Rattle.moves.specs.Tree.{isRoot}
+use Rattle.graph.specs.Graph.{Graph, isEdge, isXor, word}
+use Rattle.moves.specs.Cost.{edgeCost, turnedCost, wordCosts, wordCost, ownCost, moveCost, nodeCost, baseCost, bitCost}
+use Rattle.moves.specs.Decide.{costWith}
 use Rattle.graph.proofs.Cases.{true-or-false}
-use Rattle.moves.proofs.Readers.{both-true}
 
+-- two graphs that have the same words at node v
+module _ (g g′ : Graph) (t t′ : ℕ → Bool) (c c′ : ℕ → ℕ → ℕ) (v : ℕ) (kind : isXor g v ≡ isXor g′ v)
+    (edge : (i : ℕ) → i < 3 → isEdge g (3 * v + i) ≡ isEdge g′ (3 * v + i)) (words : (i : ℕ) → i < 3 → word g (3 * v + i) ≡ word g′ (3 * v + i))
+    (alike : (i : ℕ) → i < 3 → isEdge g′ (3 * v + i) ≡ true → t (word g′ (3 * v + i) / 2) ≡ t′ (word g′ (3 * v + i) / 2))
+    (same : (i s : ℕ) → i < 3 → isEdge g′ (3 * v + i) ≡ true → t′ (word g′ (3 * v + i) / 2) ≡ true → s < 2 → c (word g′ (3 * v + i) / 2) s ≡ c′ (word g′ (3 * v + i) / 2) s) where
+  turned-named : (i f : ℕ) → i < 3 → turnedCost g t c v i f ≡ turnedCost g′ t′ c′ v i f
+  unfolding turnedCost edgeCost
+  turned-named i f l =
+      let u : ℕ = word g′ (3 * v + i) / 2 in
+      ⊎-elim
+      (λ (e : isEdge g′ (3 * v + i) ≡ true).
+      ⊎-elim
+      (λ (q : t′ u ≡ true). rw (edge i l, words i l, e, alike i l e, q, same i ((word g′ (3 * v + i) + f) % 2) l e q (omega arith)))
+      (λ (q : t′ u ≡ false). rw (edge i l, words i l, e, alike i l e, q))
+      (true-or-false (t′ u)))
+      (λ (e : isEdge g′ (3 * v + i) ≡ false). rw (edge i l, e))
+      (true-or-false (isEdge g′ (3 * v + i)))
+
+  costs-named : wordCosts g t c v ≡ wordCosts g′ t′ c′ v
+  unfolding wordCosts
+  costs-named =
+      rw (
+        turned-named 0 0 (omega arith),
+        turned-named 0 1 (omega arith),
+        turned-named 1 0 (omega arith),
+        turned-named 1 1 (omega arith),
+        turned-named 2 0 (omega arith),
+        turned-named 2 1 (omega arith),
+      )
+
+  pub with-named : (r d : ℕ) → costWith (isXor g v) (wordCosts g t c v) r d ≡ costWith (isXor g′ v) (wordCosts g′ t′ c′ v) r d
+  with-named r d = rw (kind, costs-named)
+
+  pub own-named : (k : ℕ) → ownCost g t c v k ≡ ownCost g′ t′ c′ v k
+  unfolding ownCost wordCost
+  own-named k = rw (kind, turned-named 0 _ (omega arith), turned-named 1 _ (omega arith), turned-named 2 _ (omega arith))
+
+  pub move-named : (s : ℕ) → moveCost g t c v s ≡ moveCost g′ t′ c′ v s
+  unfolding moveCost
+  move-named s = fun-ext (λ k. rw (kind, own-named k))
+
+  node-named : (s : ℕ) → nodeCost g t c v s ≡ nodeCost g′ t′ c′ v s
+  unfolding nodeCost
+  node-named s = rw (move-named s, kind)
+
+  pub bit-named : (s : ℕ) → bitCost g t c v s ≡ bitCost g′ t′ c′ v s
+  unfolding bitCost baseCost
+  bit-named s = rw (node-named s, node-named 0, node-named 1)
+
+-- one graph, whose node v names only indices below B
 module _ (g : Graph) (t t′ : ℕ → Bool) (v B : ℕ) (below : (i : ℕ) → i < 3 → isEdge g (3 * v + i) ≡ true → word g (3 * v + i) / 2 < B) (c c′ : ℕ → ℕ → ℕ)
     (alike : (u : ℕ) → u < B → t u ≡ t′ u) (same : (u s : ℕ) → t u ≡ true → u < B → s < 2 → c u s ≡ c′ u s) where
-  word-local : (k i : ℕ) → i < 3 → wordCost g t c v k i ≡ wordCost g t′ c′ v k i
-  unfolding wordCost edgeCost
-  word-local k i l =
-      let u : ℕ = word g (3 * v + i) / 2 in
-      ⊎-elim
-      (λ (e : isEdge g (3 * v + i) ≡ true).
-      let w : t′ u ≡ t u = sym (alike u (below i l e)) in
-      ⊎-elim
-      (λ (q : t u ≡ true). rw (e, w, q, same u ((word g (3 * v + i) + flag (isXor g v) k i) % 2) q (below i l e) (omega arith)))
-      (λ (q : t u ≡ false). rw (e, w, q))
-      (true-or-false (t u)))
-      (λ (e : isEdge g (3 * v + i) ≡ false). rw e)
-      (true-or-false (isEdge g (3 * v + i)))
+  alike-at : (i : ℕ) → i < 3 → isEdge g (3 * v + i) ≡ true → t (word g (3 * v + i) / 2) ≡ t′ (word g (3 * v + i) / 2)
+  alike-at i l e = alike _ (below i l e)
+
+  same-at : (i s : ℕ) → i < 3 → isEdge g (3 * v + i) ≡ true → t′ (word g (3 * v + i) / 2) ≡ true → s < 2 → c (word g (3 * v + i) / 2) s ≡ c′ (word g (3 * v + i) / 2) s
+  same-at i s l e q h = same _ s (alike-at i l e ∙ q) (below i l e) h
 
   pub own-local : (k : ℕ) → ownCost g t c v k ≡ ownCost g t′ c′ v k
-  unfolding ownCost
-  own-local k = omega (arith, word-local k 0 (omega arith), word-local k 1 (omega arith), word-local k 2 (omega arith))
+  own-local = own-named g g t t′ c c′ v refl (λ i l. refl) (λ i l. refl) alike-at same-at
 
   pub move-local : (s : ℕ) → moveCost g t c v s ≡ moveCost g t′ c′ v s
-  unfolding moveCost
-  move-local s = fun-ext (λ k. ap (λ x. (s + flag (isXor g v) k 3) % 2 + x) (own-local k))
-
-  pub node-local : (s : ℕ) → nodeCost g t c v s ≡ nodeCost g t′ c′ v s
-  unfolding nodeCost
-  node-local s = ap (λ f. f (pick f (arity (isXor g v)))) (move-local s)
-
-  pub base-local : baseCost g t c v ≡ baseCost g t′ c′ v
-  unfolding baseCost
-  base-local = rw (node-local 0, node-local 1)
+  move-local = move-named g g t t′ c c′ v refl (λ i l. refl) (λ i l. refl) alike-at same-at
 
   pub bit-local : (s : ℕ) → bitCost g t c v s ≡ bitCost g t′ c′ v s
-  unfolding bitCost
-  bit-local s = rw (node-local s, base-local)
+  bit-local = bit-named g g t t′ c c′ v refl (λ i l. refl) (λ i l. refl) alike-at same-at

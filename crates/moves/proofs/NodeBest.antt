@@ -18,7 +18,7 @@ use Rattle.choice.proofs.Best.{unique}
 use Rattle.moves.specs.Apply.{Choice, none, at, put, seen, apply}
 use Rattle.moves.specs.Call.{moved, movedC, bestAt}
 use Rattle.moves.specs.Cost.{shown}
-use Rattle.moves.specs.Decide.{readersCost, costWith, wordAfter, ownCosts, swapped, given, others, costOf, costGiven, pairCost, FirstPair, numbersOf, naming}
+use Rattle.moves.specs.Decide.{costBy, costWith, wordAfter, ownCosts, swapped, given, others, costOf, costGiven, pairCost, FirstPair, numbersOf, naming}
 use Rattle.moves.specs.Rows.{arity, flag, movesAt}
 use Rattle.graph.proofs.Cases.{eq-or-ne}
 use Rattle.graph.proofs.Turn.{turn-half, turn-bit}
@@ -145,7 +145,7 @@ swapped-sum z a b c l m n =
     omega (arith, e, swap-sum z 2 b m, swap-sum z 4 c n)
 
 cost-stands : (x : Bool) (z : List ℕ) (r d : ℕ) → costWith x z r d 0 ≡ stands z + d
-unfolding costWith stands readersCost ifEqual
+unfolding costWith costBy stands ifEqual
 cost-stands x z r d = rw (flag-zero x 0, flag-zero x 1, flag-zero x 2, flag-zero x 3) (omega arith)
 
 given-sum : (g : Graph) (p : ℕ) (h : p < g .N) (a v : ℕ) → let z = given (ownCosts g v) (naming g v (node g p)) (flag (isXor g p) a 3) in others z + stands z ≡ whole (ownCosts g v)

@@ -12,7 +12,7 @@ use Rattle.graph.specs.Count.{nodeAdds, outAdds, C, named}
 use Rattle.graph.specs.Finite.{sum}
 use Rattle.graph.specs.Graph.{Graph, isEdge, isXor, node, word, out}
 use Rattle.moves.specs.Apply.{Choice, own, seen, apply, at}
-use Rattle.moves.specs.Cost.{inner, edgeCost, wordCost, ownCost, moveCost, shows}
+use Rattle.moves.specs.Cost.{inner, edgeCost, turnedCost, wordCost, ownCost, moveCost, shows}
 use Rattle.moves.specs.Rows.{flag}
 use Rattle.moves.specs.Tree.{isRoot, place, reader, rootOf}
 use Rattle.graph.proofs.Cases.{true-or-false, cond-same, lt-or-le}
@@ -148,7 +148,7 @@ module _ (g : Graph) (c : ℕ → ℕ → ℕ) (r : ℕ) (adm : Admitted g) wher
           (true-or-false (undecided g r n u))
 
       pub own-word : (i : ℕ) → i < 3 → term g c r n (at d (node g n) k) (3 * n + i) ≡ wordCost g (inner g) c n k i
-      unfolding term wordCost
+      unfolding term wordCost turnedCost
       own-word i l =
           let q : (3 * n + i) / 3 ≡ n = omega arith in
           rw (q, undecided-past g r n (node g n) (omega arith), own-at g (at d (node g n) k) n i l, at-same d (node g n) k)

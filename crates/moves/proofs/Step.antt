@@ -15,7 +15,7 @@ use Rattle.graph.specs.Finite.{sum, ifEqual}
 use Rattle.graph.specs.Graph.{Graph, isEdge, isXor, node, word, out}
 use Rattle.moves.specs.Apply.{Choice, own, apply, at}
 use Rattle.moves.specs.Cost.{shown}
-use Rattle.moves.specs.Decide.{readersCost, costWith}
+use Rattle.moves.specs.Decide.{costBy, costWith}
 use Rattle.moves.specs.Rows.{flag}
 use Rattle.graph.proofs.Cases.{true-or-false, eq-or-ne}
 use Rattle.graph.proofs.Finite.{sum-same}
@@ -23,7 +23,7 @@ use Rattle.moves.proofs.Compose.{seen-node}
 use Rattle.moves.proofs.Count.{clash, sum-add, sum-but-node}
 use Rattle.moves.proofs.Flags.{flag-bit}
 use Rattle.moves.proofs.Readers.{names, named-by}
-use Rattle.moves.proofs.Shown.{shown-both}
+use Rattle.moves.proofs.Shown.{all-readers}
 use Rattle.moves.proofs.Changed.{at-same, at-other, seen-other, own-other, own-at, own-none, plain, node-adds, out-adds}
 
 -- what word i + 1 of node v adds after d, turned t times more
@@ -124,33 +124,24 @@ module _ (g : Graph) (adm : Admitted g) (d : Choice) (v : ℕ) (h : v < g .N) (q
       (λ (e : isEdge g (3 * v + i) ≡ false). rw e)
       (true-or-false (isEdge g (3 * v + i))))
 
-  all-readers : shown g (node g v) (flag (isXor g v) k 3) ≡ readersCost (flag (isXor g v) k 3) (readers g (node g v)) (shown g (node g v) 0)
-  unfolding readersCost ifEqual
-  all-readers = go (flag (isXor g v) k 3) (flag-bit (isXor g v) k 3 (omega arith))
-    where
-      go : (f : ℕ) → f ≤ 1 → shown g (node g v) f ≡ cond (eqb f 0) (shown g (node g v) 0) (readers g (node g v) - shown g (node g v) 0)
-      go zero l = refl
-      go (suc zero) l = omega (arith, shown-both g (node g v))
-      go (suc (suc f)) l = absurd (omega arith)
-
-  by-flag : (i f : ℕ) → i < 3 → f ≤ 1 → afterMove g d v i f ≡ getD (costsAfter g d v) (2 * i + f) 0
+  at-bit : (i f : ℕ) → i < 3 → f ≤ 1 → afterMove g d v i f ≡ getD (costsAfter g d v) (2 * i + f) 0
   unfolding costsAfter
-  by-flag zero zero l m = refl
-  by-flag zero (suc zero) l m = refl
-  by-flag zero (suc (suc f)) l m = absurd (omega arith)
-  by-flag (suc zero) zero l m = refl
-  by-flag (suc zero) (suc zero) l m = refl
-  by-flag (suc zero) (suc (suc f)) l m = absurd (omega arith)
-  by-flag (suc (suc zero)) zero l m = refl
-  by-flag (suc (suc zero)) (suc zero) l m = refl
-  by-flag (suc (suc zero)) (suc (suc f)) l m = absurd (omega arith)
-  by-flag (suc (suc (suc i))) f l m = absurd (omega arith)
+  at-bit zero zero l m = refl
+  at-bit zero (suc zero) l m = refl
+  at-bit zero (suc (suc f)) l m = absurd (omega arith)
+  at-bit (suc zero) zero l m = refl
+  at-bit (suc zero) (suc zero) l m = refl
+  at-bit (suc zero) (suc (suc f)) l m = absurd (omega arith)
+  at-bit (suc (suc zero)) zero l m = refl
+  at-bit (suc (suc zero)) (suc zero) l m = refl
+  at-bit (suc (suc zero)) (suc (suc f)) l m = absurd (omega arith)
+  at-bit (suc (suc (suc i))) f l m = absurd (omega arith)
 
   at-flag : (i f p : ℕ) → i < 3 → f ≤ 1 → p ≡ 2 * i + f → afterMove g d v i f ≡ getD (costsAfter g d v) p 0
-  at-flag i f p l m e = rw e (by-flag i f l m)
+  at-flag i f p l m e = rw e (at-bit i f l m)
 
   pub cost-step : C (apply g (at d (node g v) k)) ≡ costWith (isXor g v) (costsAfter g d v) (readers g (node g v)) (shown g (node g v) 0) k + restOf g d v
-  unfolding C costWith restOf shown apply read outRead
+  unfolding C costWith costBy restOf shown apply read outRead
   cost-step =
       let x : Bool = isXor g v in
       let w = sum-but-node (3 * g .N) (λ j. read j + fixed g d v j) (nodeAdds (apply g (at d (node g v) k))) v (omega arith) (λ j l p. apart j l p) in
@@ -170,5 +161,5 @@ module _ (g : Graph) (adm : Admitted g) (d : Choice) (v : ℕ) (h : v < g .N) (q
         at-flag 0 (flag x k 0) (flag x k 0) (omega arith) (flag-bit x k 0 (omega arith)) (omega arith),
         at-flag 1 (flag x k 1) (2 + flag x k 1) (omega arith) (flag-bit x k 1 (omega arith)) (omega arith),
         at-flag 2 (flag x k 2) (4 + flag x k 2) (omega arith) (flag-bit x k 2 (omega arith)) (omega arith),
-        all-readers,
+        all-readers g (node g v) (flag x k 3) (flag-bit x k 3 (omega arith)),
       )

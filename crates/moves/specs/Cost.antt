@@ -23,9 +23,18 @@ inner g u = ltb (g .I) u && not (isRoot g u)
 unfoldable pub edgeCost : (ℕ → Bool) → (ℕ → ℕ → ℕ) → ℕ → ℕ → ℕ
 edgeCost t c u b = cond (eqb u 0) 0 (cond (t u) (c u b) b)
 
--- word i of node v under v's move k
+-- word i + 1 of node v, turned f times
+unfoldable pub turnedCost : Graph → (ℕ → Bool) → (ℕ → ℕ → ℕ) → ℕ → ℕ → ℕ → ℕ
+turnedCost g t c v i f = cond (isEdge g (3 * v + i)) (edgeCost t c (word g (3 * v + i) / 2) ((word g (3 * v + i) + f) % 2)) 0
+
+-- each word of node v, as it stands and turned
+unfoldable pub wordCosts : Graph → (ℕ → Bool) → (ℕ → ℕ → ℕ) → ℕ → List ℕ
+wordCosts g t c v =
+    turnedCost g t c v 0 0 ∷ turnedCost g t c v 0 1 ∷ turnedCost g t c v 1 0 ∷ turnedCost g t c v 1 1 ∷ turnedCost g t c v 2 0 ∷ turnedCost g t c v 2 1 ∷ []
+
+-- word i + 1 of node v under v's move k
 unfoldable pub wordCost : Graph → (ℕ → Bool) → (ℕ → ℕ → ℕ) → ℕ → ℕ → ℕ → ℕ
-wordCost g t c v k i = cond (isEdge g (3 * v + i)) (edgeCost t c (word g (3 * v + i) / 2) ((word g (3 * v + i) + flag (isXor g v) k i) % 2)) 0
+wordCost g t c v k i = turnedCost g t c v i (flag (isXor g v) k i)
 
 unfoldable pub ownCost : Graph → (ℕ → Bool) → (ℕ → ℕ → ℕ) → ℕ → ℕ → ℕ
 ownCost g t c v k = wordCost g t c v k 0 + wordCost g t c v k 1 + wordCost g t c v k 2

@@ -8,19 +8,31 @@ use Rattle.graph.specs.Finite.{ifEqual, sum}
 use Rattle.graph.specs.Graph.{Graph, node, word, turn, isEdge, isXor}
 use Rattle.graph.specs.Count.{adds, nodeReaders, readers}
 use Rattle.moves.specs.Cost.{shown}
-use Rattle.moves.specs.Rows.{flag}
+use Rattle.moves.specs.Rows.{arity, flag}
+use Rattle.choice.specs.Choice.{FirstBelow}
 use Rattle.moves.specs.declared.decide.NodeNumbers.{NodeNumbers}
 
--- what r readers add, d of them complemented, once all are turned f times
-unfoldable pub readersCost : ℕ → ℕ → ℕ → ℕ
-readersCost f r d = ifEqual f 0 d (r - d)
-
 -- what the move m of a node of kind x leaves: z has at place 2 k what word k + 1 adds as it stands, and at 2 k + 1 what it
--- adds turned; the node has r readers, d of them complemented
-unfoldable pub costWith : Bool → List ℕ → ℕ → ℕ → ℕ → ℕ
-costWith x z r d m = getD z (flag x m 0) 0 + getD z (2 + flag x m 1) 0 + getD z (4 + flag x m 2) 0 + readersCost (flag x m 3) r d
+-- adds turned; its readers add s, or t once all are turned
+unfoldable pub costBy : Bool → List ℕ → ℕ → ℕ → ℕ → ℕ
+costBy x z s t m = getD z (flag x m 0) 0 + getD z (2 + flag x m 1) 0 + getD z (4 + flag x m 2) 0 + ifEqual (flag x m 3) 0 s t
 
--- such numbers, as they can be: each word adds at most 1
+-- the same for a node with r readers, d of them complemented
+unfoldable pub costWith : Bool → List ℕ → ℕ → ℕ → ℕ → ℕ
+costWith x z r d m = costBy x z d (r - d) m
+
+-- m is the first number below n at which f is least, and c what it is there
+pub record LeastBelow (f : ℕ → ℕ) (n m c : ℕ) : Type 0 where
+  pub found : FirstBelow f n m
+  pub cost : c ≡ f m
+
+-- what is weighed, as it can be: each word adds at most 1
+pub record Weighed (z : List ℕ) (s t : ℕ) : Type 0 where
+  pub bits : (i : ℕ) → getD z i 0 ≤ 1
+  pub still : s ≤ 1000000
+  pub turned : t ≤ 1000000
+
+-- the numbers of a node, as they can be
 pub record Numbers (z : List ℕ) (r d : ℕ) : Type 0 where
   pub bits : (i : ℕ) → getD z i 0 ≤ 1
   pub some : d ≤ r
@@ -73,6 +85,13 @@ costGiven p n w a k = costWith (n .xor) (given (n .costs) w (flag (p .xor) a 3))
 -- add once a is made stands in both costs and is taken off once, by adding what they add turned: both together never change
 unfoldable pub pairCost : NodeNumbers → NodeNumbers → List ℕ → ℕ → ℕ → ℕ
 pairCost p n w a k = costOf p a + costGiven p n w a k + others (given (n .costs) w (flag (p .xor) a 3))
+
+-- k is the first least move of the node n once the readers of the node that its words w name have been turned f times, and c
+-- what it leaves, with what its words add turned once more
+pub record Answered (n : NodeNumbers) (w : List ℕ) (f k c : ℕ) : Type 0 where
+  pub found : FirstBelow (costWith (n .xor) (given (n .costs) w f) (n .readers) (n .odd)) (arity (n .xor)) k
+  pub cost : c ≡ costWith (n .xor) (given (n .costs) w f) (n .readers) (n .odd) k + others (given (n .costs) w f)
+  pub low : c ≤ 304102
 
 -- (a, k) is the first pair below (m, n), by a and then by k, at which f is least
 pub record FirstPair (f : ℕ → ℕ → ℕ) (m n a k : ℕ) : Type 0 where

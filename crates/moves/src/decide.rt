@@ -1,53 +1,123 @@
 // Deciding from numbers: what the words of a node add, its readers, and how many of these are complemented.
 ghost use mathlib.Core.Path.{_≡_};
+ghost use mathlib.Core.Bool.{true, false};
 ghost use Prim.Native.Nat.{ℕ, _+_, _≤_, _<_};
 ghost use lib.ListN.{getD};
 ghost use Rattle.choice.specs.Choice.{FirstBelow};
 ghost use Rattle.graph.specs.Finite.{ifEqual};
 ghost use Rattle.moves.specs.Rows.{arity};
-ghost use Rattle.moves.specs.Decide.{readersCost, costWith, Numbers, given, Counted, costGiven, pairCost, FirstPair};
+ghost use Rattle.moves.specs.Decide.{costBy, costWith, Weighed, Numbers, LeastBelow, given, Counted, pairCost, FirstPair, Answered};
 use crate::rows;
 
-pub fn readers_cost(f: u32, readers: u32, odd: u32) -> u32
-    requires { ⌜ odd ≤ readers ⌝ }
-    ensures { λ r. ⌜ r ≡ readersCost f readers odd ⌝ }
+// x where f is 0, else y.
+pub fn either(f: u32, x: u32, y: u32) -> u32
+    ensures { λ r. ⌜ r ≡ ifEqual f 0 x y ⌝ }
 {
     if f == 0 {
-        return odd;
+        return x;
     }
-    readers - odd
+    y
 }
 
-// What move m of a node leaves of its own words and its readers.
-pub fn move_cost(xor: bool, z: [u32; 6], readers: u32, odd: u32, m: u32) -> u32
-    requires { ⌜ Numbers z readers odd × (m < arity xor) ⌝ }
-    ensures { λ r. ⌜ (r ≡ costWith xor z readers odd m) × (r ≤ 3 + readers) ⌝ }
+// What move m of a node leaves of its words and readers, where the readers add `still`, or `turned` once all are turned.
+pub fn cost_by(xor: bool, z: [u32; 6], still: u32, turned: u32, m: u32) -> u32
+    requires { ⌜ Weighed z still turned × (m < arity xor) ⌝ }
+    ensures { λ r. ⌜ (r ≡ costBy xor z still turned m) × (r ≤ 3 + (still + turned)) ⌝ }
 {
     let a = rows::flag_of(xor, m, 0) as usize;
     let b = 2 + rows::flag_of(xor, m, 1) as usize;
     let c = 4 + rows::flag_of(xor, m, 2) as usize;
-    let shown = readers_cost(rows::flag_of(xor, m, 3), readers, odd);
+    let shown = either(rows::flag_of(xor, m, 3), still, turned);
     z[a] + z[b] + z[c] + shown
 }
 
-// The first of the least moves.
+// The same for a node with that many readers, `odd` of them complemented.
+pub fn move_cost(xor: bool, z: [u32; 6], readers: u32, odd: u32, m: u32) -> u32
+    requires { ⌜ Numbers z readers odd × (m < arity xor) ⌝ }
+    ensures { λ r. ⌜ (r ≡ costWith xor z readers odd m) × (r ≤ 3 + readers) ⌝ }
+{
+    cost_by(xor, z, odd, readers - odd, m)
+}
+
+// The first of some least moves, and what it leaves.
+pub struct LeastMove {
+    pub number: u32,
+    pub cost: u32,
+}
+
+// No move.
+pub fn no_move(xor: bool, z: [u32; 6], still: u32, turned: u32) -> LeastMove
+    requires { ⌜ Weighed z still turned ⌝ }
+    ensures { λ r. ⌜ LeastBelow (costBy xor z still turned) 1 (r .number) (r .cost) ⌝ }
+{
+    let cost = cost_by(xor, z, still, turned, 0);
+    LeastMove { number: 0, cost }
+}
+
+// Move m where it leaves less than the least move below it.
+pub fn if_less(
+    xor: bool,
+    z: [u32; 6],
+    still: u32,
+    turned: u32,
+    least: LeastMove,
+    m: u32,
+) -> LeastMove
+    requires { ⌜ Weighed z still turned × (m < arity xor) × LeastBelow (costBy xor z still turned) m (least .number) (least .cost) ⌝ }
+    ensures { λ r. ⌜ LeastBelow (costBy xor z still turned) (m + 1) (r .number) (r .cost) ⌝ }
+{
+    let cost = cost_by(xor, z, still, turned, m);
+    if cost < least.cost {
+        return LeastMove { number: m, cost };
+    }
+    least
+}
+
+// The kind and the moves are written out, so that the compiler reads the table of rows and the code has no jumps.
+pub fn least_of_majority(z: [u32; 6], still: u32, turned: u32) -> LeastMove
+    requires { ⌜ Weighed z still turned ⌝ }
+    ensures { λ r. ⌜ LeastBelow (costBy false z still turned) 2 (r .number) (r .cost) ⌝ }
+{
+    let least = no_move(false, z, still, turned);
+    if_less(false, z, still, turned, least, 1)
+}
+
+pub fn least_of_xor(z: [u32; 6], still: u32, turned: u32) -> LeastMove
+    requires { ⌜ Weighed z still turned ⌝ }
+    ensures { λ r. ⌜ LeastBelow (costBy true z still turned) 4 (r .number) (r .cost) ⌝ }
+{
+    let least = no_move(true, z, still, turned);
+    let least = if_less(true, z, still, turned, least, 1);
+    let least = if_less(true, z, still, turned, least, 2);
+    if_less(true, z, still, turned, least, 3)
+}
+
+// The first of the least moves of either kind.
+pub fn least_of(xor: bool, z: [u32; 6], still: u32, turned: u32) -> LeastMove
+    requires { ⌜ Weighed z still turned ⌝ }
+    ensures { λ r. ⌜ LeastBelow (costBy xor z still turned) (arity xor) (r .number) (r .cost) ⌝ }
+{
+    if xor {
+        return least_of_xor(z, still, turned);
+    }
+    least_of_majority(z, still, turned)
+}
+
+// The first of a node's least moves.
+pub fn least_move(xor: bool, z: [u32; 6], readers: u32, odd: u32) -> LeastMove
+    requires { ⌜ Numbers z readers odd ⌝ }
+    ensures { λ r. ⌜ LeastBelow (costWith xor z readers odd) (arity xor) (r .number) (r .cost) ⌝ }
+{
+    least_of(xor, z, odd, readers - odd)
+}
+
+// Its number alone.
 pub fn first_least(xor: bool, z: [u32; 6], readers: u32, odd: u32) -> u32
     requires { ⌜ Numbers z readers odd ⌝ }
     ensures { λ r. ⌜ FirstBelow (costWith xor z readers odd) (arity xor) r ⌝ }
 {
-    let end = rows::move_count(xor);
-    let mut best: u32 = 0;
-    let mut least = move_cost(xor, z, readers, odd, 0);
-    let mut m: u32 = 1;
-    while m < end {
-        let cost = move_cost(xor, z, readers, odd, m);
-        if cost < least {
-            best = m;
-            least = cost;
-        }
-        m += 1;
-    }
-    best
+    let least = least_move(xor, z, readers, odd);
+    least.number
 }
 
 // The numbers of a node: its kind, what its words add as they stand and turned, its readers, and how many are complemented.
@@ -64,36 +134,37 @@ pub struct PairMoves {
     pub node: u32,
 }
 
-// w where f is not 0.
-pub fn where_turned(f: u32, w: u32) -> usize
-    requires { ⌜ w ≤ 1 ⌝ }
-    ensures { λ r. ⌜ (r ≡ ifEqual f 0 0 w) × (r ≤ 1) ⌝ }
-{
-    if f == 0 {
-        return 0;
-    }
-    w as usize
-}
-
 // The words' costs once the readers among them have been turned f times.
 pub fn given_costs(z: [u32; 6], which: [u32; 3], f: u32) -> [u32; 6]
     requires { ⌜ ((i : ℕ) → getD which i 0 ≤ 1) ⌝ }
     ensures { λ r. ⌜ r ≡ given z which f ⌝ }
 {
-    let a = where_turned(f, which[0]);
-    let b = where_turned(f, which[1]);
-    let c = where_turned(f, which[2]);
-    [z[a], z[1 - a], z[2 + b], z[3 - b], z[4 + c], z[5 - c]]
+    let a = either(f, 0, which[0]);
+    let b = either(f, 0, which[1]);
+    let c = either(f, 0, which[2]);
+    [
+        either(a, z[0], z[1]),
+        either(a, z[1], z[0]),
+        either(b, z[2], z[3]),
+        either(b, z[3], z[2]),
+        either(c, z[4], z[5]),
+        either(c, z[5], z[4]),
+    ]
 }
 
-// The first least move of a node, once move a has been made at the node that some of its words name.
-pub fn least_given(named: NodeNumbers, node: NodeNumbers, which: [u32; 3], a: u32) -> u32
-    requires { ⌜ Counted node × ((i : ℕ) → getD which i 0 ≤ 1) × (a < arity (named .xor)) ⌝ }
-    ensures { λ r. ⌜ FirstBelow (costGiven named node which a) (arity (node .xor)) r ⌝ }
+// The node's first least move once the readers of the node that some of its words name have been turned f times, and what
+// it leaves, with what its words add turned once more.
+pub fn answer_given(node: NodeNumbers, which: [u32; 3], f: u32) -> LeastMove
+    requires { ⌜ Counted node × ((i : ℕ) → getD which i 0 ≤ 1) ⌝ }
+    ensures { λ r. ⌜ Answered node which f (r .number) (r .cost) ⌝ }
 {
-    let f = rows::flag_of(named.xor, a, 3);
-    let z = node.costs;
-    first_least(node.xor, given_costs(z, which, f), node.readers, node.odd)
+    let y = node.costs;
+    let z = given_costs(y, which, f);
+    let least = least_move(node.xor, z, node.readers, node.odd);
+    LeastMove {
+        number: least.number,
+        cost: least.cost + (z[1] + z[3] + z[5]),
+    }
 }
 
 // What move a at the named node and move k at the node leave.
@@ -110,25 +181,20 @@ pub fn pair_cost(named: NodeNumbers, node: NodeNumbers, which: [u32; 3], a: u32,
     first + second + (z[1] + z[3] + z[5])
 }
 
-// The first of the least pairs of moves, by the named node's and then by the node's.
+// The first of the least pairs of moves, by the named node's and then by the node's: the node's answer depends only on whether
+// the named node's readers are turned, so that it is worked out twice and weighed in with these readers.
 pub fn first_pair(named: NodeNumbers, node: NodeNumbers, which: [u32; 3]) -> PairMoves
     requires { ⌜ Counted named × Counted node × ((i : ℕ) → getD which i 0 ≤ 1) ⌝ }
     ensures { λ r. ⌜ FirstPair (pairCost named node which) (arity (named .xor)) (arity (node .xor)) (r .named) (r .node) ⌝ }
 {
-    let end = rows::move_count(named.xor);
-    let mut a: u32 = 0;
-    let mut k = least_given(named, node, which, 0);
-    let mut least = pair_cost(named, node, which, 0, k);
-    let mut m: u32 = 1;
-    while m < end {
-        let next = least_given(named, node, which, m);
-        let total = pair_cost(named, node, which, m, next);
-        if total < least {
-            a = m;
-            k = next;
-            least = total;
-        }
-        m += 1;
+    let still = answer_given(node, which, 0);
+    let turned = answer_given(node, which, 1);
+    let x = named.costs;
+    let others = named.readers - named.odd;
+    let first = least_of(named.xor, x, named.odd + still.cost, others + turned.cost);
+    let f = rows::flag_of(named.xor, first.number, 3);
+    PairMoves {
+        named: first.number,
+        node: either(f, still.number, turned.number),
     }
-    PairMoves { named: a, node: k }
 }

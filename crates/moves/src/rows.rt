@@ -42,16 +42,6 @@ pub fn first_row(xor: bool) -> usize
     0
 }
 
-// How many moves a kind has.
-pub fn move_count(xor: bool) -> u32
-    ensures { λ r. ⌜ r ≡ arity xor ⌝ }
-{
-    if xor {
-        return 4;
-    }
-    2
-}
-
 // Whether move m of a kind turns word k + 1, or every reader (k = 3).
 pub fn flag_of(xor: bool, m: u32, k: usize) -> u32
     requires { ⌜ (m < arity xor) × (k < 4) ⌝ }

@@ -55,19 +55,19 @@ pub fn tree_calls(
 {
     let end = nodes as usize;
     let mut c = count;
-    let mut v: usize = 0;
-    while v < end {
+    let mut left = end;
+    while 0 < left {
         c = tree_call_at(
             inputs,
             nodes,
             outputs,
             node_table,
             output_table,
-            v,
+            end - left,
             c,
             scratch,
         );
-        v += 1;
+        left -= 1;
     }
     c
 }

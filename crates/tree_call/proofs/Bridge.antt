@@ -19,7 +19,7 @@ use Rattle.moves.specs.Rows.{flag, arity}
 use Rattle.moves.specs.Apply.{Choice, own, apply, put, none}
 use Rattle.moves.specs.Tree.{isRoot, place, rootOf, tree, IsRoot}
 use Rattle.moves.specs.Call.{moved, bestAt}
-use Rattle.moves.specs.Cost.{inner, wordCost, ownCost, moveCost, nodeCost, rootCost, shown, shows, Costs, Decided, baseCost, bitCost}
+use Rattle.moves.specs.Cost.{inner, turnedCost, wordCosts, wordCost, ownCost, moveCost, nodeCost, rootCost, shown, shows, Costs, Decided, baseCost, bitCost}
 use Rattle.moves.specs.Decide.{costWith}
 use Rattle.moves.proofs.Changed.{flag-zero}
 use Rattle.moves.proofs.Flags.{flag-bit}
@@ -27,9 +27,10 @@ use Rattle.moves.proofs.Readers.{single, rootOf-root, rootOf-inner, rootOf-abov
 use Rattle.moves.proofs.TreeBest.{reader-node}
 use Rattle.moves.proofs.Written.{within, tree-call}
 use Rattle.moves.proofs.Local.{move-local, bit-local, own-local}
-use Rattle.tree_call.specs.Arrays.{field, innerAt, costAt, nodesIn, turnedCost, wordCosts, FirstMove, Filled, showsAt, ChosenAt, Chosen, Places, Rising, Flagged, FlagBits, KeptBut, TurnsTree}
-use Rattle.tree_call.proofs.Edges.{root-is}
-use Rattle.tree_call.proofs.Falling.{arity-low, flag-none, filled-kept}
+use Rattle.tree_call.specs.Arrays.{field, innerAt, costAt, nodesIn, FirstMove, Filled, showsAt, ChosenAt, Chosen, Places, Rising, Flagged, FlagBits, KeptBut, TurnsTree}
+use Rattle.moves.proofs.NodeCosts.{root-is}
+use Rattle.moves.proofs.Deciding.{arity-low}
+use Rattle.tree_call.proofs.Falling.{flag-none, filled-kept}
 use Rattle.tree_call.proofs.Turned.{FlagsOf, words-applied, outs-applied}
 use Rattle.tree_call.proofs.Noting.{sized-by}
 
@@ -60,11 +61,11 @@ module _ (g : Graph) (sc : List ℕ) (adm : Admitted g) (ps : Places g sc) where
   c = costAt (g .I) sc
 
   moves-plain : (t : ℕ → Bool) (v s : ℕ) → moveCost (nodesIn (g .nodes)) t c v s ≡ moveCost g t c v s
-  unfolding moveCost ownCost wordCost isXor isEdge
+  unfolding moveCost ownCost wordCost turnedCost isXor isEdge
   moves-plain t v s = refl
 
   bits-plain : (t : ℕ → Bool) (v s : ℕ) → bitCost (nodesIn (g .nodes)) t c v s ≡ bitCost g t c v s
-  unfolding bitCost baseCost nodeCost moveCost ownCost wordCost isXor isEdge
+  unfolding bitCost baseCost nodeCost moveCost ownCost wordCost turnedCost isXor isEdge
   bits-plain t v s = refl
 
   lower : (v : ℕ) → v < g .N → (i : ℕ) → i < 3 → isEdge g (3 * v + i) ≡ true → word g (3 * v + i) / 2 < node g v

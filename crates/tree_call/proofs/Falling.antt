@@ -13,6 +13,7 @@ use Rattle.moves.specs.Rows.{flag, arity}
 use Rattle.graph.proofs.Cases.{lt-or-le, eq-or-ne}
 use Rattle.choice.specs.Choice.{FirstBelow}
 use Rattle.moves.specs.Cost.{moveCost}
+use Rattle.moves.proofs.Deciding.{arity-low}
 use Rattle.moves.proofs.Flags.{flag-past}
 use Rattle.moves.proofs.Local.{move-local, bit-local}
 use Rattle.tree_call.specs.Arrays.{field, innerAt, costAt, nodesIn, Sized, Filled, showsAt, ChosenAt, Chosen, Rising, Deciding, MovesFrom, Flagged, KeptBut}
@@ -162,11 +163,6 @@ shows-found ws sc p f b x q e y =
 pub shows-low : (ws sc : List ℕ) (p b : ℕ) → b ≡ showsAt ws sc p → b < 2
 unfolding showsAt
 shows-low ws sc p b e = omega arith
-
-pub arity-low : (x : Bool) → arity x ≤ 4
-unfolding arity
-arity-low true = omega arith
-arity-low false = omega arith
 
 -- flags of moves
 pub flag-none : (x : Bool) (m f : ℕ) → m ≡ mark → 0 ≡ flag x m f

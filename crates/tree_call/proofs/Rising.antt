@@ -14,7 +14,7 @@ use Rattle.moves.proofs.Readers.{both-true}
 use Rattle.moves.proofs.Local.{bit-local}
 use Rattle.tree_call.specs.Arrays.{field, innerAt, costAt, nodesIn, Sized, Filled, KeptBut}
 use Rattle.tree_call.proofs.Fields.{field-new, field-old}
-use Rattle.tree_call.proofs.Edges.{nodes-near}
+use Rattle.moves.proofs.NodeCosts.{nodes-near}
 
 inner-high : (i : ℕ) (sc : List ℕ) (u : ℕ) → innerAt i sc u ≡ true → i < u
 unfolding innerAt

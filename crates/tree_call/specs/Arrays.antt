@@ -15,7 +15,7 @@ use Rattle.choice.specs.Choice.{FirstBelow}
 use Rattle.moves.specs.Rows.{arity, flag}
 use Rattle.moves.specs.Tree.{isRoot, last, place, tree}
 use Rattle.moves.specs.Call.{moved, bestAt}
-use Rattle.moves.specs.Cost.{edgeCost, moveCost, bitCost}
+use Rattle.moves.specs.Cost.{wordCosts, moveCost, bitCost}
 use Rattle.moves.specs.Decide.{costWith}
 
 -- field f of node v
@@ -93,15 +93,6 @@ innerAt i sc u = ltb i u && not (eqb (field sc (u - (i + 1)) 0) mark)
 
 unfoldable pub costAt : ℕ → List ℕ → ℕ → ℕ → ℕ
 costAt i sc u s = field sc (u - (i + 1)) (1 + s) % 2
-
--- what word k of node v costs, turned f times by v's own move
-unfoldable pub turnedCost : Graph → (ℕ → Bool) → (ℕ → ℕ → ℕ) → ℕ → ℕ → ℕ → ℕ
-turnedCost g t c v k f = cond (isEdge g (3 * v + k)) (edgeCost t c (word g (3 * v + k) / 2) ((word g (3 * v + k) + f) % 2)) 0
-
--- what each word of node v costs, as it stands and turned
-unfoldable pub wordCosts : Graph → (ℕ → Bool) → (ℕ → ℕ → ℕ) → ℕ → List ℕ
-wordCosts g t c v =
-    turnedCost g t c v 0 0 ∷ turnedCost g t c v 0 1 ∷ turnedCost g t c v 1 0 ∷ turnedCost g t c v 1 1 ∷ turnedCost g t c v 2 0 ∷ turnedCost g t c v 2 1 ∷ []
 
 -- m is the first least move of node v, which has r readers, d of them complemented, by the costs in the scratch
 abbrev pub FirstMove : ℕ → List ℕ → List ℕ → ℕ → ℕ → ℕ → ℕ → Type 0

@@ -2,15 +2,15 @@
 ghost use mathlib.Core.Path.{_≡_};
 ghost use Prim.Native.Nat.{_+_, _-_, _*_, _%_, _≤_, _<_};
 ghost use lib.ListN.{length};
-ghost use Rattle.moves.specs.Cost.{edgeCost, nodeCost};
-ghost use Rattle.tree_call.specs.Arrays.{innerAt, costAt, nodesIn, Sized, turnedCost, wordCosts, FirstMove, Filled, KeptBut};
+ghost use Rattle.moves.specs.Cost.{edgeCost, turnedCost, wordCosts, nodeCost};
+ghost use Rattle.tree_call.specs.Arrays.{innerAt, costAt, nodesIn, Sized, FirstMove, Filled, KeptBut};
 use crate::words::bit_of;
 use crate::words::index_of;
 use crate::words::over;
 use graph::literal::MARK;
 use graph::literal::is_edge;
 use moves::decide::first_least;
-use moves::decide::move_cost;
+use moves::decide::least_move;
 use moves::rows::is_xor;
 
 // What an edge costs that names index u, its bit being b after its own node's move.
@@ -103,8 +103,8 @@ pub fn node_cost(
     ensures { λ r. ⌜ r ≡ nodeCost (nodesIn (now («node_table» .entry))) (innerAt inputs (now (scratch .entry))) (costAt inputs (now (scratch .entry))) v s ⌝ }
 {
     let xor = is_xor(node_table, v);
-    let m = first_least(xor, z, 1, s);
-    move_cost(xor, z, 1, s, m)
+    let least = least_move(xor, z, 1, s);
+    least.cost
 }
 
 // Node v's costs, each as far as it is above the other.

@@ -3,7 +3,7 @@ use mathlib.Core.Path.{refl}
 use Prim.Native.Nat.{_+_, _*_}
 use Rattle.graph.specs.Graph.{Graph, graphOf}
 use Rattle.incremental.specs.State.{stands}
-use Rattle.incremental_trees.specs.Costing.{treeNumbers}
+use Rattle.moves.specs.Cost.{wordCosts}
 use Rattle.incremental_trees.proofs.EdgeCosts.{number-fits, number-is}
 use native.Mathlib.Omega.{arith}
 use Rattle.incremental_trees.proofs.costs.tree_numbers.Statement.{statement}
@@ -70,7 +70,7 @@ word-number-requires-6 c κs =
     (o .admitted .few-inputs, o .admitted .few-nodes, o .long, omega arith, number-fits _ _ o (3 * c .before .before .before .before .before .before .before .before .before .before .before .args .v + 2) _ (omega (arith, c .before .before .before .before .before .before .before .before .before .before .before .pre .1)) (c .before .before .before .before .before .word-now3 .ensures))
 
 returns : tie.Need-returns
-unfolding treeNumbers
+unfolding wordCosts
 returns c =
     let a = c .before .before .before .before .before .before .before .before .before .before .before .before .args in
     let h : Graph = stands (graphOf (a .inputs) (a .nodes) (a .outputs) (a .node-table .now) (a .output-table .now)) (a .scratch .now) in

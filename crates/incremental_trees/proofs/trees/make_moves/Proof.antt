@@ -12,13 +12,14 @@ use Rattle.moves.specs.Rows.{arity}
 use Rattle.moves.specs.Apply.{apply, at, none}
 use Rattle.moves.specs.Tree.{isRoot, rootOf, tree}
 use Rattle.moves.specs.Call.{moved, bestAt}
+use Rattle.moves.specs.Cost.{wordCosts}
 use Rattle.moves.specs.Decide.{costWith}
 use Rattle.moves.proofs.Readers.{rootOf-root}
 use Rattle.incremental.specs.State.{field, stands, Ordered}
 use Rattle.incremental.specs.Step.{Made}
 use Rattle.incremental.proofs.Alike.{alike-isRoot}
 use Rattle.incremental.proofs.Stands.{stands-alike}
-use Rattle.incremental_trees.specs.Costing.{innerAt, costAt, treeNumbers, CostedBelow}
+use Rattle.incremental_trees.specs.Costing.{innerAt, costAt, CostedBelow}
 use Rattle.incremental_trees.proofs.Ready.{Ready, ordered-ready}
 use Rattle.incremental_trees.proofs.MovePass.{DecidedFrom, boundOf, bound-mark, bound-node, decided-begin, decided-all, decided-next, decided-step, same-I}
 use native.Mathlib.Omega.{arith}
@@ -61,7 +62,7 @@ module _ (g₀ : Graph) (sc₁ : List ℕ) (o : Ordered g₀ sc₁) (r : ℕ) (h
       }
 
   again : CostedBelow k sc₁ (node g₀ r) r → (g g′ : Graph) (sc sc′ : List ℕ) (v now w m c x : ℕ) → Inv g₀ sc₁ r g sc v now → v ≢ mark → w ≡ v
-      → FirstBelow (costWith (isXor g w) (treeNumbers (stands g sc) (innerAt (g .I) sc) (costAt (g .I) sc) w) (field sc w 0) (field sc w 1)) (arity (isXor g w)) m
+      → FirstBelow (costWith (isXor g w) (wordCosts (stands g sc) (innerAt (g .I) sc) (costAt (g .I) sc) w) (field sc w 0) (field sc w 1)) (arity (isXor g w)) m
       → Made sc g′ sc′ (apply (stands g sc) (at none (g .I + 1 + w) m)) c → length (g′ .nodes) ≡ length (g .nodes) → x ≡ field sc′ w 5
       → Inv g₀ sc₁ r g′ sc′ x c × (boundOf x < boundOf v)
   unfolding stands

@@ -1,4 +1,4 @@
--- `tree_calls` makes the tree call at each root: its loop has made those at the nodes below v.
+-- `tree_calls` makes the tree call at each root: its loop has made those at all nodes but those that are left.
 use mathlib.Core.Path.{_≡_, refl, sym, ap, _∙_}
 use Prim.Native.Nat.{ℕ, _+_, _-_, _≤_, _<_}
 use native.Mathlib.Omega.{arith}
@@ -11,21 +11,27 @@ use Rattle.settling.proofs.phases.tree_calls.Statement.{statement}
 use Rattle.settling.proofs.phases.tree_calls.Tie as tie
 
 abbrev Inv-loop : tie.InvT-loop
-Inv-loop inputs nodes outputs node-table₀ output-table count scratch₀ end c₀ v₀ node-table scratch c v =
-    (v ≤ nodes) × (end ≡ nodes) × (length node-table ≡ length node-table₀)
-    × Phase (each (treeAt (length scratch₀)) v) (graphOf inputs nodes outputs node-table₀ output-table) scratch₀ (graphOf inputs nodes outputs node-table output-table) scratch c
+Inv-loop inputs nodes outputs node-table₀ output-table count scratch₀ end c₀ left₀ node-table scratch c left =
+    (left ≤ nodes) × (end ≡ nodes) × (length node-table ≡ length node-table₀)
+    × Phase (each (treeAt (length scratch₀)) (nodes - left)) (graphOf inputs nodes outputs node-table₀ output-table) scratch₀ (graphOf inputs nodes outputs node-table output-table) scratch c
 
 abbrev μ-loop : tie.MeasureT-loop
-μ-loop inputs nodes outputs node-table₀ output-table count scratch₀ end c₀ v₀ node-table scratch c v = end - v
+μ-loop inputs nodes outputs node-table₀ output-table count scratch₀ end c₀ left₀ node-table scratch c left = left
 
 loop-holds : tie.Need-loop-holds Inv-loop μ-loop
-loop-holds c = let s = c .before .before .before in (omega arith, refl, refl, each-none (treeAt _) _ _ _ (s .pre .0) (s .pre .1))
+loop-holds c =
+    let s = c .before .before .before in
+    let e : s .args .nodes - s .args .nodes ≡ 0 = omega arith in
+    (omega arith, refl, refl, rw e (each-none (treeAt _) _ _ _ (s .pre .0) (s .pre .1)))
+
+sub-tree-call-at : tie.Need-sub-tree-call-at Inv-loop μ-loop
+sub-tree-call-at c = omega arith
 
 tree-call-at-requires : tie.Need-tree-call-at-requires Inv-loop μ-loop
 tree-call-at-requires c κs = let l = c .before .before .before in (l .loop .inv .3 .ordered, omega arith, l .loop .inv .3 .count)
 
-add-v : tie.Need-add-v Inv-loop μ-loop
-add-v c = omega arith
+sub-left : tie.Need-sub-left Inv-loop μ-loop
+sub-left c = omega arith
 
 loop-less : tie.Need-loop-less Inv-loop μ-loop
 loop-less c = omega arith
@@ -34,7 +40,10 @@ loop-again : tie.Need-loop-again Inv-loop μ-loop
 loop-again c =
     let t = c .before .before .before .before in
     let l = t .before .before .before .before in
-    (omega arith, refl, t .tree-call-at .kept .1 .1 .1 .0 ∙ l .loop .inv .2, each-more (treeAt (length (l .before .before .before .before .args .scratch .now))) _ _ (l .loop .v) _ _ _ _ _ _ (l .loop .inv .3) (rw (l .loop .inv .3 .long) at (t .tree-call-at .ensures)))
+    let a = l .before .before .before .before .args in
+    let n : ℕ = a .nodes - l .loop .left in
+    let e : a .nodes - (l .loop .left - 1) ≡ n + 1 = omega arith in
+    (omega arith, refl, t .tree-call-at .kept .1 .1 .1 .0 ∙ l .loop .inv .2, rw e (each-more (treeAt (length (a .scratch .now))) _ _ n _ _ _ _ _ _ (l .loop .inv .3) (rw (l .loop .inv .3 .long) at (t .tree-call-at .ensures))))
 
 same-length : tie.Need-same-length Inv-loop μ-loop
 same-length c = c .before .loop .inv .2
@@ -45,7 +54,8 @@ same-length-2 c = c .before .loop .inv .3 .long
 returns : tie.Need-returns Inv-loop μ-loop
 returns c =
     let l = c .before in
-    let e : l .loop .v ≡ l .before .before .before .before .args .nodes = omega arith in
+    let n : ℕ = l .before .before .before .before .args .nodes in
+    let e : n - l .loop .left ≡ n = omega arith in
     rw e at (l .loop .inv .3)
 
 pub tree-calls-spec : {M : Type 1} → statement M
@@ -55,8 +65,9 @@ tree-calls-spec =
     Inv-loop
     μ-loop
     loop-holds
+    sub-tree-call-at
     tree-call-at-requires
-    add-v
+    sub-left
     loop-less
     loop-again
     same-length

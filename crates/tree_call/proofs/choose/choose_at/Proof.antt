@@ -5,7 +5,7 @@ use Rattle.moves.specs.Rows.{arity}
 use mathlib.Core.Path.{refl}
 use native.Mathlib.Omega.{arith}
 use Rattle.tree_call.specs.Arrays.{field, nodesIn, innerAt, costAt}
-use Rattle.tree_call.proofs.Edges.{move-is}
+use Rattle.moves.proofs.NodeCosts.{move-is}
 use Rattle.tree_call.proofs.Falling.{chosen-outside, chosen-found, shows-low}
 use borrow.Author.Needs.{needs}
 use Rattle.tree_call.proofs.choose.choose_at.Statement.{statement}

@@ -1,5 +1,5 @@
 -- Three words, each as it stands and turned.
-use Rattle.tree_call.proofs.Edges.{six-costs}
+use Rattle.moves.proofs.NodeCosts.{six-costs}
 use borrow.Author.Needs.{needs}
 use Rattle.tree_call.proofs.costs.word_costs.Statement.{statement}
 use Rattle.tree_call.proofs.costs.word_costs.Tie as tie
