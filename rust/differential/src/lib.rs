@@ -4,6 +4,7 @@
 //! a fast second opinion on graphs that are too large for the crate `reference`, to which it is itself held on small ones.
 
 pub mod cases;
+pub mod extremes;
 pub mod files;
 pub mod lengths;
 pub mod lists;

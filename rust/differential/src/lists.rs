@@ -43,7 +43,7 @@ pub fn random_case(seed: u64, most_nodes: u32, most_calls: u32) -> Case {
     Case { graph, steps, seed }
 }
 
-fn differ<T: PartialEq + std::fmt::Debug>(what: &str, got: &T, due: &T) -> Result<(), String> {
+pub fn differ<T: PartialEq + std::fmt::Debug>(what: &str, got: &T, due: &T) -> Result<(), String> {
     if got == due {
         Ok(())
     } else {
@@ -105,7 +105,8 @@ fn check_round_trip(g: &Graph) -> Result<(), String> {
     differ("the tables loaded", &(node_table, output_table), &(g.node_table.clone(), g.output_table.clone()))
 }
 
-fn tables(g: &mut Graph) -> Tables<'_> {
+/// The graph as the plain implementation is lent it.
+pub fn tables(g: &mut Graph) -> Tables<'_> {
     Tables {
         inputs: g.inputs,
         nodes: g.nodes,

@@ -1,12 +1,13 @@
 //! Times each call of the proved reducer beside the plain implementation's, in the same run, and prints a table.
 //!
-//! Each time is the least of several runs, the two taken in turn, on the processor: what else the machine does counts little.
-//! Both are lent the same tables.
+//! Every figure is over 100,000 nodes: a batch of different graphs of one size and shape. A small graph timed again and
+//! again would be learnt by heart by the processor's branch predictor, as the graph of a single call never is. A figure
+//! is the least of several runs of its whole batch, on the processor; the two implementations and the three sizes take
+//! turns: what else the machine does counts little. Both are lent the same tables, restored before the clock is read.
 
 use std::time::{Duration, Instant};
 
-use differential::plain::{self, calls::Tables, View};
-use reducer::{lent, Size};
+use reducer::{file_bytes, scratch_words, Size};
 use reference::generate::{graph, Shape};
 use reference::graph::Graph;
 use reference::random::Random;
@@ -14,8 +15,13 @@ use reference::random::Random;
 const SIZES: [u32; 3] = [1_000, 10_000, 100_000];
 const SHAPES: [(&str, Shape); 3] = [("random", Shape::Random), ("tree-like", Shape::Tree), ("with XOR", Shape::Xor)];
 
-/// How long the runs of one figure may take together.
-const ENOUGH: Duration = Duration::from_millis(300);
+/// How many nodes the graphs of a batch have together.
+const BATCH_NODES: u32 = 100_000;
+/// At how many nodes of each graph the node, pair and tree calls are made.
+const SPREAD: usize = 8;
+/// How many runs a figure has at least, and how long the runs of a call on a shape may then take together.
+const LEAST_RUNS: u32 = 10;
+const ENOUGH: Duration = Duration::from_millis(1_500);
 
 /// Seconds and nanoseconds.
 type Time = [i64; 2];
@@ -26,6 +32,10 @@ extern "C" {
 }
 
 /// How long this thread has had the processor, in nanoseconds.
+///
+/// By the clock on the wall, other work would count against the slower of two, whose runs it is more likely to meet.
+/// This clock is some microseconds slow at times, where a virtual machine's kernel takes off what it believes to have
+/// been without a processor: it can lose all of a short call, but next to nothing of a batch.
 fn on_processor() -> f64 {
     const OF_THREAD: i32 = 3;
     let mut time = [0; 2];
@@ -34,67 +44,16 @@ fn on_processor() -> f64 {
     time[0] as f64 * 1e9 + time[1] as f64
 }
 
-/// Works on tables of its own, restored from the graph before each run that it is timed in.
-struct Work {
+/// A graph, its file, and the nodes and roots that calls are made at.
+#[derive(Clone)]
+struct Sample {
     g: Graph,
     file: Vec<u8>,
-    buffer: Vec<u8>,
-    words: Vec<u64>,
-    scratch: Vec<u32>,
-    long_scratch: Vec<u64>,
-    results: Vec<u64>,
+    nodes: Vec<u32>,
+    roots: Vec<u32>,
 }
 
-impl Work {
-    fn new(g: &Graph) -> Work {
-        let file = reference::file::file_of(g);
-        let words = (0..g.inputs as u64).map(|k| (k + 1).wrapping_mul(0x9e37_79b9_7f4a_7c15)).collect();
-        Work {
-            g: g.clone(),
-            buffer: vec![0; file.len()],
-            file,
-            words,
-            scratch: vec![0; 8 * g.nodes as usize],
-            long_scratch: vec![0; g.nodes as usize],
-            results: vec![0; g.outputs as usize],
-        }
-    }
-
-    fn size(&self) -> Size {
-        Size { inputs: self.g.inputs, nodes: self.g.nodes, outputs: self.g.outputs }
-    }
-
-    fn view(&self) -> View<'_> {
-        View {
-            inputs: self.g.inputs,
-            nodes: self.g.nodes,
-            outputs: self.g.outputs,
-            node_table: &self.g.node_table,
-            output_table: &self.g.output_table,
-        }
-    }
-
-    fn tables(&mut self) -> Tables<'_> {
-        Tables {
-            inputs: self.g.inputs,
-            nodes: self.g.nodes,
-            outputs: self.g.outputs,
-            node_table: &mut self.g.node_table,
-            output_table: &mut self.g.output_table,
-        }
-    }
-}
-
-/// One call, as the proved library and as plain Rust make it. Each returns what it answers, for comparison.
-struct Call {
-    name: &'static str,
-    /// How many calls a run makes.
-    times: u32,
-    proved: Box<dyn Fn(&mut Work) -> u64>,
-    plain: Box<dyn Fn(&mut Work) -> u64>,
-}
-
-/// Nodes spread over the graph, and roots among them.
+/// Nodes spread over the graph, or roots among them.
 fn spread(g: &Graph, roots: bool) -> Vec<u32> {
     let mut readers = vec![0u32; (g.inputs + g.nodes + 1) as usize];
     for &word in g.node_table.iter().filter(|&&word| word != reducer::MARK) {
@@ -104,168 +63,355 @@ fn spread(g: &Graph, roots: bool) -> Vec<u32> {
         readers[word as usize / 2] += 2;
     }
     let all: Vec<u32> = g.node_indices().filter(|&node| !roots || readers[node as usize] != 1).collect();
-    (0..8).map(|k| all[(all.len() - 1) * k / 7]).collect()
+    (0..SPREAD).map(|k| all[(all.len() - 1) * k / (SPREAD - 1)]).collect()
 }
 
-fn calls(g: &Graph) -> Vec<Call> {
-    let nodes = spread(g, false);
-    let roots = spread(g, true);
-    let (n1, n2, p1, p2, r1, r2) = (nodes.clone(), nodes.clone(), nodes.clone(), nodes, roots.clone(), roots);
-    vec![
-        Call {
-            name: "load",
-            times: 1,
-            proved: Box::new(|w| lent::load(&w.file, &mut w.g.node_table, &mut w.g.output_table).unwrap().nodes as u64),
-            plain: Box::new(|w| {
-                plain::file::load(&w.file, &mut w.g.node_table, &mut w.g.output_table).unwrap().1 as u64
-            }),
-        },
-        Call {
-            name: "write",
-            times: 1,
-            proved: Box::new(|w| {
-                lent::write(w.size(), &w.g.node_table, &w.g.output_table, &mut w.buffer).unwrap() as u64
-            }),
-            plain: Box::new(|w| {
-                let mut buffer = std::mem::take(&mut w.buffer);
-                let length = plain::file::write(&w.view(), &mut buffer).unwrap() as u64;
-                w.buffer = buffer;
-                length
-            }),
-        },
-        Call {
-            name: "evaluate",
-            times: 1,
-            proved: Box::new(|w| {
-                let size = w.size();
-                lent::evaluate(size, &w.g.node_table, &w.g.output_table, &w.words, &mut w.long_scratch, &mut w.results)
-                    .unwrap();
-                w.results[0]
-            }),
-            plain: Box::new(|w| {
-                let mut scratch = std::mem::take(&mut w.long_scratch);
-                let mut results = std::mem::take(&mut w.results);
-                plain::evaluate::evaluate(&w.view(), &w.words, &mut scratch, &mut results).unwrap();
-                w.long_scratch = scratch;
-                w.results = results;
-                w.results[0]
-            }),
-        },
-        Call {
-            name: "node",
-            times: 8,
-            proved: Box::new(move |w| {
-                let size = w.size();
-                let call =
-                    |&v: &u32| lent::node_call(size, &mut w.g.node_table, &mut w.g.output_table, v).unwrap() as u64;
-                n1.iter().map(call).sum()
-            }),
-            plain: Box::new(move |w| {
-                let mut t = w.tables();
-                n2.iter().map(|&v| plain::calls::node_call(&mut t, v).unwrap() as u64).sum()
-            }),
-        },
-        Call {
-            name: "pair",
-            times: 8,
-            proved: Box::new(move |w| {
-                let size = w.size();
-                let call =
-                    |&v: &u32| lent::pair_call(size, &mut w.g.node_table, &mut w.g.output_table, v, 1).unwrap() as u64;
-                p1.iter().map(call).sum()
-            }),
-            plain: Box::new(move |w| {
-                let mut t = w.tables();
-                p2.iter().map(|&v| plain::calls::pair_call(&mut t, v, 1).unwrap() as u64).sum()
-            }),
-        },
-        Call {
-            name: "tree",
-            times: 8,
-            proved: Box::new(move |w| {
-                let size = w.size();
-                let call = |&v: &u32| {
-                    lent::tree_call(size, &mut w.g.node_table, &mut w.g.output_table, v, &mut w.scratch).unwrap() as u64
-                };
-                r1.iter().map(call).sum()
-            }),
-            plain: Box::new(move |w| {
-                let scratch = w.scratch.len();
-                let mut t = w.tables();
-                r2.iter().map(|&v| plain::calls::tree_call(&mut t, v, scratch).unwrap() as u64).sum()
-            }),
-        },
-        Call {
-            name: "settle",
-            times: 1,
-            proved: Box::new(|w| {
-                let size = w.size();
-                let settled = lent::settle(size, &mut w.g.node_table, &mut w.g.output_table, &mut w.scratch).unwrap();
-                settled.rounds as u64
-            }),
-            plain: Box::new(|w| {
-                let scratch = w.scratch.len();
-                plain::settle::settle(&mut w.tables(), scratch).unwrap().rounds as u64
-            }),
-        },
-    ]
+impl Sample {
+    fn new(seed: u64, shape: Shape, nodes: u32) -> Sample {
+        let g = graph(&mut Random::new(seed), shape, 256, nodes, 128);
+        Sample { file: reference::file::file_of(&g), nodes: spread(&g, false), roots: spread(&g, true), g }
+    }
+
+    fn size(&self) -> Size {
+        Size { inputs: self.g.inputs, nodes: self.g.nodes, outputs: self.g.outputs }
+    }
 }
 
-/// The least time of each in nanoseconds a call, and what they answer.
-fn time(g: &Graph, call: &Call) -> (f64, f64, u64) {
-    let mut proved = Work::new(g);
-    let mut plain = Work::new(g);
-    let mut least = [f64::INFINITY; 2];
-    let mut answer = 0;
+fn batch(shape: Shape, nodes: u32) -> Vec<Sample> {
+    (0..BATCH_NODES / nodes).map(|k| Sample::new((nodes + k).into(), shape, nodes)).collect()
+}
+
+/// What is lent beside the tables, to one graph of a batch after the other.
+struct Lent {
+    buffer: Vec<u8>,
+    words: Vec<u64>,
+    scratch: Vec<u32>,
+    long_scratch: Vec<u64>,
+    results: Vec<u64>,
+}
+
+impl Lent {
+    fn new(size: Size) -> Lent {
+        Lent {
+            buffer: vec![0; file_bytes(size)],
+            words: (0..size.inputs as u64).map(|k| (k + 1).wrapping_mul(0x9e37_79b9_7f4a_7c15)).collect(),
+            scratch: vec![0; scratch_words(size.nodes)],
+            long_scratch: vec![0; size.nodes as usize],
+            results: vec![0; size.outputs as usize],
+        }
+    }
+}
+
+/// The calls as the proved library makes them. Each returns what it answers, for comparison.
+mod proved {
+    use super::{Lent, Sample};
+    use reducer::lent;
+
+    pub fn load(s: &mut Sample, _: &mut Lent) -> u64 {
+        lent::load(&s.file, &mut s.g.node_table, &mut s.g.output_table).unwrap().nodes.into()
+    }
+
+    pub fn write(s: &mut Sample, l: &mut Lent) -> u64 {
+        lent::write(s.size(), &s.g.node_table, &s.g.output_table, &mut l.buffer).unwrap() as u64
+    }
+
+    pub fn evaluate(s: &mut Sample, l: &mut Lent) -> u64 {
+        let (nodes, outputs) = (&s.g.node_table, &s.g.output_table);
+        lent::evaluate(s.size(), nodes, outputs, &l.words, &mut l.long_scratch, &mut l.results).unwrap();
+        l.results[0]
+    }
+
+    pub fn node(s: &mut Sample, _: &mut Lent) -> u64 {
+        let size = s.size();
+        let call = |&v: &u32| lent::node_call(size, &mut s.g.node_table, &mut s.g.output_table, v).unwrap() as u64;
+        s.nodes.iter().map(call).sum()
+    }
+
+    pub fn pair(s: &mut Sample, _: &mut Lent) -> u64 {
+        let size = s.size();
+        let call = |&v: &u32| lent::pair_call(size, &mut s.g.node_table, &mut s.g.output_table, v, 1).unwrap() as u64;
+        s.nodes.iter().map(call).sum()
+    }
+
+    pub fn tree(s: &mut Sample, l: &mut Lent) -> u64 {
+        let size = s.size();
+        let call = |&v: &u32| {
+            lent::tree_call(size, &mut s.g.node_table, &mut s.g.output_table, v, &mut l.scratch).unwrap() as u64
+        };
+        s.roots.iter().map(call).sum()
+    }
+
+    pub fn settle(s: &mut Sample, l: &mut Lent) -> u64 {
+        lent::settle(s.size(), &mut s.g.node_table, &mut s.g.output_table, &mut l.scratch).unwrap().rounds.into()
+    }
+}
+
+/// The same calls in plain Rust.
+mod plain {
+    use super::{Lent, Sample};
+    use differential::lists::tables;
+    use differential::plain::{calls, evaluate, file, settle};
+
+    pub fn load(s: &mut Sample, _: &mut Lent) -> u64 {
+        file::load(&s.file, &mut s.g.node_table, &mut s.g.output_table).unwrap().1.into()
+    }
+
+    pub fn write(s: &mut Sample, l: &mut Lent) -> u64 {
+        file::write(&tables(&mut s.g).view(), &mut l.buffer).unwrap() as u64
+    }
+
+    pub fn evaluate(s: &mut Sample, l: &mut Lent) -> u64 {
+        evaluate::evaluate(&tables(&mut s.g).view(), &l.words, &mut l.long_scratch, &mut l.results).unwrap();
+        l.results[0]
+    }
+
+    pub fn node(s: &mut Sample, _: &mut Lent) -> u64 {
+        let mut t = tables(&mut s.g);
+        s.nodes.iter().map(|&v| calls::node_call(&mut t, v).unwrap() as u64).sum()
+    }
+
+    pub fn pair(s: &mut Sample, _: &mut Lent) -> u64 {
+        let mut t = tables(&mut s.g);
+        s.nodes.iter().map(|&v| calls::pair_call(&mut t, v, 1).unwrap() as u64).sum()
+    }
+
+    pub fn tree(s: &mut Sample, l: &mut Lent) -> u64 {
+        let mut t = tables(&mut s.g);
+        s.roots.iter().map(|&v| calls::tree_call(&mut t, v, l.scratch.len()).unwrap() as u64).sum()
+    }
+
+    pub fn settle(s: &mut Sample, l: &mut Lent) -> u64 {
+        settle::settle(&mut tables(&mut s.g), l.scratch.len()).unwrap().rounds.into()
+    }
+}
+
+type Made = fn(&mut Sample, &mut Lent) -> u64;
+
+/// A call by either implementation, and how often it is made on each graph.
+struct Call {
+    name: &'static str,
+    times: usize,
+    proved: Made,
+    plain: Made,
+}
+
+const SETTLE: &str = "settle";
+
+const CALLS: [Call; 7] = [
+    Call { name: "load", times: 1, proved: proved::load, plain: plain::load },
+    Call { name: "write", times: 1, proved: proved::write, plain: plain::write },
+    Call { name: "evaluate", times: 1, proved: proved::evaluate, plain: plain::evaluate },
+    Call { name: "node", times: SPREAD, proved: proved::node, plain: plain::node },
+    Call { name: "pair", times: SPREAD, proved: proved::pair, plain: plain::pair },
+    Call { name: "tree", times: SPREAD, proved: proved::tree, plain: plain::tree },
+    Call { name: SETTLE, times: 1, proved: proved::settle, plain: plain::settle },
+];
+
+/// One implementation at work on a batch of its own.
+struct Side {
+    made: Made,
+    samples: Vec<Sample>,
+    lent: Lent,
+    answers: Vec<u64>,
+    /// The least time of a run, in nanoseconds.
+    least: f64,
+}
+
+impl Side {
+    fn new(made: Made, batch: &[Sample]) -> Side {
+        let lent = Lent::new(batch[0].size());
+        Side { made, samples: batch.to_vec(), lent, answers: vec![0; batch.len()], least: f64::INFINITY }
+    }
+
+    /// All tables restored, then the call on each graph, timed as one.
+    fn run(&mut self, batch: &[Sample]) {
+        for (sample, fresh) in self.samples.iter_mut().zip(batch) {
+            sample.g.node_table.copy_from_slice(&fresh.g.node_table);
+            sample.g.output_table.copy_from_slice(&fresh.g.output_table);
+        }
+        let start = on_processor();
+        for (sample, answer) in self.samples.iter_mut().zip(&mut self.answers) {
+            *answer = (self.made)(sample, &mut self.lent);
+        }
+        let time = on_processor() - start;
+        assert!(time > 0.0, "the clock stood still over a batch");
+        self.least = self.least.min(time);
+    }
+
+    fn same(&self, other: &Side) -> bool {
+        let graphs = self.samples.iter().zip(&other.samples).all(|(ours, theirs)| ours.g == theirs.g);
+        let lent = self.lent.buffer == other.lent.buffer && self.lent.results == other.lent.results;
+        graphs && lent && self.answers == other.answers
+    }
+}
+
+/// A batch, and both implementations at work on it.
+struct Race {
+    batch: Vec<Sample>,
+    proved: Side,
+    plain: Side,
+}
+
+/// The least times of a batch, in nanoseconds, and the answers' sum.
+struct Figure {
+    nodes: u32,
+    proved: f64,
+    plain: f64,
+    answers: u64,
+}
+
+impl Race {
+    fn new(call: &Call, batch: Vec<Sample>) -> Race {
+        Race { proved: Side::new(call.proved, &batch), plain: Side::new(call.plain, &batch), batch }
+    }
+
+    fn run(&mut self, call: &Call) {
+        self.proved.run(&self.batch);
+        self.plain.run(&self.batch);
+        assert!(self.proved.same(&self.plain), "the two differ at {}", call.name);
+    }
+
+    fn figure(&self) -> Figure {
+        Figure {
+            nodes: self.batch[0].g.nodes,
+            proved: self.proved.least,
+            plain: self.plain.least,
+            answers: self.proved.answers.iter().sum(),
+        }
+    }
+}
+
+/// A figure for each size. The sizes take turns, so that what slows the machine for a while slows all of them.
+fn time(call: &Call, shape: Shape) -> [Figure; SIZES.len()] {
+    let mut races = SIZES.map(|nodes| Race::new(call, batch(shape, nodes)));
     let start = Instant::now();
     let mut runs = 0;
-    while runs < 3 || start.elapsed() < ENOUGH {
-        let mut answers = [0; 2];
-        for (k, (work, made)) in [(&mut proved, &call.proved), (&mut plain, &call.plain)].into_iter().enumerate() {
-            work.g.clone_from(g);
-            let start = on_processor();
-            answers[k] = made(work);
-            least[k] = least[k].min((on_processor() - start) / call.times as f64);
-        }
-        assert!(answers[0] == answers[1] && proved.g == plain.g, "the two differ at {}", call.name);
-        answer = answers[0];
+    while runs < LEAST_RUNS || start.elapsed() < ENOUGH {
+        races.iter_mut().for_each(|race| race.run(call));
         runs += 1;
     }
-    (least[0], least[1], answer)
+    races.map(|race| race.figure())
 }
 
-fn main() {
-    println!("| call | graph | nodes | proved, µs | plain, µs | proved, ns a node | plain, ns a node | rounds | proved, ns a node and round | ratio |");
-    println!("|---|---|---|---|---|---|---|---|---|---|");
-    let names: Vec<&str> = calls(&sample(1_000, Shape::Random)).iter().map(|call| call.name).collect();
-    let wanted: Vec<String> = std::env::args().skip(1).collect();
-    for (at, name) in names.iter().enumerate() {
-        if !wanted.is_empty() && !wanted.iter().any(|word| word == name) {
-            continue;
+impl Figure {
+    fn graphs(&self) -> f64 {
+        f64::from(BATCH_NODES / self.nodes)
+    }
+
+    /// Of settling, which answers its rounds.
+    fn a_node_and_round(&self, time: f64) -> f64 {
+        time / (f64::from(self.nodes) * self.answers as f64)
+    }
+
+    fn print(&self, call: &Call, shape: &str) {
+        let calls = self.graphs() * call.times as f64;
+        let a_node = |time: f64| time / calls / f64::from(self.nodes);
+        let (rounds, a_round) = if call.name == SETTLE {
+            let rounds = self.answers as f64 / self.graphs();
+            (format!("{rounds:.1}"), format!("{:.1}", self.a_node_and_round(self.proved)))
+        } else {
+            (String::new(), String::new())
+        };
+        println!(
+            "| {} | {shape} | {} | {:.1} | {:.1} | {:.2} | {:.2} | {rounds} | {a_round} | {:.2} |",
+            call.name,
+            self.nodes,
+            self.proved / calls / 1e3,
+            self.plain / calls / 1e3,
+            a_node(self.proved),
+            a_node(self.plain),
+            self.proved / self.plain,
+        );
+    }
+}
+
+/// How a shape's time for settling, a node and round, grows from the smallest size to the largest.
+fn growth(shape: &str, figures: &[Figure]) -> String {
+    let (small, large) = (&figures[0], &figures[figures.len() - 1]);
+    let proved = large.a_node_and_round(large.proved) / small.a_node_and_round(small.proved);
+    let plain = large.a_node_and_round(large.plain) / small.a_node_and_round(small.plain);
+    format!("{shape}: proved {proved:.2}, plain {plain:.2}")
+}
+
+/// Settling as it would be without a state between calls: each call scans the tables. Roots never change.
+mod by_calls {
+    use super::{Lent, Sample};
+    use reducer::{lent, Refusal, MARK};
+
+    fn round(s: &mut Sample, l: &mut Lent) -> u32 {
+        let size = s.size();
+        let (node_table, output_table) = (&mut s.g.node_table, &mut s.g.output_table);
+        let nodes = size.inputs + 1..=size.inputs + size.nodes;
+        let mut saved = 0;
+        for v in nodes.clone() {
+            saved += match lent::tree_call(size, node_table, output_table, v, &mut l.scratch) {
+                Err(Refusal::NoSuchNode) => 0,
+                answer => answer.unwrap(),
+            };
         }
-        for (shape_name, shape) in SHAPES {
-            for nodes in SIZES {
-                let g = sample(nodes, shape);
-                let (proved, plain, answer) = time(&g, &calls(&g)[at]);
-                let each = |time: f64| time / nodes as f64;
-                let (rounds, a_round) = if *name == "settle" {
-                    (answer.to_string(), format!("{:.1}", each(proved) / answer as f64))
-                } else {
-                    (String::new(), String::new())
-                };
-                println!(
-                    "| {name} | {shape_name} | {nodes} | {:.1} | {:.1} | {:.2} | {:.2} | {rounds} | {a_round} | {:.2} |",
-                    proved / 1e3,
-                    plain / 1e3,
-                    each(proved),
-                    each(plain),
-                    proved / plain,
-                );
+        for v in nodes.clone() {
+            saved += lent::node_call(size, node_table, output_table, v).unwrap();
+        }
+        for v in nodes {
+            let third = 3 * (v - size.inputs) as usize - 1;
+            for word in 1..=if node_table[third] == MARK { 2 } else { 3 } {
+                saved += lent::pair_call(size, node_table, output_table, v, word).unwrap();
+            }
+        }
+        saved
+    }
+
+    pub fn settle(s: &mut Sample, l: &mut Lent) -> u64 {
+        let mut rounds = 1;
+        while round(s, l) > 0 {
+            rounds += 1;
+        }
+        rounds
+    }
+}
+
+/// Small sizes only: the time grows with the square of the nodes.
+const SMALL_SIZES: [u32; 3] = [500, 1_000, 2_000];
+
+/// Settling by calls that scan beside settling as one call, once each.
+fn before_and_after() {
+    println!("\n| random graph, nodes | settled by scanning calls, ms | by the settling call, ms | ratio |\n|---|---|---|---|");
+    for nodes in SMALL_SIZES {
+        let batch = [Sample::new(nodes.into(), Shape::Random, nodes)];
+        let [mut scanning, mut settling] = [by_calls::settle, proved::settle].map(|made| Side::new(made, &batch));
+        scanning.run(&batch);
+        (0..LEAST_RUNS).for_each(|_| settling.run(&batch));
+        assert!(scanning.same(&settling), "settling by single calls differs");
+        let (before, after) = (scanning.least / 1e6, settling.least / 1e6);
+        println!("| {nodes} | {before:.1} | {after:.2} | {:.0} |", before / after);
+    }
+}
+
+const BEFORE: &str = "before";
+
+const HEAD: &str = "| call | graph | nodes | proved, µs | plain, µs | proved, ns a node | plain, ns a node | \
+    rounds | proved, ns a node and round | ratio |";
+
+/// Times the calls named on the command line, or all; `before` is settling without a state between calls.
+fn main() {
+    println!("{HEAD}\n|---|---|---|---|---|---|---|---|---|---|");
+    let wanted: Vec<String> = std::env::args().skip(1).collect();
+    let mut grown = Vec::new();
+    let chosen = |name: &str| wanted.is_empty() || wanted.iter().any(|word| word == name);
+    for call in CALLS.iter().filter(|call| chosen(call.name)) {
+        for (name, shape) in SHAPES {
+            let figures = time(call, shape);
+            figures.iter().for_each(|figure| figure.print(call, name));
+            if call.name == SETTLE {
+                grown.push(growth(name, &figures));
             }
         }
     }
-}
-
-fn sample(nodes: u32, shape: Shape) -> Graph {
-    graph(&mut Random::new(nodes as u64), shape, 256, nodes, 128)
+    if !grown.is_empty() {
+        let (small, large) = (SIZES[0], SIZES[SIZES.len() - 1]);
+        println!("\nSettling, ns a node and round at {large} nodes over that at {small}: {}.", grown.join("; "));
+    }
+    if chosen(BEFORE) {
+        before_and_after();
+    }
 }

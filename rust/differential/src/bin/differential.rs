@@ -6,6 +6,7 @@ use std::sync::atomic::Ordering;
 use std::time::Instant;
 
 use differential::cases::{Case, Step};
+use differential::extremes::{self, EXTREMES};
 use differential::shrink::hold;
 use differential::{files, lengths, lists, raw};
 use reference::calls::Call;
@@ -15,13 +16,14 @@ use reference::random::Random;
 /// What one kind of test does with a seed: how many cases it tried, or what failed.
 type Kind = (&'static str, u64, fn(u64) -> Result<u64, String>);
 
-const KINDS: [Kind; 10] = [
+const KINDS: [Kind; 11] = [
     ("the plain implementation, lists of calls", 30_000, plain_lists),
     ("lists of calls on small graphs", 80_000, small_lists),
     ("long lists of calls", 2_000, long_lists),
     ("counts, values and files around lists", 40_000, readings),
     ("settling hundreds of nodes", 400, settled),
     ("all calls on thousands of nodes", 20, large),
+    ("settling at the limits", EXTREMES.len() as u64, at_limits),
     ("lent slices of every length", 1_200, slices),
     ("literals in every place, and limits", 1_000, literals),
     ("files, whole and damaged", 400_000, damaged),
@@ -81,6 +83,12 @@ fn large(seed: u64) -> Result<u64, String> {
     // Too large to be made smaller step by step: the seed says it all.
     lists::check_large(&case).map_err(|wrong| format!("seed {seed}: {wrong}"))?;
     Ok(count)
+}
+
+fn at_limits(seed: u64) -> Result<u64, String> {
+    let Some(extreme) = EXTREMES.get(seed as usize) else { return Ok(0) };
+    extremes::check(extreme, seed).map_err(|wrong| format!("seed {seed}: {}: {wrong}", extreme.name))?;
+    Ok(1)
 }
 
 fn slices(seed: u64) -> Result<u64, String> {

@@ -1,6 +1,6 @@
 //! The node, pair and tree calls: each decides, then writes in one sweep of each table.
 
-use super::decide::{flags, Numbers, Pair};
+use super::decide::{best_pair, flags, least_of, Costs, Numbers};
 use super::{adds, admit, complemented, Number, View};
 use reducer::MARK;
 
@@ -21,7 +21,7 @@ fn word_costs(word: u32) -> [u32; 2] {
     [adds(word), adds(word ^ 1)]
 }
 
-fn own_costs(words: &[u32]) -> [[u32; 2]; 3] {
+fn own_costs(words: &[u32]) -> Costs {
     let third = if words[2] == MARK { [0, 0] } else { word_costs(words[2]) };
     [word_costs(words[0]), word_costs(words[1]), third]
 }
@@ -102,10 +102,10 @@ pub fn node_call(t: &mut Tables, node: u32) -> Result<u32, Number> {
         return Err(7);
     }
     let numbers = numbers_of(&g, node);
-    let number = numbers.best();
-    let made = (node, *flags(numbers.xor, number));
+    let least = numbers.best();
+    let made = (node, *flags(numbers.xor, least.number));
     t.write(made, made);
-    Ok(numbers.cost(0) - numbers.cost(number))
+    Ok(numbers.cost(0) - least.cost)
 }
 
 pub fn pair_call(t: &mut Tables, node: u32, word: u32) -> Result<u32, Number> {
@@ -124,11 +124,10 @@ pub fn pair_call(t: &mut Tables, node: u32, word: u32) -> Result<u32, Number> {
         return Ok(0);
     }
     let which = [0, 1, 2].map(|k| g.node_table[at + k] / 2 == named);
-    let pair = Pair { named: numbers_of(&g, named), node: numbers_of(&g, node), which };
-    let (first, second) = pair.best();
-    let saved = pair.cost(0, 0) - pair.cost(first, second);
-    t.write((named, *flags(pair.named.xor, first)), (node, *flags(pair.node.xor, second)));
-    Ok(saved)
+    let (first, second) = (numbers_of(&g, named), numbers_of(&g, node));
+    let best = best_pair(&first, &second, which);
+    t.write((named, *flags(first.xor, best.named)), (node, *flags(second.xor, best.node)));
+    Ok(best.saved)
 }
 
 /// What a tree call keeps of a node.
@@ -138,25 +137,29 @@ struct Kept {
     place: u32,
     readers: u32,
     /// How much its cost, shown 0 and 1, exceeds the other.
-    costs: [u32; 2],
-    turned: [u32; 4],
+    costs: [u8; 2],
+    /// What its move turns.
+    turned: [u8; 4],
     chosen: bool,
+}
+
+/// Where the node that a word names is kept: beyond the end for the mark, the constant and the inputs.
+fn kept_at(inputs: u32, word: u32) -> usize {
+    (word / 2).wrapping_sub(inputs + 1) as usize
 }
 
 fn find_places(g: &View) -> Vec<Kept> {
     let none = Kept { place: MARK, readers: 0, costs: [0; 2], turned: [0; 4], chosen: false };
     let mut kept = vec![none; g.nodes as usize];
     for (place, &word) in g.words().iter().enumerate() {
-        let index = word / 2;
-        if word != MARK && index > g.inputs {
-            let node = &mut kept[(index - g.inputs - 1) as usize];
+        if let Some(node) = kept.get_mut(kept_at(g.inputs, word)) {
             node.place = place as u32;
             node.readers += 1;
         }
     }
     for &word in g.outs() {
-        if word / 2 > g.inputs {
-            kept[(word / 2 - g.inputs - 1) as usize].readers += 2;
+        if let Some(node) = kept.get_mut(kept_at(g.inputs, word)) {
+            node.readers += 2;
         }
     }
     for node in &mut kept {
@@ -167,71 +170,70 @@ fn find_places(g: &View) -> Vec<Kept> {
     kept
 }
 
-fn edge_cost(g: &View, kept: &[Kept], word: u32) -> u32 {
-    let index = word / 2;
-    let bit = word & 1;
-    if index <= g.inputs {
-        return (index != 0) as u32 & bit;
-    }
-    let node = &kept[(index - g.inputs - 1) as usize];
-    if node.place == MARK {
-        bit
-    } else {
-        node.costs[bit as usize]
+/// What a word costs as it stands and turned, with the best below it where it names a non-root.
+fn edge_costs(g: &View, kept: &[Kept], word: u32) -> [u32; 2] {
+    match kept.get(kept_at(g.inputs, word)) {
+        Some(node) if node.place != MARK => {
+            let bit = (word & 1) as usize;
+            [node.costs[bit].into(), node.costs[1 - bit].into()]
+        }
+        _ if word == MARK => [0, 0],
+        _ => word_costs(word),
     }
 }
 
-fn tree_numbers(g: &View, kept: &[Kept], v: usize, readers: u32, odd: u32) -> Numbers {
+fn tree_costs(g: &View, kept: &[Kept], v: usize) -> Costs {
     let words = &g.node_table[3 * v..3 * v + 3];
-    let costs = |word: u32| [edge_cost(g, kept, word), edge_cost(g, kept, word ^ 1)];
-    let xor = words[2] == MARK;
-    let third = if xor { [0, 0] } else { costs(words[2]) };
-    Numbers { xor, costs: [costs(words[0]), costs(words[1]), third], readers, odd }
+    [0, 1, 2].map(|k| edge_costs(g, kept, words[k]))
+}
+
+fn is_xor(g: &View, v: usize) -> bool {
+    g.node_table[3 * v + 2] == MARK
 }
 
 fn fill_costs(g: &View, kept: &mut [Kept]) {
     for v in 0..kept.len() {
-        let least = |odd: u32| {
-            let numbers = tree_numbers(g, kept, v, 1, odd);
-            numbers.cost(numbers.best())
-        };
-        let (a, b) = (least(0), least(1));
+        let costs = tree_costs(g, kept, v);
+        let least = |readers| least_of(is_xor(g, v), &costs, readers).cost as u8;
+        let (a, b) = (least([0, 1]), least([1, 0]));
         kept[v].costs = [a.saturating_sub(b), b.saturating_sub(a)];
     }
 }
 
+/// The bit that the only reader of a node shows it once the reader's move is made; none outside the tree.
+fn shown(g: &View, kept: &[Kept], v: usize) -> Option<u32> {
+    let place = kept[v].place as usize;
+    // A third of the mark is beyond the end.
+    let reader = kept.get(place / 3).filter(|reader| reader.chosen)?;
+    Some((g.node_table[place] & 1) ^ u32::from(reader.turned[place % 3]))
+}
+
+/// The move of a node whose readers cost so much, left and turned.
+fn choose_at(g: &View, kept: &mut [Kept], v: usize, readers: [u32; 2]) {
+    let xor = is_xor(g, v);
+    let least = least_of(xor, &tree_costs(g, kept, v), readers);
+    kept[v].turned = flags(xor, least.number).map(|flag| flag as u8);
+    kept[v].chosen = true;
+}
+
+/// The moves of a root's tree, by falling index.
 fn choose(g: &View, kept: &mut [Kept], root: usize) {
-    let index = g.inputs + 1 + root as u32;
-    let (readers, odd) = readers_of(g, index);
-    for v in (0..=root).rev() {
-        let (readers, odd) = if v == root {
-            (readers, odd)
-        } else if kept[v].place == MARK || !kept[kept[v].place as usize / 3].chosen {
-            continue;
-        } else {
-            let place = kept[v].place as usize;
-            (1, (g.node_table[place] & 1) ^ kept[place / 3].turned[place % 3])
-        };
-        let numbers = tree_numbers(g, kept, v, readers, odd);
-        kept[v].turned = *flags(numbers.xor, numbers.best());
-        kept[v].chosen = true;
+    let (readers, odd) = readers_of(g, g.inputs + 1 + root as u32);
+    choose_at(g, kept, root, [odd, readers - odd]);
+    for v in (0..root).rev() {
+        if let Some(bit) = shown(g, kept, v) {
+            choose_at(g, kept, v, [bit, 1 - bit]);
+        }
     }
 }
 
 fn turn_tree(t: &mut Tables, kept: &[Kept]) {
     let inputs = t.inputs;
-    let readers = |word: u32| {
-        if word / 2 > inputs {
-            kept[(word / 2 - inputs - 1) as usize].turned[3]
-        } else {
-            0
-        }
-    };
+    let readers = |word: u32| kept.get(kept_at(inputs, word)).map_or(0, |node| u32::from(node.turned[3]));
     for (words, own) in t.node_table.chunks_exact_mut(3).zip(kept) {
-        words[0] ^= own.turned[0] ^ readers(words[0]);
-        words[1] ^= own.turned[1] ^ readers(words[1]);
-        if words[2] != MARK {
-            words[2] ^= own.turned[2] ^ readers(words[2]);
+        // The mark names no node, and no move of an XOR turns a third word.
+        for k in 0..3 {
+            words[k] ^= u32::from(own.turned[k]) ^ readers(words[k]);
         }
     }
     for word in &mut t.output_table[..t.outputs as usize] {

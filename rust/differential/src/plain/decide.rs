@@ -10,86 +10,93 @@ pub fn flags(xor: bool, number: u32) -> &'static [u32; 4] {
     &FLAGS[xor as usize][number as usize]
 }
 
-/// How many moves a node of a kind has.
-pub fn moves(xor: bool) -> u32 {
-    if xor {
-        4
-    } else {
-        2
-    }
-}
+/// What each word of a node costs as it stands and turned.
+pub type Costs = [[u32; 2]; 3];
 
 /// What a node's moves are decided by.
 #[derive(Clone, Copy)]
 pub struct Numbers {
     pub xor: bool,
-    /// What each word costs as it stands and turned.
-    pub costs: [[u32; 2]; 3],
+    pub costs: Costs,
     pub readers: u32,
     /// How many readers are complemented.
     pub odd: u32,
 }
 
+/// A first least move, and what it leaves.
+#[derive(Clone, Copy)]
+pub struct Least {
+    pub number: u32,
+    pub cost: u32,
+}
+
+/// What a move leaves of a node's words and readers; these cost `readers[0]` left and `readers[1]` turned.
+fn cost_of(turned: &[u32; 4], costs: &Costs, readers: [u32; 2]) -> u32 {
+    let own: u32 = (0..3).map(|k| costs[k][turned[k] as usize]).sum();
+    own + readers[turned[3] as usize]
+}
+
+/// The first least of these moves. It is put into its two callers, so that the compiler knows the moves there.
+#[inline(always)]
+fn least_among(moves: &[[u32; 4]], costs: &Costs, readers: [u32; 2]) -> Least {
+    let mut least = Least { number: 0, cost: cost_of(&moves[0], costs, readers) };
+    for number in 1..moves.len() {
+        let cost = cost_of(&moves[number], costs, readers);
+        if cost < least.cost {
+            least = Least { number: number as u32, cost };
+        }
+    }
+    least
+}
+
+/// The first least move of a kind.
+pub fn least_of(xor: bool, costs: &Costs, readers: [u32; 2]) -> Least {
+    if xor {
+        least_among(&FLAGS[1], costs, readers)
+    } else {
+        least_among(&FLAGS[0][..2], costs, readers)
+    }
+}
+
 impl Numbers {
+    /// What the readers cost left and turned.
+    fn shown(&self) -> [u32; 2] {
+        [self.odd, self.readers - self.odd]
+    }
+
     pub fn cost(&self, number: u32) -> u32 {
-        let turned = flags(self.xor, number);
-        let own: u32 = (0..3).map(|k| self.costs[k][turned[k] as usize]).sum();
-        own + if turned[3] == 1 { self.readers - self.odd } else { self.odd }
+        cost_of(flags(self.xor, number), &self.costs, self.shown())
     }
 
-    /// The first least move.
-    pub fn best(&self) -> u32 {
-        let mut found = 0;
-        let mut least = self.cost(0);
-        for number in 1..moves(self.xor) {
-            let cost = self.cost(number);
-            if cost < least {
-                (found, least) = (number, cost);
-            }
-        }
-        found
+    pub fn best(&self) -> Least {
+        least_of(self.xor, &self.costs, self.shown())
     }
 }
 
-/// A pair: a named node, a node, and which of its words name the other.
-pub struct Pair {
-    pub named: Numbers,
-    pub node: Numbers,
-    pub which: [bool; 3],
+/// The first least moves of a pair, and what they save.
+pub struct PairMoves {
+    pub named: u32,
+    pub node: u32,
+    pub saved: u32,
 }
 
-impl Pair {
-    pub fn cost(&self, first: u32, second: u32) -> u32 {
-        let a = flags(self.named.xor, first);
-        let b = flags(self.node.xor, second);
-        let mut sum = if b[3] == 1 { self.node.readers - self.node.odd } else { self.node.odd };
-        let mut others = self.named.readers;
-        let mut odd = self.named.odd;
-        for k in 0..3 {
-            sum += self.named.costs[k][a[k] as usize];
-            if self.which[k] {
-                // A word that names the named node is one of its readers, and is turned by both.
-                sum += self.node.costs[k][(a[3] ^ b[k]) as usize];
-                others -= 1;
-                odd -= self.node.costs[k][0];
-            } else {
-                sum += self.node.costs[k][b[k] as usize];
-            }
+/// For a named node, a node, and which of the node's words name the other.
+///
+/// Whatever the named node does, the node sees its readers left or turned: two answers are all that there are to weigh.
+pub fn best_pair(named: &Numbers, node: &Numbers, which: [bool; 3]) -> PairMoves {
+    // The node's words among the named node's readers are counted with the node.
+    let mut others = *named;
+    let mut turned = node.costs;
+    for k in 0..3 {
+        if which[k] {
+            others.readers -= 1;
+            others.odd -= node.costs[k][0];
+            turned[k].swap(0, 1);
         }
-        sum + if a[3] == 1 { others - odd } else { odd }
     }
-
-    pub fn best(&self) -> (u32, u32) {
-        let mut found = (0, 0);
-        let mut least = self.cost(0, 0);
-        for first in 0..moves(self.named.xor) {
-            for second in 0..moves(self.node.xor) {
-                let cost = self.cost(first, second);
-                if cost < least {
-                    (found, least) = ((first, second), cost);
-                }
-            }
-        }
-        found
-    }
+    let answers = [node.best(), least_of(node.xor, &turned, node.shown())];
+    let [left, turned] = others.shown();
+    let first = least_of(named.xor, &named.costs, [left + answers[0].cost, turned + answers[1].cost]);
+    let second = answers[flags(named.xor, first.number)[3] as usize].number;
+    PairMoves { named: first.number, node: second, saved: others.cost(0) + node.cost(0) - first.cost }
 }

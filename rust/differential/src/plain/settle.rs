@@ -2,7 +2,7 @@
 //! sweep writes out. Readers, roots and trees are found once, since no move changes the wiring.
 
 use super::calls::Tables;
-use super::decide::{flags, Numbers, Pair};
+use super::decide::{best_pair, flags, least_of, Costs, Numbers};
 use super::{admit, complemented, Number};
 use reducer::{Settled, MARK};
 
@@ -23,38 +23,35 @@ struct Kept {
     lowest: u32,
 }
 
-struct Settling<'a, 'b> {
-    t: &'a mut Tables<'b>,
+struct Settling<'a> {
+    inputs: u32,
+    /// Three words a node.
+    words: &'a mut [[u32; 3]],
+    outs: &'a mut [u32],
     kept: Vec<Kept>,
     count: u32,
 }
 
-impl Settling<'_, '_> {
-    fn new<'a, 'b>(t: &'a mut Tables<'b>) -> Settling<'a, 'b> {
+impl Settling<'_> {
+    fn new<'a>(t: &'a mut Tables) -> Settling<'a> {
         let count = complemented(&t.view());
         let kept = vec![Kept::default(); t.nodes as usize];
-        let mut s = Settling { t, kept, count };
+        let (words, _) = t.node_table[..3 * kept.len()].as_chunks_mut();
+        let mut s = Settling { inputs: t.inputs, words, outs: &mut t.output_table[..t.outputs as usize], kept, count };
         s.find_readers();
         s.find_trees();
         s
     }
 
-    fn node_of(&self, word: u32) -> Option<usize> {
-        if word != MARK && word / 2 > self.t.inputs {
-            Some((word / 2 - self.t.inputs - 1) as usize)
-        } else {
-            None
-        }
+    /// Where the node that a word names is kept: beyond the end for the mark, the constant and the inputs.
+    fn node_of(&self, word: u32) -> usize {
+        (word / 2).wrapping_sub(self.inputs + 1) as usize
     }
 
     fn find_readers(&mut self) {
-        for place in 0..3 * self.kept.len() {
-            let word = self.t.node_table[place];
-            if let Some(v) = self.node_of(word) {
-                let node = &mut self.kept[v];
-                node.readers += 1;
-                node.odd += word & 1;
-                node.place = place as u32;
+        for v in 0..self.words.len() {
+            for (k, word) in self.words[v].into_iter().enumerate() {
+                self.count_reader(word, (3 * v + k) as u32);
             }
         }
         for node in &mut self.kept {
@@ -62,14 +59,18 @@ impl Settling<'_, '_> {
                 node.place = MARK;
             }
         }
-        for o in 0..self.t.outputs as usize {
-            let word = self.t.output_table[o];
-            if let Some(v) = self.node_of(word) {
-                let node = &mut self.kept[v];
-                node.readers += 1;
-                node.odd += word & 1;
-                node.place = MARK;
-            }
+        for o in 0..self.outs.len() {
+            self.count_reader(self.outs[o], MARK);
+        }
+    }
+
+    /// One reader more, at this place, for the node that the word names, if it names one.
+    fn count_reader(&mut self, word: u32, place: u32) {
+        let v = self.node_of(word);
+        if let Some(node) = self.kept.get_mut(v) {
+            node.readers += 1;
+            node.odd += word & 1;
+            node.place = place;
         }
     }
 
@@ -92,65 +93,59 @@ impl Settling<'_, '_> {
     }
 
     fn is_xor(&self, v: usize) -> bool {
-        self.t.node_table[3 * v + 2] == MARK
+        self.words[v][2] == MARK
     }
 
     /// A word with what is pending.
     fn now(&self, word: u32) -> u32 {
-        self.node_of(word).map_or(word, |v| word ^ self.kept[v].pending)
+        self.kept.get(self.node_of(word)).map_or(word, |node| word ^ node.pending)
+    }
+
+    /// What a word costs as it stands and turned: nothing where it is the mark or names the constant.
+    fn word_costs(&self, word: u32) -> [u32; 2] {
+        let counts = (word > 1 && word != MARK) as u32;
+        let bit = self.now(word) & 1;
+        [counts & bit, counts & (bit ^ 1)]
     }
 
     fn own_numbers(&self, v: usize) -> Numbers {
-        let costs = |k: usize| {
-            let word = self.t.node_table[3 * v + k];
-            if word < 2 || (k == 2 && word == MARK) {
-                [0, 0]
-            } else {
-                let bit = self.now(word) & 1;
-                [bit, 1 - bit]
-            }
-        };
         let Kept { readers, odd, .. } = self.kept[v];
-        Numbers { xor: self.is_xor(v), costs: [costs(0), costs(1), costs(2)], readers, odd }
+        Numbers { xor: self.is_xor(v), costs: self.words[v].map(|word| self.word_costs(word)), readers, odd }
     }
 
-    fn tree_numbers(&self, v: usize) -> Numbers {
-        let mut numbers = self.own_numbers(v);
-        for k in 0..3 {
-            if let Some(u) = self.node_of(self.t.node_table[3 * v + k]) {
-                if self.kept[u].place != MARK {
-                    let bit = numbers.costs[k][0];
-                    let costs = self.kept[u].costs;
-                    numbers.costs[k] = [costs >> bit & 1, costs >> (1 - bit) & 1];
-                }
+    /// What a word costs as it stands and turned, with the best below it where it names a non-root.
+    fn edge_costs(&self, word: u32) -> [u32; 2] {
+        match self.kept.get(self.node_of(word)) {
+            Some(node) if node.place != MARK => {
+                let bit = (word ^ node.pending) & 1;
+                [node.costs >> bit & 1, node.costs >> (1 - bit) & 1]
             }
+            _ => self.word_costs(word),
         }
-        numbers
     }
 
-    fn turn_word(&mut self, place: usize) {
-        let word = self.t.node_table[place];
-        if let Some(v) = self.node_of(word) {
-            let node = &mut self.kept[v];
+    fn tree_costs(&self, v: usize) -> Costs {
+        self.words[v].map(|word| self.edge_costs(word))
+    }
+
+    fn turn_word(&mut self, v: usize, k: usize) {
+        let word = self.words[v][k];
+        self.words[v][k] = word ^ 1;
+        let u = self.node_of(word);
+        if let Some(node) = self.kept.get_mut(u) {
             if (word ^ node.pending) & 1 == 1 {
                 node.odd -= 1;
             } else {
                 node.odd += 1;
             }
         }
-        self.t.node_table[place] = word ^ 1;
     }
 
-    /// Makes a move at node v, whose own numbers are given.
-    fn make(&mut self, v: usize, numbers: &Numbers, number: u32) {
-        if number == 0 {
-            return;
-        }
-        self.count = self.count + numbers.cost(number) - numbers.cost(0);
-        let turned = flags(numbers.xor, number);
+    fn make(&mut self, v: usize, number: u32) {
+        let turned = flags(self.is_xor(v), number);
         for k in 0..3 {
             if turned[k] == 1 {
-                self.turn_word(3 * v + k);
+                self.turn_word(v, k);
             }
         }
         if turned[3] == 1 {
@@ -161,11 +156,9 @@ impl Settling<'_, '_> {
     }
 
     fn store_costs(&mut self, v: usize) {
-        let least = |odd: u32| {
-            let numbers = Numbers { readers: 1, odd, ..self.tree_numbers(v) };
-            numbers.cost(numbers.best())
-        };
-        let (a, b) = (least(0), least(1));
+        let costs = self.tree_costs(v);
+        let least = |readers| least_of(self.is_xor(v), &costs, readers).cost;
+        let (a, b) = (least([0, 1]), least([1, 0]));
         self.kept[v].costs = a.saturating_sub(b) | b.saturating_sub(a) << 1;
     }
 
@@ -177,9 +170,12 @@ impl Settling<'_, '_> {
             v = self.kept[v].above as usize;
         }
         loop {
-            let number = self.tree_numbers(v).best();
-            let numbers = self.own_numbers(v);
-            self.make(v, &numbers, number);
+            let own = self.own_numbers(v);
+            let number = Numbers { costs: self.tree_costs(v), ..own }.best().number;
+            if number != 0 {
+                self.count = self.count + own.cost(number) - own.cost(0);
+                self.make(v, number);
+            }
             if v == lowest {
                 return;
             }
@@ -189,18 +185,26 @@ impl Settling<'_, '_> {
 
     fn node_step(&mut self, v: usize) {
         let numbers = self.own_numbers(v);
-        self.make(v, &numbers, numbers.best());
+        let least = numbers.best();
+        if least.number != 0 {
+            self.count -= numbers.cost(0) - least.cost;
+            self.make(v, least.number);
+        }
     }
 
     fn pair_step(&mut self, v: usize, k: usize) {
-        let word = self.t.node_table[3 * v + k];
-        let Some(u) = self.node_of(word) else { return };
-        let which = [0, 1, 2].map(|j| self.t.node_table[3 * v + j] / 2 == word / 2);
-        let pair = Pair { named: self.own_numbers(u), node: self.own_numbers(v), which };
-        let (first, second) = pair.best();
-        self.make(u, &pair.named, first);
-        let numbers = self.own_numbers(v);
-        self.make(v, &numbers, second);
+        let word = self.words[v][k];
+        let u = self.node_of(word);
+        if u >= self.kept.len() {
+            return;
+        }
+        let which = self.words[v].map(|other| other / 2 == word / 2);
+        let best = best_pair(&self.own_numbers(u), &self.own_numbers(v), which);
+        if best.saved != 0 {
+            self.count -= best.saved;
+            self.make(u, best.named);
+            self.make(v, best.node);
+        }
     }
 
     fn round(&mut self) {
@@ -221,11 +225,11 @@ impl Settling<'_, '_> {
     }
 
     fn write_out(&mut self) {
-        for place in 0..3 * self.kept.len() {
-            self.t.node_table[place] = self.now(self.t.node_table[place]);
+        for v in 0..self.kept.len() {
+            self.words[v] = self.words[v].map(|word| self.now(word));
         }
-        for o in 0..self.t.outputs as usize {
-            self.t.output_table[o] = self.now(self.t.output_table[o]);
+        for o in 0..self.outs.len() {
+            self.outs[o] = self.now(self.outs[o]);
         }
     }
 }
