@@ -1,4 +1,4 @@
-// Which of document 01's numbers 3, 4 and 5 refuses a graph; 0 is none.
+// Which of document 01's numbers 3, 4 and 5 refuses a graph, 0 being none; the refusal of each number, and its number.
 ghost use mathlib.Core.Path.{_≡_};
 ghost use mathlib.Core.List.{List};
 ghost use Prim.Native.Nat.{ℕ, _*_, _/_, _≤_};
@@ -161,5 +161,21 @@ pub fn refused_by(number: u32) -> Refusal
         7 => Refusal::NoSuchNode,
         8 => Refusal::ShortScratch,
         _ => Refusal::ShortBuffer,
+    }
+}
+
+pub fn number_of(refusal: Refusal) -> u32
+    ensures { λ r. ⌜ r ≡ numberOf refusal ⌝ }
+{
+    match refusal {
+        Refusal::MissingBytes => 1,
+        Refusal::WrongField => 2,
+        Refusal::OverLimit => 3,
+        Refusal::ShortSlice => 4,
+        Refusal::BadLiteral => 5,
+        Refusal::ExtraBytes => 6,
+        Refusal::NoSuchNode => 7,
+        Refusal::ShortScratch => 8,
+        Refusal::ShortBuffer => 9,
     }
 }

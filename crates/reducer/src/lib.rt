@@ -12,9 +12,8 @@ ghost use Rattle.tagged_file.specs.Write.{writeCall};
 ghost use Rattle.evaluation.specs.Evaluation.{evaluateNumber, resultsAfter};
 ghost use Rattle.moves.specs.Call.{nodeCall, pairCall, treeCall};
 ghost use Rattle.settling.specs.Settle.{settleCall};
-ghost use Rattle.reducer.specs.Interface.{told, toldOne, fieldAnswer};
-
-pub mod answers;
+ghost use Rattle.answers.specs.Told.{told, toldOne};
+ghost use Rattle.reducer.specs.Interface.{fieldAnswer};
 
 // Where the payload of the field at the front starts, and its length.
 #[no_mangle]
@@ -24,7 +23,7 @@ pub extern "C" fn reducer_field(bytes: &[u8], payload: &mut [usize; 2]) -> u32
     ensures stretch { λ r. ⌜ (r ≡ 0 → take (getD (now (payload .exit)) 1 0) (drop (getD (now (payload .exit)) 0 0) (now (bytes .entry))) ≡ fieldPayload (now (bytes .entry))) ⌝ }
 {
     let number = tagged_file::field_number(bytes);
-    *payload = answers::field_told(number, tagged_file::field(bytes).len(), *payload);
+    *payload = answers::told::field_told(number, tagged_file::field(bytes).len(), *payload);
     number
 }
 
@@ -42,8 +41,8 @@ pub extern "C" fn reducer_load(
     ensures numbers { λ r. ⌜ now (numbers .exit) ≡ told (loadCall (now (file .entry)) (now («node_table» .entry)) (now («output_table» .entry)) .answer) (now (numbers .entry)) ⌝ }
 {
     let answer = tagged_file::load(file, node_table, output_table);
-    *numbers = answers::loaded_told(answer, *numbers);
-    answers::loaded_number(answer)
+    *numbers = answers::told::loaded_told(answer, *numbers);
+    answers::told::loaded_number(answer)
 }
 
 // Fills the front of `buffer` with the graph's file.
@@ -62,8 +61,8 @@ pub extern "C" fn reducer_write(
     ensures size { λ r. ⌜ now (length .exit) ≡ toldOne (writeCall (graphOf inputs nodes outputs (now («node_table» .entry)) (now («output_table» .entry))) (now (buffer .entry)) .answer) (now (length .entry)) ⌝ }
 {
     let answer = tagged_file::write(inputs, nodes, outputs, node_table, output_table, buffer);
-    *length = answers::written_told(answer, *length);
-    answers::written_number(answer)
+    *length = answers::told::written_told(answer, *length);
+    answers::told::written_number(answer)
 }
 
 // Fills the first `outputs` words of `results`, each bit place an assignment of its own.
@@ -82,7 +81,7 @@ pub extern "C" fn reducer_evaluate(
     ensures results { λ r. ⌜ now (results .exit) ≡ resultsAfter (graphOf inputs nodes outputs (now («node_table» .entry)) (now («output_table» .entry))) (now («input_words» .entry)) (length (now (scratch .entry))) (now (results .entry)) ⌝ }
     ensures scratch { λ r. ⌜ ScratchKept (unless (evaluateNumber (graphOf inputs nodes outputs (now («node_table» .entry)) (now («output_table» .entry))) (length (now («input_words» .entry))) (length (now (scratch .entry))) (length (now (results .entry)))) (accepted [])) (now (scratch .entry)) (now (scratch .exit)) ⌝ }
 {
-    answers::evaluated_number(evaluation::evaluate(
+    answers::told::evaluated_number(evaluation::evaluate(
         inputs,
         nodes,
         outputs,
@@ -108,8 +107,8 @@ pub extern "C" fn reducer_count(
     ensures count { λ r. ⌜ now (count .exit) ≡ toldOne (unless (admissionNumber (graphOf inputs nodes outputs (now («node_table» .entry)) (now («output_table» .entry)))) (accepted (C (graphOf inputs nodes outputs (now («node_table» .entry)) (now («output_table» .entry))) ∷ []))) (now (count .entry)) ⌝ }
 {
     let answer = graph::complemented_edges(inputs, nodes, outputs, node_table, output_table);
-    *count = answers::count_told(answer, *count);
-    answers::count_number(answer)
+    *count = answers::told::count_told(answer, *count);
+    answers::told::count_number(answer)
 }
 
 // The best move of one node; `saving` is what it saves.
@@ -128,8 +127,8 @@ pub extern "C" fn reducer_node(
     ensures told { λ r. ⌜ now (saving .exit) ≡ toldOne (nodeCall (graphOf inputs nodes outputs (now («node_table» .entry)) (now («output_table» .entry))) node .answer) (now (saving .entry)) ⌝ }
 {
     let answer = node_call::node_call(inputs, nodes, outputs, node_table, output_table, node);
-    *saving = answers::saving_told(answer, *saving);
-    answers::saving_number(answer)
+    *saving = answers::told::saving_told(answer, *saving);
+    answers::told::saving_number(answer)
 }
 
 // The best moves of a node and of the node that one of its words, 1 to 3, names.
@@ -149,8 +148,8 @@ pub extern "C" fn reducer_pair(
     ensures told { λ r. ⌜ now (saving .exit) ≡ toldOne (pairCall (graphOf inputs nodes outputs (now («node_table» .entry)) (now («output_table» .entry))) node word .answer) (now (saving .entry)) ⌝ }
 {
     let answer = node_call::pair_call(inputs, nodes, outputs, node_table, output_table, node, word);
-    *saving = answers::saving_told(answer, *saving);
-    answers::saving_number(answer)
+    *saving = answers::told::saving_told(answer, *saving);
+    answers::told::saving_number(answer)
 }
 
 // The best moves of the tree of a root.
@@ -179,8 +178,8 @@ pub extern "C" fn reducer_tree(
         root,
         scratch,
     );
-    *saving = answers::saving_told(answer, *saving);
-    answers::saving_number(answer)
+    *saving = answers::told::saving_told(answer, *saving);
+    answers::told::saving_number(answer)
 }
 
 // Rounds until one does not lower C; `figures` are the rounds made, C before and C after.
@@ -200,6 +199,6 @@ pub extern "C" fn reducer_settle(
     ensures scratch { λ r. ⌜ ScratchKept (settleCall (graphOf inputs nodes outputs (now («node_table» .entry)) (now («output_table» .entry))) (length (now (scratch .entry))) .answer) (now (scratch .entry)) (now (scratch .exit)) ⌝ }
 {
     let answer = settling::settle(inputs, nodes, outputs, node_table, output_table, scratch);
-    *figures = answers::settled_told(answer, *figures);
-    answers::settled_number(answer)
+    *figures = answers::told::settled_told(answer, *figures);
+    answers::told::settled_number(answer)
 }

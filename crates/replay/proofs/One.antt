@@ -1,5 +1,5 @@
--- What an entry's outcome tells of one call, that settling never raises C, and that only the length of scratch matters. From the laws on
--- tests and on settling.
+-- What an entry's outcome tells of one call, settling's figures, that settling never raises C, and that only the length of scratch
+-- matters. From the laws on tests and on settling.
 use mathlib.Core.Path.{_≡_, refl, sym, ap, _∙_}
 use mathlib.Core.Bool.{Bool, true, false, cond}
 use mathlib.Core.List.{List, [], _∷_}
@@ -17,6 +17,7 @@ use Rattle.moves.specs.Call.{nodeCall, pairCall, treeCall, scratchFault}
 use Rattle.settling.specs.Round.{savingOf}
 use Rattle.settling.specs.Settle.{settle, settleNumber, settleCall}
 use Rattle.settling.proofs.Rounds.{Ended, settle-ended}
+use Rattle.answers.specs.Told.{toldBy, told}
 use Rattle.promises.specs.Demand.{Call, nodeAt, pairAt, treeAt, settling, step, reported}
 use Rattle.replay.specs.Replay.{callOf, Tells}
 use Rattle.replay.specs.declared.calls.Told.{Told}
@@ -62,6 +63,14 @@ module _ (g h : Graph) (sc : List ℕ) (k u w : ℕ) (a : Answer) (t : Told) whe
   pub told-settling : (k ≡ 0 → ⊥) → (k ≡ 1 → ⊥) → (k ≡ 2 → ⊥) → outcome a h ≡ settleCall g (length sc)
       → (t .number ≡ a .number) × (t .saving ≡ reported (settling []) a) → Tells g (callOf sc k u w) h t
   told-settling n m l e q = rw (is-settling sc k u w n m l) (tells g h (settling sc) a t e (q .0) (q .1))
+
+-- settling's figures, told where there were zeros
+figures-by : (vs : List ℕ) → let l = toldBy vs (0 ∷ 0 ∷ 0 ∷ []) in (getD l 1 0 ≡ getD vs 1 0) × (getD l 2 0 ≡ getD vs 2 0)
+figures-by [] = (refl, refl)
+figures-by (v ∷ vs) = (refl, refl)
+
+pub figures : (a : Answer) (l : List ℕ) → l ≡ told a (0 ∷ 0 ∷ 0 ∷ []) → (getD l 1 0 ≡ getD (a .values) 1 0) × (getD l 2 0 ≡ getD (a .values) 2 0)
+figures a l e = rw e (figures-by (a .values))
 
 -- C after settling is at most C before
 ended : (g : Graph) (s : ℕ) → settleNumber g s ≡ 0 → Ended s g (settle s g)

@@ -4,7 +4,6 @@ ghost use mathlib.Core.List.{[], _++_};
 ghost use Prim.Native.Nat.{_*_, _/_, _≤_};
 ghost use lib.ListN.{length, getD, drop};
 ghost use Rattle.graph.specs.Graph.{graphOf};
-ghost use Rattle.graph.specs.Answer.{numberOf};
 ghost use Rattle.moves.specs.Call.{savingAnswer};
 ghost use Rattle.settling.specs.Round.{savingOf};
 ghost use Rattle.settling.specs.Settle.{settledAnswer};
@@ -17,31 +16,12 @@ pub struct Told {
     pub saving: u32,
 }
 
-pub fn refusal_number(refusal: graph::Refusal) -> u32
-    ensures { λ r. ⌜ r ≡ numberOf refusal ⌝ }
-{
-    match refusal {
-        graph::Refusal::MissingBytes => 1,
-        graph::Refusal::WrongField => 2,
-        graph::Refusal::OverLimit => 3,
-        graph::Refusal::ShortSlice => 4,
-        graph::Refusal::BadLiteral => 5,
-        graph::Refusal::ExtraBytes => 6,
-        graph::Refusal::NoSuchNode => 7,
-        graph::Refusal::ShortScratch => 8,
-        graph::Refusal::ShortBuffer => 9,
-    }
-}
-
 pub fn saving_told(answer: moves::Saving) -> Told
     ensures { λ r. ⌜ (r .number ≡ savingAnswer answer .number) × (r .saving ≡ savingOf (savingAnswer answer)) ⌝ }
 {
-    match answer {
-        moves::Saving::Saved(saving) => Told { number: 0, saving },
-        moves::Saving::Refused(refusal) => Told {
-            number: refusal_number(refusal),
-            saving: 0,
-        },
+    Told {
+        number: answers::told::saving_number(answer),
+        saving: answers::told::saving_told(answer, 0),
     }
 }
 
@@ -50,19 +30,10 @@ pub fn settled_told(answer: settling::Settled) -> Told
     requires { ⌜ getD (settledAnswer answer .values) 2 0 ≤ getD (settledAnswer answer .values) 1 0 ⌝ }
     ensures { λ r. ⌜ (r .number ≡ settledAnswer answer .number) × (r .saving ≡ reported (settling []) (settledAnswer answer)) ⌝ }
 {
-    match answer {
-        settling::Settled::Rounds {
-            rounds: _,
-            before,
-            after,
-        } => Told {
-            number: 0,
-            saving: before - after,
-        },
-        settling::Settled::Refused(refusal) => Told {
-            number: refusal_number(refusal),
-            saving: 0,
-        },
+    let figures = answers::told::settled_told(answer, [0; 3]);
+    Told {
+        number: answers::told::settled_number(answer),
+        saving: figures[1] - figures[2],
     }
 }
 

@@ -136,26 +136,10 @@ pub fn put_settled(
     put_outputs(buffer, middle, outputs, output_table)
 }
 
-pub fn number_of(refusal: Refusal) -> u32
-    ensures { λ r. ⌜ r ≡ numberOf refusal ⌝ }
-{
-    match refusal {
-        Refusal::MissingBytes => 1,
-        Refusal::WrongField => 2,
-        Refusal::OverLimit => 3,
-        Refusal::ShortSlice => 4,
-        Refusal::BadLiteral => 5,
-        Refusal::ExtraBytes => 6,
-        Refusal::NoSuchNode => 7,
-        Refusal::ShortScratch => 8,
-        Refusal::ShortBuffer => 9,
-    }
-}
-
 // The one line of a refusal.
 pub fn put_refused(buffer: &mut [u8], refusal: Refusal) -> usize
     requires { ⌜ 128 ≤ length (now buffer) ⌝ }
     ensures { λ r. ⌜ (r ≡ length (line1 refusedText (numberOf refusal))) × (r ≤ length (now (buffer .entry))) × (now (buffer .exit) ≡ sets (now (buffer .entry)) 0 (line1 refusedText (numberOf refusal))) ⌝ }
 {
-    text::put_line1(buffer, 0, b"refused ", number_of(refusal))
+    text::put_line1(buffer, 0, b"refused ", graph::checks::number_of(refusal))
 }

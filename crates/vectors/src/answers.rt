@@ -7,22 +7,8 @@ use graph::Refusal;
 use tagged_file::Loaded;
 use tagged_file::Written;
 
-fn number_of(refusal: Refusal) -> u32 {
-    match refusal {
-        Refusal::MissingBytes => 1,
-        Refusal::WrongField => 2,
-        Refusal::OverLimit => 3,
-        Refusal::ShortSlice => 4,
-        Refusal::BadLiteral => 5,
-        Refusal::ExtraBytes => 6,
-        Refusal::NoSuchNode => 7,
-        Refusal::ShortScratch => 8,
-        Refusal::ShortBuffer => 9,
-    }
-}
-
 pub fn refused(refusal: Refusal) -> bool {
-    print::put_word(number_of(refusal));
+    print::put_word(graph::checks::number_of(refusal));
     true
 }
 

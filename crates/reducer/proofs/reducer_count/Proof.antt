@@ -1,7 +1,7 @@
 -- `reducer_count` meets its contract. From those of `complemented_edges` and of its answer's number and value.
 use mathlib.Core.Path.{ap, _∙_}
 use Rattle.graph.specs.Answer.{Answer}
-use Rattle.reducer.proofs.Told.{same-one}
+use Rattle.answers.proofs.Same.{same-one}
 use borrow.Author.Needs.{needs}
 use Rattle.reducer.proofs.reducer_count.Statement.{statement}
 use Rattle.reducer.proofs.reducer_count.Tie as tie

@@ -7,7 +7,8 @@ use denote.Ref.{now}
 use Rattle.graph.specs.Answer.{accepted, unless}
 use Rattle.tagged_file.specs.File.{fieldNumber}
 use Rattle.reducer.specs.Interface.{fieldAnswer}
-use Rattle.reducer.proofs.Told.{same-told, stretch-told}
+use Rattle.answers.proofs.Same.{same-told}
+use Rattle.reducer.proofs.Left.{stretch-told}
 use borrow.Author.Needs.{needs}
 use Rattle.reducer.proofs.reducer_field.Statement.{statement}
 use Rattle.reducer.proofs.reducer_field.Tie as tie

@@ -1,7 +1,8 @@
 -- `reducer_load` meets its contract. From those of `load` and of its answer's number and values.
 use mathlib.Core.Path.{ap, _∙_}
 use Rattle.graph.specs.Answer.{Outcome}
-use Rattle.reducer.proofs.Told.{same-told, loaded-nodes, loaded-outs}
+use Rattle.answers.proofs.Same.{same-told}
+use Rattle.reducer.proofs.Left.{loaded-nodes, loaded-outs}
 use borrow.Author.Needs.{needs}
 use Rattle.reducer.proofs.reducer_load.Statement.{statement}
 use Rattle.reducer.proofs.reducer_load.Tie as tie

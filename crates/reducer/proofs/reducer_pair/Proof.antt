@@ -1,7 +1,7 @@
 -- `reducer_pair` meets its contract. From those of `pair_call` and of its answer's number and value.
 use mathlib.Core.Path.{ap, _∙_}
 use Rattle.graph.specs.Answer.{Outcome}
-use Rattle.reducer.proofs.Told.{same-one}
+use Rattle.answers.proofs.Same.{same-one}
 use borrow.Author.Needs.{needs}
 use Rattle.reducer.proofs.reducer_pair.Statement.{statement}
 use Rattle.reducer.proofs.reducer_pair.Tie as tie

@@ -1,7 +1,8 @@
 -- `reducer_settle` meets its contract. From those of `settle` and of its answer's number and values.
 use mathlib.Core.Path.{ap, _∙_}
 use Rattle.graph.specs.Answer.{Outcome}
-use Rattle.reducer.proofs.Told.{same-told, same-kept}
+use Rattle.answers.proofs.Same.{same-told}
+use Rattle.reducer.proofs.Left.{same-kept}
 use borrow.Author.Needs.{needs}
 use Rattle.reducer.proofs.reducer_settle.Statement.{statement}
 use Rattle.reducer.proofs.reducer_settle.Tie as tie

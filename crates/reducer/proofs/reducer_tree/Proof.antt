@@ -1,7 +1,8 @@
 -- `reducer_tree` meets its contract. From those of `tree_call` and of its answer's number and value.
 use mathlib.Core.Path.{ap, _∙_}
 use Rattle.graph.specs.Answer.{Outcome}
-use Rattle.reducer.proofs.Told.{same-one, same-kept}
+use Rattle.answers.proofs.Same.{same-one}
+use Rattle.reducer.proofs.Left.{same-kept}
 use borrow.Author.Needs.{needs}
 use Rattle.reducer.proofs.reducer_tree.Statement.{statement}
 use Rattle.reducer.proofs.reducer_tree.Tie as tie

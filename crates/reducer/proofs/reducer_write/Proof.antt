@@ -1,7 +1,7 @@
 -- `reducer_write` meets its contract. From those of `write` and of its answer's number and value.
 use mathlib.Core.Path.{ap, _∙_}
 use Rattle.tagged_file.specs.Write.{WriteOutcome}
-use Rattle.reducer.proofs.Told.{same-one}
+use Rattle.answers.proofs.Same.{same-one}
 use borrow.Author.Needs.{needs}
 use Rattle.reducer.proofs.reducer_write.Statement.{statement}
 use Rattle.reducer.proofs.reducer_write.Tie as tie

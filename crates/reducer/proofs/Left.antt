@@ -1,4 +1,4 @@
--- What an answer leaves at a lent place, the tables of an answered load, and the stretch of a field. From the laws on answers and tests.
+-- What calls leave: scratch that is kept, the tables of an answered load, the stretch of a field. From the laws on answers and tests.
 use mathlib.Core.Path.{_≡_, refl, sym, ap, _∙_}
 use mathlib.Core.List.{List, [], _∷_}
 use Prim.Native.Nat.{ℕ, zero, suc}
@@ -10,15 +10,10 @@ use Rattle.tagged_file.specs.File.{be2, fieldNumber, fieldPayload}
 use Rattle.tagged_file.specs.declared.Loaded.{Loaded}
 use Rattle.tagged_file.specs.declared.Loaded.the-variants as loaded
 use Rattle.tagged_file.specs.Load.{loadedGraph}
-use Rattle.reducer.specs.Interface.{told, toldOne}
+use Rattle.answers.specs.Told.{told}
+use Rattle.answers.proofs.Same.{same-told}
 
--- equal answers leave the same
-pub same-one : {a b : Answer} (before : ℕ) → a ≡ b → toldOne a before ≡ toldOne b before
-same-one before e = ap (λ a. toldOne a before) e
-
-pub same-told : {a b : Answer} (before : List ℕ) → a ≡ b → told a before ≡ told b before
-same-told before e = ap (λ a. told a before) e
-
+-- equal answers keep the same scratch
 pub same-kept : {a b : Answer} (before after : List ℕ) → a ≡ b → ScratchKept a before after → ScratchKept b before after
 same-kept before after e k n = k (λ z. n (ap (λ (a : Answer). a .number) (sym e) ∙ z))
 

@@ -1,10 +1,10 @@
 -- `loaded_told` meets its contract, case by case.
 use mathlib.Core.Path.{sym, ap}
 use Rattle.tagged_file.specs.Load.{loadedAnswer}
-use Rattle.reducer.specs.Interface.{told}
+use Rattle.answers.specs.Told.{told}
 use borrow.Author.Needs.{needs}
-use Rattle.reducer.proofs.answers.loaded_told.Statement.{statement}
-use Rattle.reducer.proofs.answers.loaded_told.Tie as tie
+use Rattle.answers.proofs.told.loaded_told.Statement.{statement}
+use Rattle.answers.proofs.told.loaded_told.Tie as tie
 
 enum-known-answer : tie.Need-enum-known-answer
 enum-known-answer c = search needs

@@ -3,9 +3,9 @@ use mathlib.Core.Path.{refl}
 use mathlib.Core.List.{[], _∷_}
 use Rattle.graph.specs.Answer.{accepted}
 use Rattle.graph.proofs.Answers.{refused-is, accepted-is}
-use Rattle.reducer.proofs.Told.{same-told}
-use Rattle.reducer.proofs.answers.field_told.Statement.{statement}
-use Rattle.reducer.proofs.answers.field_told.Tie as tie
+use Rattle.answers.proofs.Same.{same-told}
+use Rattle.answers.proofs.told.field_told.Statement.{statement}
+use Rattle.answers.proofs.told.field_told.Tie as tie
 
 returns : tie.Need-returns
 returns c =

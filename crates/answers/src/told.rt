@@ -1,29 +1,13 @@
-// The number and the values of each answer.
+// The number of each answer, and what it leaves at a lent place: its values, or what was there where it has none.
 ghost use mathlib.Core.Path.{_≡_};
 ghost use mathlib.Core.List.{[], _∷_};
-ghost use Rattle.graph.specs.Answer.{accepted, unless, numberOf, countAnswer};
+ghost use Rattle.graph.specs.Answer.{accepted, unless, countAnswer};
 ghost use Rattle.tagged_file.specs.Load.{loadedAnswer};
 ghost use Rattle.tagged_file.specs.Write.{writtenAnswer};
 ghost use Rattle.evaluation.specs.Evaluation.{evaluatedAnswer};
 ghost use Rattle.moves.specs.Call.{savingAnswer};
 ghost use Rattle.settling.specs.Settle.{settledAnswer};
-ghost use Rattle.reducer.specs.Interface.{told, toldOne};
-
-pub fn refusal_number(refusal: graph::Refusal) -> u32
-    ensures { λ r. ⌜ r ≡ numberOf refusal ⌝ }
-{
-    match refusal {
-        graph::Refusal::MissingBytes => 1,
-        graph::Refusal::WrongField => 2,
-        graph::Refusal::OverLimit => 3,
-        graph::Refusal::ShortSlice => 4,
-        graph::Refusal::BadLiteral => 5,
-        graph::Refusal::ExtraBytes => 6,
-        graph::Refusal::NoSuchNode => 7,
-        graph::Refusal::ShortScratch => 8,
-        graph::Refusal::ShortBuffer => 9,
-    }
-}
+ghost use Rattle.answers.specs.Told.{told, toldOne};
 
 // The payload of a field starts after the 3 bytes of its head.
 pub fn field_told(number: u32, length: usize, before: [usize; 2]) -> [usize; 2]
@@ -40,7 +24,7 @@ pub fn count_number(answer: graph::Count) -> u32
 {
     match answer {
         graph::Count::Edges(_) => 0,
-        graph::Count::Refused(refusal) => refusal_number(refusal),
+        graph::Count::Refused(refusal) => graph::checks::number_of(refusal),
     }
 }
 
@@ -58,7 +42,7 @@ pub fn loaded_number(answer: tagged_file::Loaded) -> u32
 {
     match answer {
         tagged_file::Loaded::Graph { .. } => 0,
-        tagged_file::Loaded::Refused(refusal) => refusal_number(refusal),
+        tagged_file::Loaded::Refused(refusal) => graph::checks::number_of(refusal),
     }
 }
 
@@ -80,7 +64,7 @@ pub fn written_number(answer: tagged_file::Written) -> u32
 {
     match answer {
         tagged_file::Written::Bytes(_) => 0,
-        tagged_file::Written::Refused(refusal) => refusal_number(refusal),
+        tagged_file::Written::Refused(refusal) => graph::checks::number_of(refusal),
     }
 }
 
@@ -98,7 +82,7 @@ pub fn evaluated_number(answer: evaluation::Evaluated) -> u32
 {
     match answer {
         evaluation::Evaluated::Done => 0,
-        evaluation::Evaluated::Refused(refusal) => refusal_number(refusal),
+        evaluation::Evaluated::Refused(refusal) => graph::checks::number_of(refusal),
     }
 }
 
@@ -107,7 +91,7 @@ pub fn saving_number(answer: moves::Saving) -> u32
 {
     match answer {
         moves::Saving::Saved(_) => 0,
-        moves::Saving::Refused(refusal) => refusal_number(refusal),
+        moves::Saving::Refused(refusal) => graph::checks::number_of(refusal),
     }
 }
 
@@ -125,7 +109,7 @@ pub fn settled_number(answer: settling::Settled) -> u32
 {
     match answer {
         settling::Settled::Rounds { .. } => 0,
-        settling::Settled::Refused(refusal) => refusal_number(refusal),
+        settling::Settled::Refused(refusal) => graph::checks::number_of(refusal),
     }
 }
 

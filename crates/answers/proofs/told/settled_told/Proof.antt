@@ -1,10 +1,10 @@
 -- `settled_told` meets its contract, case by case.
 use mathlib.Core.Path.{sym, ap}
 use Rattle.settling.specs.Settle.{settledAnswer}
-use Rattle.reducer.specs.Interface.{told}
+use Rattle.answers.specs.Told.{told}
 use borrow.Author.Needs.{needs}
-use Rattle.reducer.proofs.answers.settled_told.Statement.{statement}
-use Rattle.reducer.proofs.answers.settled_told.Tie as tie
+use Rattle.answers.proofs.told.settled_told.Statement.{statement}
+use Rattle.answers.proofs.told.settled_told.Tie as tie
 
 enum-known-answer : tie.Need-enum-known-answer
 enum-known-answer c = search needs

@@ -1,0 +1,17 @@
+-- What an answer leaves at a place that its caller lends.
+use Prim.Native.Nat.{ℕ}
+use mathlib.Core.List.{List, [], _∷_}
+use lib.ListN.{getD}
+use Rattle.graph.specs.Answer.{Answer}
+
+-- numbers at that place afterwards: the values answered, or what was there where none are, as by a refused call
+abbrev pub toldBy : List ℕ → List ℕ → List ℕ
+toldBy [] before = before
+toldBy (v ∷ vs) before = v ∷ vs
+
+abbrev pub told : Answer → List ℕ → List ℕ
+told a before = toldBy (a .values) before
+
+-- the same of one number
+abbrev pub toldOne : Answer → ℕ → ℕ
+toldOne a before = getD (a .values) 0 before

@@ -1,0 +1,2 @@
+// Each entry's answer as a number, and as what it leaves at a lent place.
+pub mod told;
