@@ -1,19 +1,18 @@
 -- The outputs' words from the words by index, and a result slice that has them in front. From the laws on rows and sweeps.
 use mathlib.Core.Path.{_≡_, refl, sym, ap, _∙_}
-use mathlib.Core.Bool.{true}
 use mathlib.Core.Logic.{⊎-elim}
 use mathlib.Core.List.{List, _++_}
 use Prim.Native.Nat.{ℕ, _+_, _-_, _*_, _%_, _≤_, _<_}
 use native.Mathlib.Omega.{arith}
 use native.Mathlib.Numerals.{add-one}
-use borrow.Author.Tests.{eq-eqb, ne-eqb}
 use lib.ListN.{length, getD, set, drop, length-append, length-drop, List·getD-append}
 use lib.Seq.{ext-getD, getD-drop}
 use Rattle.graph.specs.Finite.{tab}
-use Rattle.graph.specs.Graph.{Graph, word, isEdge, mark}
+use Rattle.graph.specs.Graph.{Graph}
 use Rattle.graph.specs.Value.{literalValue, outValue}
 use Rattle.graph.specs.Admission.{Admitted}
 use Rattle.graph.proofs.Cases.{lt-or-le}
+use Rattle.graph.proofs.Edge.{edge-early, edge-third}
 use Rattle.graph.proofs.Finite.{length-tab, getD-tab, tab-same}
 use Rattle.graph.proofs.Sweep.{swept, length-swept, swept-done, swept-left, swept-suc}
 use Rattle.evaluation.specs.Inner.{byIndex, literalWord, outWord, nodesOf, NodeBelow, NodeWords}
@@ -47,20 +46,12 @@ swept-next ws outs before after o w h e q =
     rw (add-one o, e, q ∙ sym (outWord-is ws outs o)) (swept-suc (outWord ws outs) before o h)
 
 module _ (g : Graph) where
-  edge-early : (j : ℕ) → (j % 3 ≡ 2 → ⊥) → isEdge g j ≡ true
-  unfolding isEdge
-  edge-early j h = simp (ne-eqb (j % 3) 2 h)
-
-  edge-third : (j : ℕ) → j % 3 ≡ 2 → (word g j ≡ mark → ⊥) → isEdge g j ≡ true
-  unfolding isEdge
-  edge-third j e h = simp (eq-eqb (j % 3) 2 e, ne-eqb (word g j) mark h)
-
   pub node-below : Admitted g → (v : ℕ) → v < g .N → NodeBelow (g .I) (g .nodes) v
   node-below adm v h =
       record {
-        first = omega (arith, adm .below (3 * v) (omega arith) (edge-early (3 * v) (omega arith)));
-        second = omega (arith, adm .below (3 * v + 1) (omega arith) (edge-early (3 * v + 1) (omega arith)));
-        third = λ n. omega (arith, adm .below (3 * v + 2) (omega arith) (edge-third (3 * v + 2) (omega arith) n));
+        first = omega (arith, adm .below (3 * v) (omega arith) (edge-early g (3 * v) (omega arith)));
+        second = omega (arith, adm .below (3 * v + 1) (omega arith) (edge-early g (3 * v + 1) (omega arith)));
+        third = λ n. omega (arith, adm .below (3 * v + 2) (omega arith) (edge-third g (3 * v + 2) (omega arith) n));
       }
 
   -- the outputs' words, from the words of all nodes

@@ -5,6 +5,7 @@ pub mod Turn
 pub mod Tests
 pub mod Steps
 pub mod Answers
+pub mod Edge
 pub mod Adds
 pub mod Admit
 pub mod Values

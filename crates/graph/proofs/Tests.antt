@@ -2,7 +2,7 @@
 -- back: what a value that comes to 0 says of its tests. Assumes nothing.
 use Prim.Native.Nat.{ℕ, zero, suc, _<_, _≤_}
 use mathlib.Core.Path.{_≡_, refl, sym, _∙_}
-use mathlib.Core.Bool.{Bool, true, false}
+use mathlib.Core.Bool.{Bool, true, false, cond}
 use mathlib.Core.Logic.{⊎-elim}
 use native.Mathlib.Omega.{arith}
 use native.Mathlib.Nat.{eq-or-lt-of-le, le-of-suc-le-suc, not-suc-le-zero}
@@ -74,6 +74,11 @@ stops a R w s e n = fault a R e (λ z. n (e ∙ z)) ∙ sym s ∙ w
 
 pub goes : {W T : ℕ} (a R : ℕ) → W ≡ T → W ≡ first a R → a ≡ 0 → R ≡ T
 goes a R w s z = none a R z refl ∙ sym s ∙ w
+
+-- a fault that a test keeps off
+pub passes : (b : Bool) (k : ℕ) → cond b 0 (suc k) ≡ 0 → b ≡ true
+passes true k e = refl
+passes false k e = absurd (omega arith)
 
 -- the first fault of several: none where each is none, and back; and one that comes after none is it
 pub all-none : (n : ℕ) (f : ℕ → ℕ) → ((j : ℕ) → j < n → f j ≡ 0) → firstOf n f ≡ 0

@@ -27,17 +27,11 @@ use Rattle.moves.proofs.TreeBest.{arity-pos}
 use Rattle.incremental.specs.State.{stands, Ordered}
 use Rattle.incremental.specs.Step.{Made}
 use Rattle.incremental.proofs.Alike.{Alike, alike-xor, alike-isNode}
-use Rattle.incremental.proofs.Turned.{by-alike, apply-by}
+use Rattle.incremental.proofs.Turned.{apply-alike}
 use Rattle.incremental.proofs.Stands.{stands-alike, stands-admitted}
 use Rattle.incremental.proofs.Stores.{kept-same, kept-then}
 use Rattle.incremental.proofs.Made.{became-alike}
 use Rattle.incremental.proofs.Counting.{kind-now, node-now, within-now}
-
--- moves leave the wiring
-pub apply-alike : (h : Graph) (m : Choice) → Admitted h → Alike h (apply h m)
-apply-alike h m adm =
-    subst (λ x. Alike h x) (sym (apply-by h m))
-    (by-alike h (turns h m) (outTurns h m) adm (record { past = applied.turns-past h m; at-mark = applied.turns-mark h m; out-past = applied.outTurns-past h m }))
 
 combined-left : (x : Bool) (m : ℕ) → m < arity x → combined x m 0 ≡ m
 unfolding combined arity

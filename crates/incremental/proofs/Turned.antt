@@ -1,6 +1,6 @@
 -- A graph with each word turned a number of times of its own: what such turns keep, that they add up, and that only their
 -- parity counts. A choice of moves, a state's pending turns, a turned word and turned readers are all of this kind.
-use mathlib.Core.Path.{_≡_, refl, sym, _∙_}
+use mathlib.Core.Path.{_≡_, refl, sym, subst, _∙_}
 use mathlib.Core.Bool.{true, false, cond}
 use mathlib.Core.List.{List}
 use mathlib.Core.Logic.{⊎-elim, _≢_}
@@ -18,6 +18,7 @@ use Rattle.graph.proofs.Cases.{lt-or-le, eq-or-ne, true-or-false, cond-same}
 use Rattle.graph.proofs.Finite.{length-tab, getD-tab, getD-tab-past, tab-same}
 use Rattle.graph.proofs.Turn.{turn-half, turn-zero, turn-turn, turn-same}
 use Rattle.moves.specs.Apply.{Choice, turns, outTurns, apply}
+use Rattle.moves.proofs.Apply as applied
 use Rattle.moves.proofs.Compose.{same-graph}
 use Rattle.incremental.specs.State.{due, outDue, stands}
 use Rattle.incremental.specs.Step.{wordTurned, readersTurned}
@@ -217,3 +218,9 @@ readersTurned-zero g u =
   where
     still : (l : List ℕ) (t : ℕ → ℕ) → ((j : ℕ) → t j ≡ 0) → tab (length l) (λ j. turn (t j) (getD l j 0)) ≡ l
     still l t z = ext-getD 0 _ _ (length-tab _ _) (λ i h. getD-tab (length l) (λ j. turn (t j) (getD l j 0)) i (rw length-tab at h) ∙ rw (z i) (turn-zero (getD l i 0)))
+
+-- moves leave the wiring
+pub apply-alike : (h : Graph) (m : Choice) → Admitted h → Alike h (apply h m)
+apply-alike h m adm =
+    subst (λ x. Alike h x) (sym (apply-by h m))
+    (by-alike h (turns h m) (outTurns h m) adm (record { past = applied.turns-past h m; at-mark = applied.turns-mark h m; out-past = applied.outTurns-past h m }))

@@ -103,14 +103,7 @@ pub fn own_costs(
         at + 2,
         scratch,
     );
-    [
-        words::turned_adds(x, 0),
-        words::turned_adds(x, 1),
-        words::turned_adds(y, 0),
-        words::turned_adds(y, 1),
-        words::third_adds(z, 0),
-        words::third_adds(z, 1),
-    ]
+    words::costs_of(x, y, z)
 }
 
 // The numbers that node v's moves are decided by.

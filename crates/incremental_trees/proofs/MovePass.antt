@@ -37,26 +37,12 @@ use Rattle.incremental.specs.State.{field, stands, Neighbours, Ordered}
 use Rattle.incremental.specs.Step.{TreesKept, Became}
 use Rattle.incremental.proofs.Alike.{Alike, alike-isRoot, alike-place, alike-xor}
 use Rattle.incremental.proofs.Stands.{stands-alike}
+use Rattle.incremental.proofs.Turned.{apply-alike}
 use Rattle.incremental_trees.specs.Costing.{innerAt, costAt, treeCost, CostedBelow}
 use Rattle.incremental_trees.proofs.CostTable.{costs-hold}
 use Rattle.moves.proofs.NodeCosts.{move-is, root-is}
 use Rattle.moves.proofs.Local.{with-named}
 use Rattle.incremental_trees.proofs.Ready.{Ready, ready-kept, inner-same, named-below, named-in, stands-I, stands-N}
-
--- moves change complement bits alone
-pub apply-alike : (h : Graph) (d : Choice) → Admitted h → Alike h (apply h d)
-unfolding apply
-apply-alike h d adm =
-    record {
-      same-I = refl;
-      same-N = refl;
-      same-O = refl;
-      same-nodes = applied.length-nodes h d;
-      same-outs = applied.length-outs h d;
-      wired = applied.wiring h d adm;
-      out-wired = applied.out-wiring h d adm;
-      marked = applied.same-mark h d adm;
-    }
 
 -- a sum with one term
 sum-none : (n : ℕ) (f : ℕ → ℕ) → ((j : ℕ) → j < n → f j ≡ 0) → sum n f ≡ 0

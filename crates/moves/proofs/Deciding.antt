@@ -13,7 +13,7 @@ use Rattle.graph.specs.Count.{adds, named, outNamed, nodeReaders, readers}
 use Rattle.graph.specs.Finite.{ifLess, ifEqual, count}
 use Rattle.graph.specs.Graph.{Graph, mark, node, word, turn, isEdge}
 use Rattle.moves.specs.Rows.{rows, firstRow, arity, flag}
-use Rattle.moves.specs.Decide.{costBy, costWith, Weighed, Numbers, LeastBelow, Answered, FirstPair, wordAfter, ownCosts, swapped, given, others, costOf, costGiven, pairCost, numbersOf, naming, Counted}
+use Rattle.moves.specs.Decide.{costBy, costWith, Weighed, Numbers, LeastBelow, Answered, FirstPair, wordAfter, wordsAdd, ownCosts, swapped, given, others, costOf, costGiven, pairCost, numbersOf, naming, Counted}
 use Rattle.moves.specs.declared.decide.NodeNumbers.{NodeNumbers}
 use Rattle.choice.specs.Choice.{FirstBelow}
 use Rattle.graph.proofs.Adds.{adds-le}
@@ -127,6 +127,20 @@ module _ (g : Graph) (v t : ℕ) where
       (λ (b : eqb (word g (3 * v + 2)) mark ≡ true). rw b)
       (λ (b : eqb (word g (3 * v + 2)) mark ≡ false). rw b)
       (true-or-false (eqb (word g (3 * v + 2)) mark)))
+
+pub own-costs-are : (g : Graph) (v x y z : ℕ) → x ≡ word g (3 * v) → y ≡ word g (3 * v + 1) → z ≡ word g (3 * v + 2) → wordsAdd x y z ≡ ownCosts g v
+unfolding ownCosts
+own-costs-are g v x y z p q r =
+    let e : 3 * v + 0 ≡ 3 * v = omega arith in
+    let p′ : x ≡ word g (3 * v + 0) = rw e p in
+    rw (
+      first-two g v 0 0 x (omega arith) p′,
+      first-two g v 1 0 x (omega arith) p′,
+      first-two g v 0 1 y (omega arith) q,
+      first-two g v 1 1 y (omega arith) q,
+      third g v 0 z r,
+      third g v 1 z r,
+    )
 
 -- the words' costs once some have been turned
 pub onlyIf-le : (f w : ℕ) → w ≤ 1 → ifEqual f 0 0 w ≤ 1

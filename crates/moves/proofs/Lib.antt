@@ -9,6 +9,7 @@ pub mod Local
 pub mod Potential
 pub mod Root
 pub mod Shown
+pub mod Known
 pub mod TreeBest
 pub mod Written
 pub mod Kept

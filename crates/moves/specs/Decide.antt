@@ -5,7 +5,7 @@ use mathlib.Core.List.{List, [], _∷_}
 use Prim.Native.Nat.{ℕ, _+_, _-_, _*_, _/_, _%_, _≤_, _<_}
 use lib.ListN.{getD}
 use Rattle.graph.specs.Finite.{ifEqual, sum}
-use Rattle.graph.specs.Graph.{Graph, node, word, turn, isEdge, isXor}
+use Rattle.graph.specs.Graph.{Graph, mark, node, word, turn, isEdge, isXor}
 use Rattle.graph.specs.Count.{adds, nodeReaders, readers}
 use Rattle.moves.specs.Cost.{shown}
 use Rattle.moves.specs.Rows.{arity, flag}
@@ -42,7 +42,12 @@ pub record Numbers (z : List ℕ) (r d : ℕ) : Type 0 where
 unfoldable pub wordAfter : Graph → ℕ → ℕ → ℕ → ℕ
 wordAfter g v i t = cond (isEdge g (3 * v + i)) (adds (turn t (word g (3 * v + i)))) 0
 
--- what the words of node v add, each as it stands and turned
+-- what the words x, y and z of a node add, each as it stands and turned
+abbrev pub wordsAdd : ℕ → ℕ → ℕ → List ℕ
+wordsAdd x y z =
+    adds (turn 0 x) ∷ adds (turn 1 x) ∷ adds (turn 0 y) ∷ adds (turn 1 y) ∷ ifEqual z mark 0 (adds (turn 0 z)) ∷ ifEqual z mark 0 (adds (turn 1 z)) ∷ []
+
+-- the same of node v
 unfoldable pub ownCosts : Graph → ℕ → List ℕ
 ownCosts g v = wordAfter g v 0 0 ∷ wordAfter g v 0 1 ∷ wordAfter g v 1 0 ∷ wordAfter g v 1 1 ∷ wordAfter g v 2 0 ∷ wordAfter g v 2 1 ∷ []
 

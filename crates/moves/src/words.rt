@@ -6,7 +6,7 @@ ghost use lib.ListN.{length};
 ghost use Rattle.graph.specs.Finite.{ifEqual};
 ghost use Rattle.graph.specs.Graph.{graphOf, turn, mark};
 ghost use Rattle.graph.specs.Count.{adds};
-ghost use Rattle.moves.specs.Decide.{ownCosts, naming};
+ghost use Rattle.moves.specs.Decide.{wordsAdd, ownCosts, naming};
 use graph::edges;
 use graph::literal;
 use graph::literal::MARK;
@@ -30,15 +30,10 @@ pub fn third_adds(x: u32, t: u32) -> u32
     turned_adds(x, t)
 }
 
-// What each word of node v adds, as it stands and turned.
-pub fn own_costs(node_table: &[u32], v: usize) -> [u32; 6]
-    requires { ⌜ (3 * v + 2 < length (now «node_table»)) × (v ≤ 100000) ⌝ }
-    ensures { λ r. ⌜ ((i n o : ℕ) (os : List ℕ) → r ≡ ownCosts (graphOf i n o (now («node_table» .entry)) os) v) ⌝ }
+// What the words of a node add, each as it stands and turned.
+pub fn costs_of(x: u32, y: u32, z: u32) -> [u32; 6]
+    ensures { λ r. ⌜ r ≡ wordsAdd x y z ⌝ }
 {
-    let at = 3 * v;
-    let x = node_table[at];
-    let y = node_table[at + 1];
-    let z = node_table[at + 2];
     [
         turned_adds(x, 0),
         turned_adds(x, 1),
@@ -47,6 +42,15 @@ pub fn own_costs(node_table: &[u32], v: usize) -> [u32; 6]
         third_adds(z, 0),
         third_adds(z, 1),
     ]
+}
+
+// Those of node v.
+pub fn own_costs(node_table: &[u32], v: usize) -> [u32; 6]
+    requires { ⌜ (3 * v + 2 < length (now «node_table»)) × (v ≤ 100000) ⌝ }
+    ensures { λ r. ⌜ ((i n o : ℕ) (os : List ℕ) → r ≡ ownCosts (graphOf i n o (now («node_table» .entry)) os) v) ⌝ }
+{
+    let at = 3 * v;
+    costs_of(node_table[at], node_table[at + 1], node_table[at + 2])
 }
 
 // 1 where the literal x names index u.

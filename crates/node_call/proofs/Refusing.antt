@@ -4,26 +4,23 @@ use mathlib.Core.Bool.{Bool, true, false, cond, _&&_}
 use mathlib.Core.Logic.{⊎-elim, _≢_}
 use Prim.Native.Nat.{ℕ, zero, suc, _+_, _-_, _*_, _%_, _≤_, _<_}
 use native.Mathlib.Omega.{arith}
-use borrow.Author.Tests.{ltb-true, leb-true, ne-eqb}
-use lib.Dec.{ltb, leb}
+use borrow.Author.Tests.{leb-true, ne-eqb}
+use lib.Dec.{leb}
 use Rattle.graph.specs.Admission.{Admitted, admissionNumber}
 use Rattle.graph.specs.Finite.{first}
 use Rattle.graph.specs.Graph.{Graph, node, word, isEdge, isXor}
 use Rattle.graph.proofs.Admit.{admitted}
 use Rattle.graph.proofs.Answers.{admission-le, first-le}
 use Rattle.graph.proofs.Cases.{cond-le, eq-or-ne}
-use Rattle.graph.proofs.Tests.{both}
+use Rattle.graph.proofs.Tests.{both, passes}
 use Rattle.moves.specs.Call.{isNode, nodeFault, wordFault, nodeNumber, pairNumber, namedBy}
+use Rattle.moves.proofs.Known.{node-known, node-fault-le}
 use Rattle.moves.proofs.Readers.{both-true}
 
 pub first-first : (a b c : ℕ) → first (first a b) c ≡ first a (first b c)
 unfolding first
 first-first zero b c = refl
 first-first (suc a) b c = refl
-
-passes : (b : Bool) → _≡_ {A = ℕ} (cond b 0 7) 0 → b ≡ true
-passes true e = refl
-passes false e = absurd (omega arith)
 
 three-words : (b : Bool) (k : ℕ) → k ≤ cond b 2 3 → k ≤ 3
 three-words true k h = omega arith
@@ -41,22 +38,15 @@ module _ (g : Graph) (u : ℕ) where
     pub before : u < node g (g .N)
 
   pub node-is : admissionNumber g ≡ 0 → nodeFault g u ≡ 0 → Accepted
-  unfolding nodeFault isNode
-  node-is a e =
-      let b = both-true (ltb (g .I) u) (ltb u (node g (g .N))) (passes (isNode g u) e) in
-      record { admitted = admitted g a; after = ltb-true (g .I) u (b .0); before = ltb-true u (node g (g .N)) (b .1) }
+  node-is a e = let b = node-known g u e in record { admitted = admitted g a; after = b .0; before = b .1 }
 
   pub node-accepted : nodeNumber g u ≡ 0 → Accepted
   unfolding nodeNumber
   node-accepted e = let b = both (admissionNumber g) (nodeFault g u) e in node-is (b .0) (b .1)
 
-  fault-le : nodeFault g u ≤ 9
-  unfolding nodeFault
-  fault-le = cond-le (isNode g u) 0 7 9 (omega arith) (omega arith)
-
   pub node-range : (k : ℕ) → k ≡ nodeNumber g u → (k ≡ 0 → ⊥) → (1 ≤ k) × (k ≤ 9)
   unfolding nodeNumber
-  node-range k e n = let a = admission-le g in (omega arith, rw e (first-le _ _ 9 (omega arith) fault-le))
+  node-range k e n = let a = admission-le g in (omega arith, rw e (first-le _ _ 9 (omega arith) (node-fault-le g u)))
 
   module _ (k : ℕ) where
     pub pair-is : pairNumber g u k ≡ first (nodeNumber g u) (wordFault g u k)
@@ -73,7 +63,7 @@ module _ (g : Graph) (u : ℕ) where
     unfolding wordFault
     pair-accepted e =
         let b = both (nodeNumber g u) (wordFault g u k) (sym pair-is ∙ e) in
-        let c = both-true (leb 1 k) (leb k (cond (isXor g (u - (g .I + 1))) 2 3)) (passes (leb 1 k && leb k (cond (isXor g (u - (g .I + 1))) 2 3)) (b .1)) in
+        let c = both-true (leb 1 k) (leb k (cond (isXor g (u - (g .I + 1))) 2 3)) (passes (leb 1 k && leb k (cond (isXor g (u - (g .I + 1))) 2 3)) 6 (b .1)) in
         record { at-node = node-accepted (b .0); from-one = leb-true 1 k (c .0); to-last = leb-true k _ (c .1) }
 
     word-le : wordFault g u k ≤ 9
@@ -82,7 +72,7 @@ module _ (g : Graph) (u : ℕ) where
 
     node-le : nodeNumber g u ≤ 9
     unfolding nodeNumber
-    node-le = let a = admission-le g in first-le _ _ 9 (omega arith) fault-le
+    node-le = let a = admission-le g in first-le _ _ 9 (omega arith) (node-fault-le g u)
 
     pub pair-range : (n : ℕ) → n ≡ pairNumber g u k → (n ≡ 0 → ⊥) → (1 ≤ n) × (n ≤ 9)
     pair-range n e z = (omega arith, rw (e, pair-is) (first-le _ _ 9 node-le word-le))

@@ -13,7 +13,7 @@ use Rattle.graph.specs.Graph.{Graph, node, isXor}
 use Rattle.graph.specs.Count.{C}
 use Rattle.graph.specs.Admission.{Admitted}
 use Rattle.graph.proofs.Cases.{lt-or-le}
-use Rattle.graph.proofs.Tests.{less, no-less}
+use Rattle.graph.proofs.Tests.{less, no-less, passes}
 use Rattle.moves.specs.Tree.{isRoot}
 use Rattle.moves.specs.Call.{nodeCall, pairCall, treeCall, wordFault}
 use Rattle.moves.proofs.Readers.{both-true}
@@ -67,10 +67,6 @@ phases-sound s n =
     (then-sound (each (treeAt s) n) (each nodeAt n) _ _ (each-sound (treeAt s) (TreeIdle s) (tree-sound s) n) (each-sound nodeAt NodeIdle node-sound n))
     (each-sound pairsAt (λ v g. (PairIdle v 1 g × PairIdle v 2 g) × PairIdle v 3 g) pairs-sound n)
 
-passes : (b : Bool) → _≡_ {A = ℕ} (cond b 0 7) 0 → b ≡ true
-passes true e = refl
-passes false e = absurd (omega arith)
-
 three : (x : Bool) (k : ℕ) → leb k (cond x 2 3) ≡ true → k ≤ 3
 three true k e = omega (arith, leb-true k 2 e)
 three false k e = leb-true k 3 e
@@ -91,7 +87,7 @@ module _ (s : ℕ) (g : Graph) (adm : Admitted g) where
   word-bound : (v k : ℕ) → wordFault g (node g v) k ≡ 0 → (1 ≤ k) × (k ≤ 3)
   unfolding wordFault
   word-bound v k e =
-      let b = both-true (leb 1 k) _ (passes _ e) in
+      let b = both-true (leb 1 k) _ (passes _ 6 e) in
       (leb-true 1 k (b .0), three (isXor g (node g v - (g .I + 1))) k (b .1))
 
   idle-pair : (v k : ℕ) → (PairIdle v 1 g × PairIdle v 2 g) × PairIdle v 3 g → 1 ≤ k → k ≤ 3 → PairIdle v k g

@@ -14,6 +14,7 @@ use lib.ListN.{length, getD, take, drop, length-append, List·getD-append}
 use Rattle.graph.specs.Graph.{Graph, graphOf, mark, word, out, isEdge}
 use Rattle.graph.specs.Admission.{Admitted}
 use Rattle.graph.specs.Answer.{Outcome, outcome, accepted, guarded}
+use Rattle.graph.proofs.Edge.{edge-early, edge-third}
 use Rattle.graph.proofs.Tests.{both, none}
 use Rattle.graph.proofs.Answers.{accepted-outcome}
 use Rattle.tagged_file.specs.File.{be4, nodesNumber, fileNumber, nodeWords, outWords, afterNodes}
@@ -149,23 +150,15 @@ one-file s ns os s′ ns′ os′ h h′ e e′ same = sym (written-back s ns os
 
 -- what the words of an admitted graph may be
 module _ (g : Graph) where
-  edge-early : (j : ℕ) → (j % 3 ≡ 2 → ⊥) → isEdge g j ≡ true
-  unfolding isEdge
-  edge-early j n = rw (ne-eqb (j % 3) 2 n)
-
-  edge-third : (j : ℕ) → j % 3 ≡ 2 → (word g j ≡ mark → ⊥) → isEdge g j ≡ true
-  unfolding isEdge
-  edge-third j e n = rw (eq-eqb (j % 3) 2 e, ne-eqb (word g j) mark n)
-
   allowed : Admitted g → (v : ℕ) → v < g .N → Allowed (g .nodes) (g .I + 1 + v) v
   allowed a v h =
       let d₀ : 3 * v / 3 ≡ v = omega arith in
       let d₁ : (3 * v + 1) / 3 ≡ v = omega arith in
       let d₂ : (3 * v + 2) / 3 ≡ v = omega arith in
       record {
-        one = rw d₀ at (a .below (3 * v) (omega arith) (edge-early (3 * v) (λ q. omega arith)));
-        two = rw d₁ at (a .below (3 * v + 1) (omega arith) (edge-early (3 * v + 1) (λ q. omega arith)));
-        last = λ n. rw d₂ at (a .below (3 * v + 2) (omega arith) (edge-third (3 * v + 2) (omega arith) n));
+        one = rw d₀ at (a .below (3 * v) (omega arith) (edge-early g (3 * v) (λ q. omega arith)));
+        two = rw d₁ at (a .below (3 * v + 1) (omega arith) (edge-early g (3 * v + 1) (λ q. omega arith)));
+        last = λ n. rw d₂ at (a .below (3 * v + 2) (omega arith) (edge-third g (3 * v + 2) (omega arith) n));
       }
 
 -- the file of an admitted graph loads as that graph, into any tables that are long enough: their first words are then the

@@ -1,11 +1,10 @@
 -- Which number refuses a tree call, and what is known where none does. From the laws on tests and on admission.
 use mathlib.Core.Path.{_≡_, refl, _∙_}
-use mathlib.Core.Bool.{Bool, true, false, cond, and-false}
+use mathlib.Core.Bool.{true, and-false}
 use mathlib.Core.Logic.{_≢_}
 use Prim.Native.Nat.{ℕ, suc, _*_, _≤_, _<_}
 use native.Mathlib.Omega.{arith}
-use borrow.Author.Tests.{eq-eqb, ne-eqb, ltb-true}
-use lib.Dec.{ltb}
+use borrow.Author.Tests.{eq-eqb, ne-eqb}
 use Rattle.graph.specs.Finite.{first}
 use Rattle.graph.specs.Graph.{Graph, node}
 use Rattle.graph.specs.Count.{readers, nodeReaders}
@@ -14,10 +13,10 @@ use Rattle.graph.proofs.Admit.{admitted}
 use Rattle.graph.specs.Answer.{Outcome, outcome, refused}
 use Rattle.graph.proofs.Answers.{first-le, ifLess-le, admission-le, refused-outcome, accepted-outcome}
 use Rattle.graph.proofs.Cases.{cond-le}
-use Rattle.graph.proofs.Tests.{off, both, fault, none, less, no-less}
+use Rattle.graph.proofs.Tests.{off, both, fault, none, passes, less, no-less}
 use Rattle.moves.specs.Call.{isNode, nodeFault, rootFault, scratchFault, treeNumber, rewrite, treeCall}
 use Rattle.moves.specs.Tree.{isRoot, IsRoot, tree}
-use Rattle.moves.proofs.Readers.{both-true}
+use Rattle.moves.proofs.Known.{node-known, node-fault-le}
 
 -- the test of a root, as the code makes it
 module _ (g : Graph) (u : ℕ) where
@@ -33,18 +32,10 @@ module _ (g : Graph) (u : ℕ) where
   unfolding rootFault isRoot
   no-root a b = rw (eq-eqb (readers g u) 1 a, eq-eqb (nodeReaders g u) 1 b)
 
-passes : (b : Bool) (k : ℕ) → cond b 0 (suc k) ≡ 0 → b ≡ true
-passes true k e = refl
-passes false k e = absurd (omega arith)
-
 module _ (g : Graph) where
   pub root-known : (u : ℕ) → rootFault g u ≡ 0 → isRoot g u ≡ true
   unfolding rootFault
   root-known u e = passes (isRoot g u) 6 e
-
-  pub node-known : (u : ℕ) → nodeFault g u ≡ 0 → (g .I < u) × (u < node g (g .N))
-  unfolding nodeFault isNode
-  node-known u e = let b = both-true (ltb (g .I) u) (ltb u (node g (g .N))) (passes _ 6 e) in (ltb-true _ _ (b .0), ltb-true _ _ (b .1))
 
   pub scratch-known : (s : ℕ) → scratchFault g s ≡ 0 → 8 * g .N ≤ s
   unfolding scratchFault
@@ -64,10 +55,6 @@ module _ (g : Graph) where
     unfolding treeNumber
     by-rest a n k t m e p q = none (admissionNumber g) _ a (none (nodeFault g r) _ n (e ∙ rw (p, q)))
 
-    node-le : nodeFault g r ≤ 9
-    unfolding nodeFault
-    node-le = cond-le (isNode g r) 0 7 9 (omega arith) (omega arith)
-
     root-le : rootFault g r ≤ 9
     unfolding rootFault
     root-le = cond-le (isRoot g r) 0 7 9 (omega arith) (omega arith)
@@ -78,7 +65,7 @@ module _ (g : Graph) where
 
     tree-le : treeNumber g s r ≤ 9
     unfolding treeNumber
-    tree-le = first-le _ _ 9 (omega (arith, admission-le g)) (first-le _ _ 9 node-le (first-le _ _ 9 root-le scratch-le))
+    tree-le = first-le _ _ 9 (omega (arith, admission-le g)) (first-le _ _ 9 (node-fault-le g r) (first-le _ _ 9 root-le scratch-le))
 
     -- what `refused_by` asks of the number
     pub tree-range : (k : ℕ) → k ≡ treeNumber g s r → k ≢ 0 → (1 ≤ k) × (k ≤ 9)
@@ -91,7 +78,7 @@ module _ (g : Graph) where
         let a = both _ _ e in
         let n = both _ _ (a .1) in
         let t = both _ _ (n .1) in
-        let h = node-known r (n .0) in
+        let h = node-known g r (n .0) in
         (admitted g (a .0), record { after-inputs = h .0; within = h .1; root = root-known r (t .0) }, scratch-known s (t .1))
 
 pub short-scratch : (g : Graph) (s : ℕ) → s < 8 * g .N → 8 ≡ scratchFault g s

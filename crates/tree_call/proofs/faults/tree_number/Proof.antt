@@ -4,7 +4,8 @@ use Rattle.graph.specs.Graph.{Graph, graphOf}
 use Rattle.graph.specs.Admission.{admissionNumber}
 use Rattle.graph.proofs.Admit.{admitted}
 use Rattle.moves.specs.Call.{nodeFault}
-use Rattle.tree_call.proofs.Refused.{by-admission, by-node, by-rest, node-known}
+use Rattle.moves.proofs.Known.{node-known}
+use Rattle.tree_call.proofs.Refused.{by-admission, by-node, by-rest}
 use borrow.Author.Needs.{needs}
 use Rattle.tree_call.proofs.faults.tree_number.Statement.{statement}
 use Rattle.tree_call.proofs.faults.tree_number.Tie as tie
