@@ -6,7 +6,7 @@ use lib.ListN.{length, getD, take, drop}
 use Rattle.graph.specs.Answer.{Answer, accepted, unless, ScratchKept}
 use Rattle.graph.proofs.Tests.{equal}
 use Rattle.graph.proofs.Answers.{accepted-is}
-use Rattle.tagged_file.specs.File.{be2, fieldNumber, fieldPayload}
+use Rattle.file_checks.specs.File.{be2, fieldNumber, fieldPayload}
 use Rattle.tagged_file.specs.declared.Loaded.{Loaded}
 use Rattle.tagged_file.specs.declared.Loaded.the-variants as loaded
 use Rattle.tagged_file.specs.Load.{loadedGraph}

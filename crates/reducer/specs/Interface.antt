@@ -3,7 +3,7 @@ use Prim.Native.Nat.{ℕ}
 use mathlib.Core.List.{List, [], _∷_}
 use lib.ListN.{length}
 use Rattle.graph.specs.Answer.{Answer, accepted, unless}
-use Rattle.tagged_file.specs.File.{fieldNumber, fieldPayload}
+use Rattle.file_checks.specs.File.{fieldNumber, fieldPayload}
 
 -- where in the bytes the payload starts, after the 3 bytes of the head, and its length
 unfoldable pub fieldAnswer : List ℕ → Answer

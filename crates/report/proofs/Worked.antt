@@ -15,8 +15,8 @@ use Rattle.moves.specs.Tree.{isRoot, last, place, reader, rootIn, rootOf, membe
 use Rattle.moves.specs.Call.{moved, movedC, bestAt, rewrite, isNode, nodeFault, wordFault, rootFault, scratchFault, nodeNumber, nodeCall, namedBy, pairNumber, pairRewrite, pairCall, treeNumber, treeCall}
 use Rattle.settling.specs.Round.{savingOf, start, after, each, treeAt, nodeAt, pairAt, pairsAt, round}
 use Rattle.settling.specs.Settle.{settleIn, settle, settleNumber, settleCall}
-use Rattle.tagged_file.specs.File.{be2, be4, payloadOf, dueNumber, nodeSize, third, headNumber, endNumber, fileNumber}
-use Rattle.tagged_file.specs.File as file
+use Rattle.file_checks.specs.File.{be2, be4, payloadOf, dueNumber, nodeSize, third, headNumber, endNumber, fileNumber}
+use Rattle.file_checks.specs.File as file
 use Rattle.tagged_file.specs.Load.{graphRead, loadCall}
 use Rattle.report.specs.Text.{inputsText, nodesText, outputsText, beforeText, afterText, roundsText, nodeText, majText, xorText, spaceText, outText, refusedText, numbered, line1, line2, line3, line4}
 use Rattle.report.specs.Report.{sizesLine, countsLine, nodeLine, outLine, nodeLineAt, outLineAt, settledText, textOf, thenSettle, settledFile}

@@ -9,7 +9,7 @@ use native.Mathlib.Nat.{not-suc-le-zero, le-of-suc-le-suc}
 use lib.ListN.{getD, drop}
 use Rattle.graph.specs.Graph.{mark}
 use Rattle.graph.proofs.Tests.{both, on}
-use Rattle.tagged_file.specs.File.{be4, nodeSize, third, outNumber, outsNumber, nodesNumber, nodeWords, outWords, afterNodes}
+use Rattle.file_checks.specs.File.{be4, nodeSize, third, outNumber, outsNumber, nodesNumber, nodeWords, outWords, afterNodes}
 use Rattle.tagged_file.specs.Write.{nodeFieldAt, outFieldAt, endField, run}
 use Rattle.tagged_file.proofs.BigEndian.{Bytes, bytes-drop}
 use Rattle.tagged_file.proofs.OneField.{Majority, Xor, NodeAccepted, node-accepted, node-back, output-back, end-back}

@@ -5,7 +5,7 @@ use mathlib.Core.List.{List, [], _∷_, _++_}
 use native.Mathlib.Omega.{arith}
 use lib.ListN.{length, getD, drop}
 use lib.Seq.{drop-cons, getD-drop}
-use Rattle.tagged_file.specs.File.{be4}
+use Rattle.file_checks.specs.File.{be4}
 use Rattle.tagged_file.specs.Write.{big}
 
 -- a list of bytes

@@ -6,8 +6,8 @@ use native.Mathlib.Omega.{arith}
 use lib.ListN.{length, drop, set, length-set}
 use lib.Seq.{sets}
 use Rattle.tagged_file.proofs.Stores.{front}
-use Rattle.tagged_file.specs.File.{be4, third, nodeSize, nodeWords, outWords, afterNodes}
-use Rattle.tagged_file.specs.Walk.{NodeRoom, Nodes, Outs}
+use Rattle.file_checks.specs.File.{be4, third, nodeSize, nodeWords, outWords, afterNodes}
+use Rattle.file_checks.specs.Walk.{NodeRoom, Nodes, Outs}
 
 pub length-nodeWords : (n : ℕ) (s : List ℕ) → length (nodeWords n s) ≡ 3 * n
 length-nodeWords zero s = refl

@@ -1,6 +1,4 @@
 pub mod Stores
-pub mod Checked
-pub mod Bounds
 pub mod Filled
 pub mod Whole
 pub mod BigEndian

@@ -9,11 +9,11 @@ use Rattle.graph.specs.Finite.{ifEqual}
 use Rattle.graph.specs.Graph.{mark}
 use Rattle.graph.proofs.Cases.{eq-or-ne}
 use Rattle.graph.proofs.Tests.{equal, unequal, both, on, off}
-use Rattle.tagged_file.specs.File.{be2, be4, payloadOf, nodeSize, third, headNumber, nodeNumber, outNumber, endNumber}
+use Rattle.file_checks.specs.File.{be2, be4, payloadOf, nodeSize, third, headNumber, nodeNumber, outNumber, endNumber}
 use Rattle.tagged_file.specs.Write.{big, fieldOf, headField, nodeField, outField, endField}
 use Rattle.tagged_file.proofs.BigEndian.{Bytes, next, four-bytes}
 use Rattle.tagged_file.proofs.FieldBytes.{node-xor, node-majority, end-is}
-use Rattle.tagged_file.proofs.Checked.{due-is, size-at}
+use Rattle.file_checks.proofs.Checked.{due-is, size-at}
 
 -- fields written out
 three-is : (tag x y z : ℕ) → fieldOf tag (big 4 x ++ (big 4 y ++ big 4 z)) ≡ tag ∷ 0 ∷ 12 ∷ (big 4 x ++ (big 4 y ++ big 4 z))

@@ -9,11 +9,11 @@ use lib.ListN.{length, getD, drop, length-append}
 use Rattle.graph.specs.Graph.{mark}
 use Rattle.graph.proofs.Cases.{eq-or-ne}
 use Rattle.graph.proofs.Tests.{less, no-less, equal, unequal, none}
-use Rattle.tagged_file.specs.File.{be2, be4, payloadOf, dueNumber, nodeSize, third, headNumber, nodeNumber, outNumber, endNumber}
+use Rattle.file_checks.specs.File.{be2, be4, payloadOf, dueNumber, nodeSize, third, headNumber, nodeNumber, outNumber, endNumber}
 use Rattle.tagged_file.specs.Write.{big, fieldOf, headField, nodeField, outField, endField}
 use Rattle.tagged_file.proofs.BigEndian.{big-says}
 use Rattle.tagged_file.proofs.FieldBytes.{node-xor, node-majority, end-is, length-three, length-two, length-output}
-use Rattle.tagged_file.proofs.Checked.{size-at}
+use Rattle.file_checks.proofs.Checked.{size-at}
 use Rattle.tagged_file.proofs.OneField.{payload-one, payload-two, payload-three, payload-four, payload-five, size-of, third-majority, third-xor}
 
 -- a field that has these is accepted

@@ -17,11 +17,11 @@ use Rattle.graph.specs.Answer.{Outcome, outcome, accepted, guarded}
 use Rattle.graph.proofs.Edge.{edge-early, edge-third}
 use Rattle.graph.proofs.Tests.{both, none}
 use Rattle.graph.proofs.Answers.{accepted-outcome}
-use Rattle.tagged_file.specs.File.{be4, nodesNumber, fileNumber, nodeWords, outWords, afterNodes}
+use Rattle.file_checks.specs.File.{be4, nodesNumber, fileNumber, nodeWords, outWords, afterNodes}
 use Rattle.tagged_file.specs.Load.{graphRead, loadCall}
 use Rattle.tagged_file.specs.Write.{headField, nodeFieldAt, outFieldAt, endField, run, fileOf}
 use Rattle.tagged_file.proofs.BigEndian.{Bytes, bytes-drop}
-use Rattle.tagged_file.proofs.Checked.{head-passed}
+use Rattle.file_checks.proofs.Checked.{head-passed}
 use Rattle.tagged_file.proofs.Filled.{length-nodeWords, length-outWords}
 use Rattle.tagged_file.proofs.Whole.{load-accepted}
 use Rattle.tagged_file.proofs.OneField.{head-back}

@@ -8,7 +8,7 @@ use Rattle.graph.specs.Graph.{graphOf, mark, isEdge}
 use Rattle.graph.specs.Admission.{limitNumber, tableNumber, wordNumber, literalNumber, admissionNumber}
 use Rattle.graph.specs.Admission as admission
 use Rattle.graph.specs.Answer.{accepted, outcome, guarded}
-use Rattle.tagged_file.specs.File.{be2, be4, payloadOf, dueNumber, fieldNumber, fieldPayload, nodeSize, third, headNumber, nodeNumber, outNumber, endNumber, fileNumber}
+use Rattle.file_checks.specs.File.{be2, be4, payloadOf, dueNumber, fieldNumber, fieldPayload, nodeSize, third, headNumber, nodeNumber, outNumber, endNumber, fileNumber}
 use Rattle.tagged_file.specs.Write.{big, fieldOf, headField, nodeField, outField, endField, nodeFieldAt, outFieldAt, fileOf, writeNumber}
 use Rattle.tagged_file.specs.Load.{graphRead, loadCall}
 

@@ -7,10 +7,10 @@ use Rattle.graph.specs.Graph.{graphOf}
 use Rattle.graph.specs.Answer.{accepted, refused, outcome}
 use Rattle.graph.proofs.Tests.{both}
 use Rattle.graph.proofs.Answers.{refused-outcome, accepted-outcome}
-use Rattle.tagged_file.specs.File.{be4, nodeSize, outsNumber, nodesNumber, fileNumber, nodeWords, outWords, afterNodes}
+use Rattle.file_checks.specs.File.{be4, nodeSize, outsNumber, nodesNumber, fileNumber, nodeWords, outWords, afterNodes}
 use Rattle.tagged_file.specs.Load.{blank, graphRead, loadCall}
-use Rattle.tagged_file.specs.Walk.{Nodes, Outs}
-use Rattle.tagged_file.proofs.Checked.{HeadPassed, head-passed, out-passed, node-passed}
+use Rattle.file_checks.specs.Walk.{Nodes, Outs}
+use Rattle.file_checks.proofs.Checked.{HeadPassed, head-passed, out-passed, node-passed}
 
 outs-passed : (o : ℕ) (s : List ℕ) (i : ℕ) → outsNumber o s i ≡ 0 → Outs o s
 outs-passed zero s i e = tt

@@ -8,7 +8,7 @@ use native.Mathlib.Nat.{not-suc-le-zero, le-of-suc-le-suc}
 use lib.ListN.{getD}
 use Rattle.graph.specs.Graph.{mark}
 use Rattle.graph.proofs.Tests.{none}
-use Rattle.tagged_file.specs.File.{outsNumber, nodesNumber, nodeWords, outWords, afterNodes}
+use Rattle.file_checks.specs.File.{outsNumber, nodesNumber, nodeWords, outWords, afterNodes}
 use Rattle.tagged_file.specs.Write.{nodeFieldAt, outFieldAt, endField, run}
 use Rattle.tagged_file.proofs.ReadBack.{NodeRead, node-read, OutputRead, output-read, end-read}
 

@@ -1,4 +1,2 @@
-pub mod File
 pub mod Load
-pub mod Walk
 pub mod Write

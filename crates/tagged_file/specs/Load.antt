@@ -6,7 +6,7 @@ use Rattle.graph.specs.Graph.{Graph, graphOf}
 use Rattle.graph.specs.Answer.{Answer, accepted, refused, numberOf, Outcome, outcome, guarded}
 use Rattle.tagged_file.specs.declared.Loaded.{Loaded}
 use Rattle.tagged_file.specs.declared.Loaded.the-variants as loaded
-use Rattle.tagged_file.specs.File.{be4, fileNumber, nodeWords, outWords, afterNodes}
+use Rattle.file_checks.specs.File.{be4, fileNumber, nodeWords, outWords, afterNodes}
 
 abbrev pub loadedAnswer : Loaded → Answer
 loadedAnswer (loaded.Graph i n o) = accepted (i ∷ n ∷ o ∷ [])

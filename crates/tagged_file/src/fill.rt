@@ -3,10 +3,10 @@ ghost use mathlib.Core.Path.{_≡_};
 ghost use mathlib.Core.List.{_++_};
 ghost use Prim.Native.Nat.{_*_, _≤_};
 ghost use lib.ListN.{length, drop};
-ghost use Rattle.tagged_file.specs.File.{nodeWords, outWords, afterNodes};
-ghost use Rattle.tagged_file.specs.Walk.{Nodes, Outs};
-use crate::bytes;
-use crate::fields;
+ghost use Rattle.file_checks.specs.File.{nodeWords, outWords, afterNodes};
+ghost use Rattle.file_checks.specs.Walk.{Nodes, Outs};
+use file_checks::bytes;
+use file_checks::fields;
 
 pub fn fill_nodes<'a>(rest: &'a [u8], nodes: u32, node_table: &mut [u32]) -> &'a [u8]
     requires { ⌜ Nodes nodes (now rest) ⌝ }

@@ -2,16 +2,17 @@
 ghost use mathlib.Core.Path.{_≡_};
 ghost use Rattle.graph.specs.Graph.{graphOf};
 ghost use Rattle.graph.specs.Answer.{outcome};
-ghost use Rattle.tagged_file.specs.File.{fieldNumber, fieldPayload};
+ghost use Rattle.file_checks.specs.File.{fieldNumber, fieldPayload};
 ghost use Rattle.tagged_file.specs.Load.{loadedAnswer, loadedGraph, loadCall};
 ghost use Rattle.tagged_file.specs.Write.{writtenAnswer, writeOutcome, writeCall};
 
-pub mod bytes;
-pub mod checks;
 pub mod emit;
-pub mod fields;
 pub mod fill;
 pub mod sizes;
+
+use file_checks::bytes;
+use file_checks::checks;
+use file_checks::fields;
 
 // What loading answers.
 pub enum Loaded {

@@ -27,12 +27,12 @@ use Rattle.moves.proofs.Readers.{single, rootOf-root, rootOf-inner, rootOf-abov
 use Rattle.moves.proofs.TreeBest.{reader-node}
 use Rattle.moves.proofs.Written.{within, tree-call}
 use Rattle.moves.proofs.Local.{move-local, bit-local, own-local}
-use Rattle.tree_call.specs.Arrays.{field, innerAt, costAt, nodesIn, FirstMove, Filled, showsAt, ChosenAt, Chosen, Places, Rising, Flagged, FlagBits, KeptBut, TurnsTree}
+use Rattle.tree_choice.specs.Arrays.{field, innerAt, costAt, nodesIn, FirstMove, Filled, showsAt, ChosenAt, Chosen, Places, Rising, Flagged, FlagBits, KeptBut, TurnsTree}
 use Rattle.moves.proofs.NodeCosts.{root-is}
 use Rattle.moves.proofs.Deciding.{arity-low}
-use Rattle.tree_call.proofs.Falling.{flag-none, filled-kept}
+use Rattle.tree_choice.proofs.Falling.{flag-none, filled-kept}
 use Rattle.tree_call.proofs.Turned.{FlagsOf, words-applied, outs-applied}
-use Rattle.tree_call.proofs.Noting.{sized-by}
+use Rattle.tree_choice.proofs.Noting.{sized-by}
 
 -- the choice that the stored moves make; the mark is none
 unfoldable pub movesOf : ℕ → ℕ → List ℕ → Choice

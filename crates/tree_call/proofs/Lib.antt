@@ -1,8 +1,3 @@
-pub mod Fields
-pub mod Noting
-pub mod Edges
-pub mod Rising
-pub mod Falling
 pub mod Turned
 pub mod Bridge
 pub mod Refused

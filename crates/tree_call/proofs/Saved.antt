@@ -12,7 +12,7 @@ use Rattle.moves.specs.Apply.{apply, put, none}
 use Rattle.moves.specs.Call.{moved, bestAt, rewrite}
 use Rattle.moves.proofs.Apply.{admitted}
 use Rattle.moves.proofs.Compose.{same-graph}
-use Rattle.tree_call.proofs.Noting.{count-low}
+use Rattle.tree_choice.proofs.Noting.{count-low}
 
 module _ (g : Graph) (us : List ℕ) (ns os : List ℕ) (p : ns ≡ moved g us (bestAt g us) .nodes) (q : os ≡ moved g us (bestAt g us) .outs) where
   whole : graphOf (g .I) (g .N) (g .O) ns os ≡ moved g us (bestAt g us)

@@ -21,8 +21,8 @@ use Rattle.moves.specs.Rows.{flag}
 use Rattle.moves.specs.Apply.{Choice, apply, seen, own, turns}
 use Rattle.moves.proofs.Apply.{turns-past, turns-mark, turns-edge, outTurns-past, outTurns-at}
 use Rattle.moves.proofs.Compose.{seen-low, seen-node}
-use Rattle.tree_call.specs.Arrays.{field, seenAt, turnsAt, turnedWord, turnedOut, rewritten, Sized}
-use Rattle.tree_call.proofs.Noting.{edge-is, edge-low}
+use Rattle.tree_choice.specs.Arrays.{field, seenAt, turnsAt, turnedWord, turnedOut, rewritten, Sized}
+use Rattle.tree_choice.proofs.Noting.{edge-is, edge-low}
 
 -- a sweep, from the front
 module _ (f : ℕ → ℕ) (l : List ℕ) where

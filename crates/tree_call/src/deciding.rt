@@ -6,13 +6,13 @@ ghost use Rattle.graph.specs.Count.{readers};
 ghost use Rattle.graph.specs.Admission.{Admitted};
 ghost use Rattle.moves.specs.Cost.{shown};
 ghost use Rattle.moves.specs.Tree.{IsRoot};
-ghost use Rattle.tree_call.specs.Arrays.{FirstMove, TurnsTree};
-use crate::choose::fill_flags;
-use crate::choose::fill_moves;
-use crate::costs::best_move;
-use crate::costs::fill_costs;
-use crate::places::fill_places;
+ghost use Rattle.tree_choice.specs.Arrays.{FirstMove, TurnsTree};
 use moves::reading::readers_of;
+use tree_choice::choose::fill_flags;
+use tree_choice::choose::fill_moves;
+use tree_choice::costs::best_move;
+use tree_choice::costs::fill_costs;
+use tree_choice::places::fill_places;
 
 // The first least move of the root, over its readers and its own words.
 pub fn root_move(

@@ -4,14 +4,10 @@ ghost use Rattle.graph.specs.Answer.{outcome, ScratchKept};
 ghost use Rattle.graph.specs.Graph.{graphOf};
 ghost use Rattle.moves.specs.Call.{savingAnswer, treeCall};
 
-pub mod choose;
-pub mod costs;
 pub mod deciding;
 pub mod faults;
-pub mod places;
 pub mod rewriting;
 pub mod turning;
-pub mod words;
 
 use graph::checks::refused_by;
 use moves::Saving;

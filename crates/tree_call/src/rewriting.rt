@@ -11,8 +11,8 @@ ghost use Rattle.moves.specs.Tree.{IsRoot, tree};
 use crate::deciding::decide_tree;
 use crate::turning::turn_outputs;
 use crate::turning::turn_words;
-use crate::words::over;
 use graph::edges::complemented;
+use tree_choice::words::over;
 
 // What the call saves.
 pub fn rewrite_tree(

@@ -5,10 +5,10 @@ ghost use Prim.Native.Nat.{_+_, _-_, _*_, _/_, _%_, _≤_, _<_};
 ghost use lib.Dec.{eqb};
 ghost use lib.ListN.{length};
 ghost use Rattle.graph.specs.Graph.{mark, turn};
-ghost use Rattle.tree_call.specs.Arrays.{seenAt, turnsAt, turnedWord, turnedOut, rewritten, Sized, FlagBits, OutsBelow};
-use crate::words::index_of;
+ghost use Rattle.tree_choice.specs.Arrays.{seenAt, turnsAt, turnedWord, turnedOut, rewritten, Sized, FlagBits, OutsBelow};
 use graph::literal::is_edge;
 use graph::literal::turned;
+use tree_choice::words::index_of;
 
 // Whether the readers of index u are turned.
 pub fn seen_flag(inputs: usize, nodes: usize, scratch: &[u32], u: usize) -> u32

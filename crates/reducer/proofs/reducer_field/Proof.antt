@@ -5,7 +5,7 @@ use Prim.Native.Nat.{ℕ}
 use lib.ListN.{length}
 use denote.Ref.{now}
 use Rattle.graph.specs.Answer.{accepted, unless}
-use Rattle.tagged_file.specs.File.{fieldNumber}
+use Rattle.file_checks.specs.File.{fieldNumber}
 use Rattle.reducer.specs.Interface.{fieldAnswer}
 use Rattle.answers.proofs.Same.{same-told}
 use Rattle.reducer.proofs.Left.{stretch-told}

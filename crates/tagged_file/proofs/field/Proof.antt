@@ -1,9 +1,9 @@
 -- `field` hands back the payload of an accepted field, and an empty part of a refused one. From what an accepted field has.
 use native.Mathlib.Omega.{arith}
-use Rattle.tagged_file.proofs.Checked.{due-is, part}
+use Rattle.file_checks.proofs.Checked.{due-is, part}
 use Rattle.graph.proofs.Tests.{equal, unequal}
 use mathlib.Core.Path.{refl}
-use Rattle.tagged_file.specs.File.{fieldPayload}
+use Rattle.file_checks.specs.File.{fieldPayload}
 use denote.Ref.{now}
 use borrow.Author.Needs.{needs}
 use Rattle.tagged_file.proofs.field.Statement.{statement}

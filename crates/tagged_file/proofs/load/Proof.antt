@@ -3,8 +3,8 @@ use native.Mathlib.Omega.{arith}
 use mathlib.Core.Path.{sym, _∙_}
 use denote.Ref.{now}
 use borrow.Author.Needs.{needs}
-use Rattle.tagged_file.proofs.Bounds.{file-fault}
-use Rattle.tagged_file.proofs.Checked.{rest}
+use Rattle.file_checks.proofs.Bounds.{file-fault}
+use Rattle.file_checks.proofs.Checked.{rest}
 use Rattle.tagged_file.proofs.Whole.{passed, nodes-asked, outs-asked, load-refused, load-accepted}
 use Rattle.tagged_file.proofs.load.Statement.{statement}
 use Rattle.tagged_file.proofs.load.Tie as tie

@@ -5,7 +5,7 @@ use denote.Ref.{now}
 use lib.ListN.{length, length-set}
 use borrow.Author.Needs.{needs}
 use Rattle.graph.specs.Graph.{graphOf}
-use Rattle.tagged_file.proofs.Checked.{rest}
+use Rattle.file_checks.proofs.Checked.{rest}
 use Rattle.replay.proofs.Left.{CallsLeft, calls-more, calls-none}
 use Rattle.replay.proofs.calls.make_calls.Statement.{statement}
 use Rattle.replay.proofs.calls.make_calls.Tie as tie

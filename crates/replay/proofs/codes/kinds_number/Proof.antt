@@ -4,7 +4,7 @@ use native.Mathlib.Omega.{arith}
 use denote.Ref.{now}
 use lib.ListN.{length, getD}
 use Rattle.graph.proofs.Tests.{less, no-less, stops, goes}
-use Rattle.tagged_file.proofs.Checked.{rest}
+use Rattle.file_checks.proofs.Checked.{rest}
 use Rattle.replay.specs.Replay.{kindsNumber}
 use Rattle.replay.proofs.Refusing.{kinds-step, kinds-done}
 use Rattle.replay.proofs.codes.kinds_number.Statement.{statement}

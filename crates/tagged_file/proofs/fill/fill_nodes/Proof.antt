@@ -3,8 +3,8 @@ use native.Mathlib.Omega.{arith}
 use mathlib.Core.Path.{refl}
 use denote.Ref.{now}
 use lib.ListN.{length-set}
-use Rattle.tagged_file.proofs.Checked.{rest-at}
-use Rattle.tagged_file.specs.File.{nodeSize}
+use Rattle.file_checks.proofs.Checked.{rest-at}
+use Rattle.file_checks.specs.File.{nodeSize}
 use Rattle.tagged_file.proofs.Filled.{NodesLeft, nodes-left-room, nodes-left-more, nodes-left-none}
 use Rattle.tagged_file.proofs.fill.fill_nodes.Statement.{statement}
 use Rattle.tagged_file.proofs.fill.fill_nodes.Tie as tie

@@ -2,7 +2,7 @@
 use native.Mathlib.Omega.{arith}
 use mathlib.Core.Path.{refl}
 use denote.Ref.{now}
-use Rattle.tagged_file.proofs.Checked.{rest}
+use Rattle.file_checks.proofs.Checked.{rest}
 use Rattle.tagged_file.proofs.Filled.{OutsLeft, outs-left-room, outs-left-more, outs-left-none}
 use Rattle.tagged_file.proofs.fill.fill_outputs.Statement.{statement}
 use Rattle.tagged_file.proofs.fill.fill_outputs.Tie as tie

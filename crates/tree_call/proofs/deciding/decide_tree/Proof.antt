@@ -3,8 +3,8 @@ use Prim.Native.Nat.{_+_, _-_, _*_, _≤_}
 use native.Mathlib.Omega.{arith}
 use lib.ListN.{length}
 use Rattle.graph.specs.Graph.{Graph, graphOf}
-use Rattle.tree_call.proofs.Noting.{sized-by}
-use Rattle.tree_call.proofs.Falling.{chosen-low}
+use Rattle.tree_choice.proofs.Noting.{sized-by}
+use Rattle.tree_choice.proofs.Falling.{chosen-low}
 use Rattle.tree_call.proofs.Bridge.{places-kept, rising-of, turns-tree}
 use borrow.Author.Needs.{needs}
 use Rattle.tree_call.proofs.deciding.decide_tree.Statement.{statement}

@@ -2,7 +2,7 @@
 use Rattle.moves.proofs.Shown.{shown-both}
 use native.Mathlib.Omega.{arith}
 use Rattle.graph.specs.Graph.{Graph, graphOf}
-use Rattle.tree_call.proofs.Noting.{sized-by}
+use Rattle.tree_choice.proofs.Noting.{sized-by}
 use Rattle.tree_call.proofs.Saved.{readers-low}
 use borrow.Author.Needs.{needs}
 use Rattle.tree_call.proofs.deciding.root_move.Statement.{statement}

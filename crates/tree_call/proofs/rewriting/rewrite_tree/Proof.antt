@@ -3,7 +3,7 @@ use Rattle.moves.specs.Tree.{tree}
 use mathlib.Core.Path.{_∙_}
 use native.Mathlib.Omega.{arith}
 use Rattle.graph.specs.Graph.{Graph, graphOf}
-use Rattle.tree_call.proofs.Noting.{sized-by}
+use Rattle.tree_choice.proofs.Noting.{sized-by}
 use Rattle.tree_call.proofs.Saved.{written-admitted, rewrite-is}
 use borrow.Author.Needs.{needs}
 use Rattle.tree_call.proofs.rewriting.rewrite_tree.Statement.{statement}

@@ -4,7 +4,7 @@ use Rattle.graph.proofs.Sweep.{swept}
 use mathlib.Core.Path.{_≡_, refl}
 use native.Mathlib.Omega.{arith}
 use lib.ListN.{length}
-use Rattle.tree_call.specs.Arrays.{turnedOut}
+use Rattle.tree_choice.specs.Arrays.{turnedOut}
 use Rattle.tree_call.proofs.Turned.{sweep-begin, sweep-read, sweep-length, sweep-step, sweep-end, out-turned}
 use Rattle.tree_call.proofs.turning.turn_outputs.Statement.{statement}
 use Rattle.tree_call.proofs.turning.turn_outputs.Tie as tie

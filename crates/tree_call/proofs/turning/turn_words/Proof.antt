@@ -4,7 +4,7 @@ use Rattle.graph.proofs.Sweep.{swept}
 use mathlib.Core.Path.{_≡_, refl}
 use native.Mathlib.Omega.{arith}
 use lib.ListN.{length}
-use Rattle.tree_call.specs.Arrays.{turnedWord}
+use Rattle.tree_choice.specs.Arrays.{turnedWord}
 use Rattle.tree_call.proofs.Turned.{sweep-begin, sweep-read, sweep-length, sweep-step, sweep-end, word-low, word-turned}
 use Rattle.tree_call.proofs.turning.turn_words.Statement.{statement}
 use Rattle.tree_call.proofs.turning.turn_words.Tie as tie

@@ -1,0 +1,64 @@
+// One field, at the front of the bytes that are left.
+ghost use mathlib.Core.Path.{_≡_};
+ghost use Prim.Native.Nat.{_≤_, _<_};
+ghost use lib.ListN.{length};
+ghost use Rattle.file_checks.specs.File.{payloadOf, dueNumber, nodeSize, third};
+ghost use Rattle.file_checks.specs.Walk.{NodeRoom};
+use crate::bytes;
+use graph::literal::MARK;
+
+// The length of a tag's payload.
+pub fn payload(tag: u8) -> u32
+    ensures { λ r. ⌜ (r ≡ payloadOf tag) × (r ≤ 65536) ⌝ }
+{
+    match tag {
+        1 => 12,
+        2 => 12,
+        3 => 8,
+        4 => 4,
+        5 => 0,
+        _ => 65536,
+    }
+}
+
+// The number that refuses the field, where a tag from low to high is due.
+pub fn due(s: &[u8], low: u8, high: u8) -> u32
+    ensures { λ r. ⌜ r ≡ dueNumber low high (now (s .entry)) ⌝ }
+{
+    if s.len() < 3 {
+        return 1;
+    }
+    let tag = s[0];
+    if tag < low {
+        return 2;
+    }
+    if high < tag {
+        return 2;
+    }
+    let n = payload(tag);
+    if bytes::two(s, 1) != n {
+        return 2;
+    }
+    if s.len() < 3 + n as usize {
+        return 1;
+    }
+    0
+}
+
+pub fn node_size(s: &[u8]) -> usize
+    requires { ⌜ 0 < length (now s) ⌝ }
+    ensures { λ r. ⌜ (r ≡ nodeSize (now (s .entry))) × (r ≤ 65539) ⌝ }
+{
+    3 + payload(s[0]) as usize
+}
+
+pub fn third_word(s: &[u8]) -> u32
+    requires { ⌜ NodeRoom (now s) ⌝ }
+    ensures { λ r. ⌜ r ≡ third (now (s .entry)) ⌝ }
+{
+    let tag = s[0];
+    if tag == 3 {
+        return MARK;
+    }
+    bytes::four(s, 11)
+}

@@ -1,0 +1,5 @@
+pub mod Fields
+pub mod Noting
+pub mod Edges
+pub mod Rising
+pub mod Falling
