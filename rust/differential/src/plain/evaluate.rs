@@ -3,16 +3,14 @@
 use super::{check_limits, check_literals, check_tables, Number, View};
 use reducer::MARK;
 
+/// The slice is picked before it is read, so that there is one read and no branch that inputs and nodes take in turn.
 fn value(inputs: u32, input_words: &[u64], values: &[u64], literal: u32) -> u64 {
     let index = literal / 2;
-    let word = if index == 0 {
-        0
-    } else if index <= inputs {
-        input_words[index as usize - 1]
-    } else {
-        values[(index - inputs - 1) as usize]
-    };
-    word ^ (literal as u64 & 1).wrapping_neg()
+    if index == 0 {
+        return (literal as u64).wrapping_neg();
+    }
+    let (words, first) = if index <= inputs { (input_words, 1) } else { (values, inputs + 1) };
+    words[(index - first) as usize] ^ (literal as u64 & 1).wrapping_neg()
 }
 
 pub fn evaluate(g: &View, input_words: &[u64], scratch: &mut [u64], results: &mut [u64]) -> Result<(), Number> {
