@@ -1,7 +1,8 @@
 ghost use mathlib.Core.Path.{_≡_};
-ghost use Rattle.graph.specs.Finite.{first, ifLess};
+ghost use Rattle.graph.specs.Finite.{ifLess};
 ghost use Rattle.graph.specs.Graph.{graphOf};
 ghost use Rattle.evaluation.specs.Evaluation.{evaluateNumber};
+use graph::checks::first_fault;
 
 // The number that refuses an evaluation, by the lengths of the input words, scratch and results; 0 is none.
 pub fn evaluate_number(
@@ -41,13 +42,4 @@ fn scratch_number(nodes: u32, scratch: usize) -> u32
         return 8;
     }
     0
-}
-
-fn first_fault(a: u32, b: u32) -> u32
-    ensures { λ r. ⌜ r ≡ first a b ⌝ }
-{
-    if a != 0 {
-        return a;
-    }
-    b
 }

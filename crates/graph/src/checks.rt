@@ -146,6 +146,16 @@ pub fn admission_number(
     literal_number(inputs, nodes, outputs, node_table, output_table)
 }
 
+// The first of two faults; 0 is none.
+pub fn first_fault(a: u32, b: u32) -> u32
+    ensures { λ r. ⌜ r ≡ first a b ⌝ }
+{
+    if a != 0 {
+        return a;
+    }
+    b
+}
+
 // The refusal of a number that is not 0.
 pub fn refused_by(number: u32) -> Refusal
     requires { ⌜ (1 ≤ number) × (number ≤ 9) ⌝ }

@@ -13,12 +13,13 @@ ghost use Rattle.incremental.specs.State.{stands, Ordered};
 ghost use Rattle.incremental_trees.specs.Costing.{innerAt, costAt, LeastCost, CostBits, CostedBelow, CostsOnly};
 use crate::fields::read;
 use crate::fields::store;
-use crate::fields::wide;
 use graph::literal;
 use graph::literal::MARK;
 use incremental::state;
 use moves::decide;
 use moves::rows;
+use moves::words::over;
+use moves::words::wide;
 
 // One of two stored bits.
 pub fn stored_bit(x: u32, b: u32) -> u32
@@ -108,16 +109,6 @@ pub fn tree_numbers(
         word_number(inputs, nodes, at + 2, z, 0, scratch),
         word_number(inputs, nodes, at + 2, z, 1, scratch),
     ]
-}
-
-// a - b, or 0.
-pub fn over(a: u32, b: u32) -> u32
-    ensures { λ r. ⌜ r ≡ a - b ⌝ }
-{
-    if b < a {
-        return a - b;
-    }
-    0
 }
 
 // What a node with these numbers and one reader costs at least, shown the bit s.

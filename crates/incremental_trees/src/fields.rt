@@ -18,16 +18,3 @@ pub fn store(scratch: &mut [u32], v: usize, f: usize, x: u32)
 {
     scratch[8 * v + f] = x;
 }
-
-pub fn wide(x: u32) -> usize
-    ensures { λ r. ⌜ r ≡ x ⌝ }
-{
-    x as usize
-}
-
-pub fn narrow(x: usize) -> u32
-    requires { ⌜ x < 1000000 ⌝ }
-    ensures { λ r. ⌜ r ≡ x ⌝ }
-{
-    x as u32
-}

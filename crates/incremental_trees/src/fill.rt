@@ -4,11 +4,11 @@ ghost use Prim.Native.Nat.{ℕ, _+_, _*_, _≤_, _<_};
 ghost use lib.ListN.{length};
 ghost use Rattle.incremental.specs.State.{field};
 ghost use Rattle.incremental_trees.specs.Filling.{Cleared, Counting, Noted, Noting, Notes, onlyPlace, Gathered, GatheredTo};
-use crate::fields::narrow;
 use crate::fields::read;
 use crate::fields::store;
-use crate::fields::wide;
 use graph::literal::MARK;
+use moves::words::narrow;
+use moves::words::wide;
 
 pub fn clear(nodes: usize, scratch: &mut [u32])
     requires { ⌜ (nodes ≤ 100000) × (8 * nodes ≤ length (now scratch)) ⌝ }

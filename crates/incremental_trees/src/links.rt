@@ -4,11 +4,11 @@ ghost use Prim.Native.Nat.{_+_, _*_, _/_, _≤_, _<_};
 ghost use lib.ListN.{length};
 ghost use Rattle.incremental.specs.State.{field};
 ghost use Rattle.incremental_trees.specs.Linking.{Rising, Bounded, rootAt, RootLinked, BelowLinked, LinkedAt, LowKept, LinkingAny};
-use crate::fields::narrow;
 use crate::fields::read;
 use crate::fields::store;
-use crate::fields::wide;
 use graph::literal::MARK;
+use moves::words::narrow;
+use moves::words::wide;
 
 // The root of a linked node.
 pub fn root_at(scratch: &[u32], w: usize) -> usize

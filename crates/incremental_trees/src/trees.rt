@@ -14,13 +14,13 @@ ghost use Rattle.incremental.specs.Step.{Made};
 ghost use Rattle.incremental_trees.specs.Costing.{innerAt, costAt, CostedBelow};
 ghost use Rattle.incremental_trees.specs.Stepping.{TreeMade, treeMoved};
 use crate::costs;
-use crate::fields::narrow;
 use crate::fields::read;
-use crate::fields::wide;
 use graph::literal::MARK;
 use incremental::moving;
 use moves::decide;
 use moves::rows;
+use moves::words::narrow;
+use moves::words::wide;
 
 // The first least move of node v, with the costs stored below it.
 pub fn decide_at(

@@ -1,4 +1,4 @@
--- A scan for the first least number: the loop's three steps. Assumes nothing.
+-- The first least of some numbers, found one by one: the start, and the two ways to go on. Assumes nothing.
 use Prim.Native.Nat.{ℕ, _+_, _≤_, _<_}
 use mathlib.Core.Path.{_≡_, ap}
 use native.Mathlib.Omega.{arith}

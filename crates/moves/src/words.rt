@@ -1,7 +1,7 @@
 // What the words of a node add to C, as they stand and turned.
 ghost use mathlib.Core.Path.{_≡_};
 ghost use mathlib.Core.List.{List};
-ghost use Prim.Native.Nat.{ℕ, _+_, _*_, _/_, _%_, _≤_, _<_};
+ghost use Prim.Native.Nat.{ℕ, _+_, _-_, _*_, _/_, _%_, _≤_, _<_};
 ghost use lib.ListN.{length};
 ghost use Rattle.graph.specs.Finite.{ifEqual};
 ghost use Rattle.graph.specs.Graph.{graphOf, turn, mark};
@@ -83,4 +83,27 @@ pub fn which_name(node_table: &[u32], v: usize, u: u32) -> [u32; 3]
     let y = node_table[at + 1];
     let z = node_table[at + 2];
     [names(x, u), names(y, u), names(z, u)]
+}
+
+// a - b, or 0.
+pub fn over(a: u32, b: u32) -> u32
+    ensures { λ r. ⌜ r ≡ a - b ⌝ }
+{
+    if b < a {
+        return a - b;
+    }
+    0
+}
+
+pub fn wide(x: u32) -> usize
+    ensures { λ r. ⌜ r ≡ x ⌝ }
+{
+    x as usize
+}
+
+pub fn narrow(x: usize) -> u32
+    requires { ⌜ x < 1000000 ⌝ }
+    ensures { λ r. ⌜ r ≡ x ⌝ }
+{
+    x as u32
 }

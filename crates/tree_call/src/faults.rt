@@ -2,11 +2,11 @@
 ghost use mathlib.Core.Path.{_≡_};
 ghost use mathlib.Core.List.{List};
 ghost use Prim.Native.Nat.{ℕ, _+_, _*_, _≤_, _<_};
-ghost use Rattle.graph.specs.Finite.{first};
 ghost use Rattle.graph.specs.Graph.{graphOf};
 ghost use Rattle.graph.specs.Admission.{Admitted};
 ghost use Rattle.moves.specs.Call.{rootFault, scratchFault, treeNumber};
 use graph::checks::admission_number;
+use graph::checks::first_fault;
 use moves::faults::node_fault;
 use moves::reading::readers_of;
 
@@ -43,14 +43,6 @@ pub fn scratch_fault(nodes: u32, length: usize) -> u32
 }
 
 // The first fault of two.
-pub fn first_of(a: u32, b: u32) -> u32
-    ensures { λ r. ⌜ r ≡ first a b ⌝ }
-{
-    if a != 0 {
-        return a;
-    }
-    b
-}
 
 pub fn tree_number(
     inputs: u32,
@@ -73,5 +65,5 @@ pub fn tree_number(
     }
     let tree = root_fault(inputs, nodes, outputs, node_table, output_table, root);
     let room = scratch_fault(nodes, length);
-    first_of(tree, room)
+    first_fault(tree, room)
 }

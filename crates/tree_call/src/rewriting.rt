@@ -12,7 +12,7 @@ use crate::deciding::decide_tree;
 use crate::turning::turn_outputs;
 use crate::turning::turn_words;
 use graph::edges::complemented;
-use tree_choice::words::over;
+use moves::words::over;
 
 // What the call saves.
 pub fn rewrite_tree(

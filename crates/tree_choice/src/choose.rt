@@ -7,10 +7,10 @@ ghost use Rattle.moves.specs.Rows.{arity, flag};
 ghost use Rattle.tree_choice.specs.Arrays.{field, nodesIn, showsAt, ChosenAt, Chosen, Deciding, MovesFrom, KeptBut, Flagged};
 use crate::costs::best_move;
 use crate::words::bit_of;
-use crate::words::wide;
 use graph::literal::MARK;
 use moves::rows::flag_of;
 use moves::rows::is_xor;
+use moves::words::wide;
 
 // The bit that the word at place p shows the node that it names.
 pub fn shown_bit(node_table: &[u32], scratch: &[u32], p: usize) -> u32

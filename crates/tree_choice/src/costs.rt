@@ -6,12 +6,12 @@ ghost use Rattle.moves.specs.Cost.{edgeCost, turnedCost, wordCosts, nodeCost};
 ghost use Rattle.tree_choice.specs.Arrays.{innerAt, costAt, nodesIn, Sized, FirstMove, Filled, KeptBut};
 use crate::words::bit_of;
 use crate::words::index_of;
-use crate::words::over;
 use graph::literal::MARK;
 use graph::literal::is_edge;
 use moves::decide::first_least;
 use moves::decide::least_move;
 use moves::rows::is_xor;
+use moves::words::over;
 
 // What an edge costs that names index u, its bit being b after its own node's move.
 pub fn edge_cost(inputs: usize, scratch: &[u32], u: usize, b: usize) -> u32

@@ -7,9 +7,9 @@ ghost use Rattle.graph.specs.Graph.{graphOf, mark};
 ghost use Rattle.graph.specs.Admission.{Admitted};
 ghost use Rattle.tree_choice.specs.Arrays.{field, Sized, Cleared, Noted, CountsBelow, CountedMore, outReader, outReaders, OutsBelow, OnlyPlaces, Places};
 use crate::words::index_of;
-use crate::words::narrow;
 use graph::literal::MARK;
 use graph::literal::is_edge;
+use moves::words::narrow;
 
 // No reader seen yet.
 pub fn clear_readers(nodes: usize, scratch: &mut [u32])

@@ -1,6 +1,6 @@
 // Words taken apart.
 ghost use mathlib.Core.Path.{_≡_};
-ghost use Prim.Native.Nat.{_+_, _-_, _/_, _%_, _<_};
+ghost use Prim.Native.Nat.{_+_, _/_, _%_, _<_};
 
 pub fn index_of(x: u32) -> usize
     ensures { λ r. ⌜ r ≡ x / 2 ⌝ }
@@ -13,27 +13,4 @@ pub fn bit_of(x: u32, f: usize) -> usize
     ensures { λ r. ⌜ r ≡ (x + f) % 2 ⌝ }
 {
     ((x % 2) as usize + f) % 2
-}
-
-// a - b, or 0.
-pub fn over(a: u32, b: u32) -> u32
-    ensures { λ r. ⌜ r ≡ a - b ⌝ }
-{
-    if b < a {
-        return a - b;
-    }
-    0
-}
-
-pub fn wide(x: u32) -> usize
-    ensures { λ r. ⌜ r ≡ x ⌝ }
-{
-    x as usize
-}
-
-pub fn narrow(x: usize) -> u32
-    requires { ⌜ x < 1000000 ⌝ }
-    ensures { λ r. ⌜ r ≡ x ⌝ }
-{
-    x as u32
 }

@@ -54,8 +54,8 @@ scratch-fault-requires c κs =
     let e : admissionNumber g ≡ 0 = sym (c .before .before .before .before .admission-number .ensures) ∙ c .before .before .before .if1 .left in
     admitted g e .few-nodes
 
-first-of-requires : tie.Need-first-of-requires
-first-of-requires c κs = search needs
+first-fault-requires : tie.Need-first-fault-requires
+first-fault-requires c κs = search needs
 
 returns-3 : tie.Need-returns-3
 returns-3 c =
@@ -64,7 +64,7 @@ returns-3 c =
     let g : Graph = graphOf (a .inputs) (a .nodes) (a .outputs) (a .node-table .now) (a .output-table .now) in
     let e : admissionNumber g ≡ 0 = sym (c .before .before .before .before .before .before .admission-number .ensures) ∙ c .before .before .before .before .before .if1 .left in
     let n : nodeFault g (a .root) ≡ 0 = sym (c .before .before .before .before .node-fault .ensures (a .outputs) (a .node-table .now) (a .output-table .now)) ∙ c .before .before .before .if2 .left in
-    by-rest g (a .length) (a .root) e n (c .first-of .result) (c .before .before .root-fault .result) (c .before .scratch-fault .result) (c .first-of .ensures) (c .before .before .root-fault .ensures) (c .before .scratch-fault .ensures (a .inputs) (a .outputs) (a .node-table .now) (a .output-table .now))
+    by-rest g (a .length) (a .root) e n (c .first-fault .result) (c .before .before .root-fault .result) (c .before .scratch-fault .result) (c .first-fault .ensures) (c .before .before .root-fault .ensures) (c .before .scratch-fault .ensures (a .inputs) (a .outputs) (a .node-table .now) (a .output-table .now))
 
 pub tree-number-spec : {M : Type 1} → statement M
 tree-number-spec =
@@ -76,5 +76,5 @@ tree-number-spec =
     returns-2
     root-fault-requires
     scratch-fault-requires
-    first-of-requires
+    first-fault-requires
     returns-3)

@@ -1,8 +1,8 @@
 -- `checks::first_fault` meets its contract. From the laws on tests.
 use mathlib.Core.Path.{refl}
 use Rattle.graph.proofs.Tests.{fault, none}
-use Rattle.evaluation.proofs.checks.first_fault.Statement.{statement}
-use Rattle.evaluation.proofs.checks.first_fault.Tie as tie
+use Rattle.graph.proofs.checks.first_fault.Statement.{statement}
+use Rattle.graph.proofs.checks.first_fault.Tie as tie
 
 returns : tie.Need-returns
 returns c = fault _ _ refl (c .if1 .taken)
