@@ -7,4 +7,7 @@ pub mod TreeNumbers
 pub mod EdgeCosts
 pub mod Ready
 pub mod CostPass
-pub mod MovePass
+pub mod Falling
+pub mod Shown
+pub mod DecidePass
+pub mod MakePass

@@ -1,4 +1,5 @@
 pub mod costs;
+pub mod deciding;
 pub mod fields;
 pub mod fill;
 pub mod links;

@@ -46,7 +46,7 @@ module _ (g : Graph) (r : ℕ) (m : Choice) where
           rw (q, undecided-past g r n (node g n) (omega arith), undecided-yes g r (suc n) (node g n) (omega arith) (omega arith) e)
           (at-same d (node g n) (m (node g n))))
 
-  put-tree : put none (tree g r) (map m (tree g r)) ≡ within g r m
+  pub put-tree : put none (tree g r) (map m (tree g r)) ≡ within g r m
   unfolding tree within undecided
   put-tree = fun-ext (λ u. put-members (g .N) none u)
 

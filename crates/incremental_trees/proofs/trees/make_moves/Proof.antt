@@ -1,34 +1,33 @@
--- `make_moves` meets its contract: the nodes of the tree passed are decided, and their moves made. From the laws on the pass.
+-- `make_moves` meets its contract: the moves of the tree's nodes passed are made. From the laws on the pass.
 use mathlib.Core.Path.{_≡_, refl, sym, ap, _∙_}
 use mathlib.Core.Bool.{true}
 use mathlib.Core.List.{List}
 use mathlib.Core.Logic.{_≢_}
-use Prim.Native.Nat.{ℕ, suc, _+_, _-_, _≤_, _<_}
+use Prim.Native.Nat.{ℕ, suc, _+_, _≤_, _<_}
 use lib.ListN.{length}
 use Rattle.graph.specs.Graph.{Graph, graphOf, mark, node, isXor}
 use Rattle.graph.specs.Count.{C}
-use Rattle.choice.specs.Choice.{FirstBelow}
 use Rattle.moves.specs.Rows.{arity}
 use Rattle.moves.specs.Apply.{apply, at, none}
 use Rattle.moves.specs.Tree.{isRoot, rootOf, tree}
 use Rattle.moves.specs.Call.{moved, bestAt}
-use Rattle.moves.specs.Cost.{wordCosts}
-use Rattle.moves.specs.Decide.{costWith}
+use Rattle.moves.proofs.Apply.{same-xor}
 use Rattle.moves.proofs.Readers.{rootOf-root}
 use Rattle.incremental.specs.State.{field, stands, Ordered}
 use Rattle.incremental.specs.Step.{Made}
-use Rattle.incremental.proofs.Alike.{alike-isRoot}
+use Rattle.incremental.proofs.Alike.{alike-isRoot, alike-xor}
 use Rattle.incremental.proofs.Stands.{stands-alike}
-use Rattle.incremental_trees.specs.Costing.{innerAt, costAt, CostedBelow}
-use Rattle.incremental_trees.proofs.Ready.{Ready, ordered-ready}
-use Rattle.incremental_trees.proofs.MovePass.{DecidedFrom, boundOf, bound-mark, bound-node, decided-begin, decided-all, decided-next, decided-step, same-I}
+use Rattle.incremental_trees.specs.Deciding.{TreeDecided}
+use Rattle.incremental_trees.proofs.Ready.{Ready, ordered-ready, stands-I}
+use Rattle.incremental_trees.proofs.Falling.{boundOf, bound-mark, bound-node, next-lower}
+use Rattle.incremental_trees.proofs.MakePass.{MadeFrom, made-begin, made-down, made-all, made-step}
 use native.Mathlib.Omega.{arith}
 use borrow.Author.Needs.{needs}
 use Rattle.incremental_trees.proofs.trees.make_moves.Statement.{statement}
 use Rattle.incremental_trees.proofs.trees.make_moves.Tie as tie
 
 record Inv (g₀ : Graph) (sc₁ : List ℕ) (r : ℕ) (g : Graph) (sc : List ℕ) (v now : ℕ) : Type 0 where
-  df : DecidedFrom (stands g₀ sc₁) sc₁ r (boundOf v) g sc
+  mf : MadeFrom (stands g₀ sc₁) sc₁ r (boundOf v) g sc
   here : v ≢ mark → (v ≤ r) × (rootOf (stands g₀ sc₁) (node (stands g₀ sc₁) v) ≡ node (stands g₀ sc₁) r)
   count : now ≡ C (stands g sc)
   tables : length (g .nodes) ≡ length (g₀ .nodes)
@@ -40,56 +39,78 @@ module _ (g₀ : Graph) (sc₁ : List ℕ) (o : Ordered g₀ sc₁) (r : ℕ) (h
   ready : Ready k sc₁
   ready = ordered-ready g₀ sc₁ o
 
-  root-now : isRoot k (node k r) ≡ true
-  unfolding stands
-  root-now = alike-isRoot g₀ (stands g₀ sc₁) (stands-alike g₀ sc₁ (o .admitted)) (node g₀ r) ∙ t
-
   within : r < k .N
   unfolding stands
   within = h
 
   own-root : rootOf k (node k r) ≡ node k r
-  own-root = rootOf-root k (ready .admitted) (node k r) root-now
+  unfolding stands
+  own-root = rootOf-root k (ready .admitted) (node k r) (alike-isRoot g₀ (stands g₀ sc₁) (stands-alike g₀ sc₁ (o .admitted)) (node g₀ r) ∙ t)
 
   begin : (v now : ℕ) → v ≡ r → now ≡ C (stands g₀ sc₁) → Inv g₀ sc₁ r g₀ sc₁ v now
   begin v now e q =
       let d : v ≢ mark = λ z. omega (arith, o .admitted .few-nodes) in
       record {
-        df = rw (bound-node v d, e) (decided-begin k sc₁ ready r within root-now g₀ o refl);
+        mf = rw (bound-node v d, e) (made-begin k sc₁ (ready .admitted) r within g₀ o refl);
         here = λ z. rw e (omega arith, own-root);
         count = q;
         tables = refl;
       }
 
-  again : CostedBelow k sc₁ (node g₀ r) r → (g g′ : Graph) (sc sc′ : List ℕ) (v now w m c x : ℕ) → Inv g₀ sc₁ r g sc v now → v ≢ mark → w ≡ v
-      → FirstBelow (costWith (isXor g w) (wordCosts (stands g sc) (innerAt (g .I) sc) (costAt (g .I) sc) w) (field sc w 0) (field sc w 1)) (arity (isXor g w)) m
-      → Made sc g′ sc′ (apply (stands g sc) (at none (g .I + 1 + w) m)) c → length (g′ .nodes) ≡ length (g .nodes) → x ≡ field sc′ w 5
-      → Inv g₀ sc₁ r g′ sc′ x c × (boundOf x < boundOf v)
-  unfolding stands
-  again cd g g′ sc sc′ v now w m c x iv d e fb mk l q =
-      let a : (w ≤ r) × (rootOf k (node k w) ≡ node k r) = rw e (iv .here d) in
-      let df : DecidedFrom k sc₁ r (suc w) g sc = rw (e, ← bound-node v d) (iv .df) in
-      let ei = same-I k sc₁ ready r within root-now cd w (a .0) (a .1) g sc df in
-      let st = decided-step k sc₁ ready r within root-now cd w (a .0) (a .1) g sc df m (g .I) (isXor g w) ei refl fb g′ sc′ (mk .became) in
-      let nx = decided-next k sc₁ ready r within root-now g′ sc′ w x (omega arith) (a .1) q st in (
-        record {
-          df = nx .0;
-          here = λ z. let b = nx .2 z in (omega arith, b .1);
-          count = mk .count ∙ ap C (sym (mk .became .stands-for));
-          tables = l ∙ iv .tables;
-        },
-        omega (arith, nx .1, bound-node v d),
-      )
+  module _ (td : TreeDecided k (node k r) sc₁) (g : Graph) (sc : List ℕ) (v now : ℕ) (iv : Inv g₀ sc₁ r g sc v now) (d : v ≢ mark) (w m : ℕ) (e : w ≡ v) (em : m ≡ field sc w 4) where
+    low : w ≤ r
+    low = rw e (iv .here d .0)
 
-  last : (g : Graph) (sc : List ℕ) (v now : ℕ) → Inv g₀ sc₁ r g sc v now → v ≡ mark → Made sc₁ g sc (moved k (tree k (node g₀ r)) (bestAt k (tree k (node g₀ r)))) now
+    in-tree : rootOf k (node k w) ≡ node k r
+    in-tree = rw e (iv .here d .1)
+
+    passed : MadeFrom k sc₁ r (suc w) g sc
+    passed = rw (e, ← bound-node v d) (iv .mf)
+
+    stored : m ≡ field sc₁ w 4
+    stored = em ∙ passed .kept .others w 4 (omega arith) (λ z. omega arith) (λ z. omega arith)
+
+    fits : m < arity (isXor k w)
+    fits = rw stored (td .permitted w (omega (arith, low, within)) in-tree)
+
+    fits-now : m < arity (isXor g w)
+    fits-now =
+        let q : isXor g w ≡ isXor k w =
+        sym (alike-xor g (stands g sc) (stands-alike g sc (passed .ordered .admitted)) w) ∙ ap (λ z. isXor z w) (passed .stands-for) ∙ same-xor k (passed .d) (ready .admitted) w in
+        rw q fits
+
+    same-I : g .I ≡ k .I
+    unfolding apply
+    same-I = sym (stands-I g sc) ∙ ap (λ x. x .I) (passed .stands-for)
+
+    again : (g′ : Graph) (sc′ : List ℕ) (c x : ℕ) → Made sc g′ sc′ (apply (stands g sc) (at none (g .I + 1 + w) m)) c → length (g′ .nodes) ≡ length (g .nodes) → x ≡ field sc′ w 5
+        → Inv g₀ sc₁ r g′ sc′ x c × (boundOf x < boundOf v)
+    again g′ sc′ c x mk l q =
+        let b : w < k .N = omega (arith, low, within) in
+        let st = made-step k sc₁ (ready .admitted) r within w b in-tree g sc passed m fits stored (g .I) same-I g′ sc′ (mk .became) in
+        let n = next-lower k sc₁ ready r w x b in-tree (q ∙ st .kept .others w 5 (omega arith) (λ z. omega arith) (λ z. omega arith)) in (
+          record {
+            mf = made-down k sc₁ (ready .admitted) r within w (boundOf x) g′ sc′ (n .bound) (n .free) st;
+            here = λ z. (omega (arith, n .lower z, low), n .here z);
+            count = mk .count ∙ ap C (sym (mk .became .stands-for));
+            tables = l ∙ iv .tables;
+          },
+          omega (arith, n .bound, bound-node v d),
+        )
+
+  last : TreeDecided k (node g₀ r) sc₁ → (g : Graph) (sc : List ℕ) (v now : ℕ) → Inv g₀ sc₁ r g sc v now → v ≡ mark → Made sc₁ g sc (moved k (tree k (node g₀ r)) (bestAt k (tree k (node g₀ r)))) now
   unfolding stands
-  last g sc v now iv e =
-      let df : DecidedFrom k sc₁ r 0 g sc = rw (bound-mark v e) at (iv .df) in
-      let s = decided-all k sc₁ ready r within root-now g sc df in
+  last td g sc v now iv e =
+      let mf : MadeFrom k sc₁ r 0 g sc = rw (bound-mark v e) at (iv .mf) in
+      let s = made-all k sc₁ (ready .admitted) r within g sc td mf in
       record {
-        became = record { ordered = df .ordered; stands-for = s; kept = df .kept };
+        became = record { ordered = mf .ordered; stands-for = s; kept = mf .kept };
         count = iv .count ∙ ap C s;
       }
+
+  as-stands : TreeDecided k (node g₀ r) sc₁ → TreeDecided k (node k r) sc₁
+  unfolding stands
+  as-stands td = td
 
 abbrev Inv-loop : tie.InvT-loop
 Inv-loop inputs nodes outputs node-table₀ output-table root count scratch₀ c₀ v₀ node-table scratch c v = Inv (graphOf inputs nodes outputs node-table₀ output-table) scratch₀ root (graphOf inputs nodes outputs node-table output-table) scratch v c
@@ -106,33 +127,36 @@ loop-holds c = let p = c .before .before .before .before .pre in begin _ _ (p .0
 wide-requires : tie.Need-wide-requires Inv-loop μ-loop
 wide-requires c κs = search needs
 
-decide-at-requires : tie.Need-decide-at-requires Inv-loop μ-loop
-decide-at-requires c κs = (c .before .before .before .before .loop .inv .df .ordered, omega (arith, c .before .before .before .before .loop .inv .here (λ e. omega arith) .0, c .before .before .wide .ensures, c .before .before .before .before .before .before .before .before .before .pre .1))
+read-requires : tie.Need-read-requires Inv-loop μ-loop
+read-requires c κs = omega (arith, c .before .before .before .loop .inv .here (λ e. omega arith) .0, c .before .before .before .loop .inv .mf .ordered .long, c .before .wide .ensures, c .before .before .before .before .before .before .before .before .pre .1, c .before .before .before .before .before .before .before .before .pre .0 .admitted .few-nodes)
 
 make-move-requires : tie.Need-make-move-requires Inv-loop μ-loop
-make-move-requires c κs = (c .before .before .before .before .before .before .before .loop .inv .df .ordered, omega (arith, c .before .before .before .before .before .before .before .loop .inv .here (λ e. omega arith) .0, c .before .before .before .before .before .wide .ensures, c .before .before .before .before .before .before .before .before .before .before .before .before .pre .1), c .before .before .decide-at .ensures .below, c .before .before .before .before .before .before .before .loop .inv .count)
+make-move-requires c κs =
+    let p = c .before .before .before .before .before .before .before .before .before .before .before .pre in
+    let iv = c .before .before .before .before .before .before .loop .inv in
+    (iv .mf .ordered, omega (arith, iv .here (λ e. omega arith) .0, c .before .before .before .before .wide .ensures, p .1), fits-now _ _ (p .0) _ (p .1) (p .2) (as-stands _ _ (p .0) _ (p .1) (p .2) (p .4)) _ _ _ _ (c .before .before .before .before .before .before .loop .inv) (λ e. omega arith) _ _ (c .before .before .before .before .wide .ensures) (c .before .before .read .ensures), iv .count)
 
-read-requires : tie.Need-read-requires Inv-loop μ-loop
-read-requires c κs = omega (arith, c .before .before .before .before .before .before .before .before .before .before .before .before .before .loop .inv .here (λ e. omega arith) .0, c .before .before .before .before .before .before .before .before .before .before .before .wide .ensures, c .before .before .before .before .before .before .before .before .before .before .before .before .before .before .before .before .before .before .pre .1, c .before .before .before .before .before .before .before .before .before .before .before .before .before .before .before .before .before .before .pre .0 .admitted .few-nodes, c .before .before .before .before .before .make-move .ensures .became .ordered .long)
+read-requires-2 : tie.Need-read-requires-2 Inv-loop μ-loop
+read-requires-2 c κs = omega (arith, c .before .before .before .before .before .before .before .before .before .before .before .before .loop .inv .here (λ e. omega arith) .0, c .before .before .before .before .before .before .before .before .before .before .wide .ensures, c .before .before .before .before .before .before .before .before .before .before .before .before .before .before .before .before .before .pre .1, c .before .before .before .before .before .before .before .before .before .before .before .before .before .before .before .before .before .pre .0 .admitted .few-nodes, c .before .before .before .before .before .make-move .ensures .became .ordered .long)
 
 loop-less : tie.Need-loop-less Inv-loop μ-loop
 loop-less c =
-    let p = c .before .before .before .before .before .before .before .before .before .before .before .before .before .before .before .before .before .before .before .pre in
-    again _ _ (p .0) _ (p .1) (p .2) (p .4) _ _ _ _ _ _ _ _ _ _ (c .before .before .before .before .before .before .before .before .before .before .before .before .before .before .loop .inv) (λ e. omega arith) (c .before .before .before .before .before .before .before .before .before .before .before .before .wide .ensures) (c .before .before .before .before .before .before .before .before .before .decide-at .ensures) (c .before .before .before .before .before .before .make-move .ensures) (c .before .before .before .before .before .before .make-move .kept .1 .1 .1 .0) (c .read .ensures) .1
+    let p = c .before .before .before .before .before .before .before .before .before .before .before .before .before .before .before .before .before .before .pre in
+    again _ _ (p .0) _ (p .1) (p .2) (as-stands _ _ (p .0) _ (p .1) (p .2) (p .4)) _ _ _ _ (c .before .before .before .before .before .before .before .before .before .before .before .before .before .loop .inv) (λ e. omega arith) _ _ (c .before .before .before .before .before .before .before .before .before .before .before .wide .ensures) (c .before .before .before .before .before .before .before .before .before .read .ensures) _ _ _ _ (c .before .before .before .before .before .before .make-move .ensures) (c .before .before .before .before .before .before .make-move .kept .1 .1 .1 .0) (c .read2 .ensures) .1
 
 loop-again : tie.Need-loop-again Inv-loop μ-loop
 loop-again c =
-    let p = c .before .before .before .before .before .before .before .before .before .before .before .before .before .before .before .before .before .before .before .pre in
-    again _ _ (p .0) _ (p .1) (p .2) (p .4) _ _ _ _ _ _ _ _ _ _ (c .before .before .before .before .before .before .before .before .before .before .before .before .before .before .loop .inv) (λ e. omega arith) (c .before .before .before .before .before .before .before .before .before .before .before .before .wide .ensures) (c .before .before .before .before .before .before .before .before .before .decide-at .ensures) (c .before .before .before .before .before .before .make-move .ensures) (c .before .before .before .before .before .before .make-move .kept .1 .1 .1 .0) (c .read .ensures) .0
+    let p = c .before .before .before .before .before .before .before .before .before .before .before .before .before .before .before .before .before .before .pre in
+    again _ _ (p .0) _ (p .1) (p .2) (as-stands _ _ (p .0) _ (p .1) (p .2) (p .4)) _ _ _ _ (c .before .before .before .before .before .before .before .before .before .before .before .before .before .loop .inv) (λ e. omega arith) _ _ (c .before .before .before .before .before .before .before .before .before .before .before .wide .ensures) (c .before .before .before .before .before .before .before .before .before .read .ensures) _ _ _ _ (c .before .before .before .before .before .before .make-move .ensures) (c .before .before .before .before .before .before .make-move .kept .1 .1 .1 .0) (c .read2 .ensures) .0
 
 same-length : tie.Need-same-length Inv-loop μ-loop
 same-length c = c .before .loop .inv .tables
 
 same-length-2 : tie.Need-same-length-2 Inv-loop μ-loop
-same-length-2 c = c .before .loop .inv .df .kept .long
+same-length-2 c = c .before .loop .inv .mf .kept .long
 
 returns : tie.Need-returns Inv-loop μ-loop
-returns c = let p = c .before .before .before .before .before .before .pre in last _ _ (p .0) _ (p .1) (p .2) _ _ _ _ (c .before .loop .inv) (omega arith)
+returns c = let p = c .before .before .before .before .before .before .pre in last _ _ (p .0) _ (p .1) (p .2) (p .4) _ _ _ _ (c .before .loop .inv) (omega arith)
 
 pub make-moves-spec : {M : Type 1} → statement M
 make-moves-spec =
@@ -143,9 +167,9 @@ make-moves-spec =
     narrow-requires
     loop-holds
     wide-requires
-    decide-at-requires
-    make-move-requires
     read-requires
+    make-move-requires
+    read-requires-2
     loop-less
     loop-again
     same-length

@@ -1,4 +1,4 @@
--- `tree_step` meets its contract: costs change nothing of what the state stands for. From the laws on states.
+-- `tree_step` meets its contract: deciding changes nothing of what the state stands for. From the laws on states.
 use mathlib.Core.Path.{_≡_, sym, ap, _∙_}
 use mathlib.Core.List.{List}
 use Prim.Native.Nat.{ℕ}
@@ -8,7 +8,8 @@ use Rattle.moves.specs.Tree.{tree}
 use Rattle.moves.specs.Call.{moved, bestAt}
 use Rattle.incremental.specs.State.{stands}
 use Rattle.incremental.specs.Step.{Made}
-use Rattle.incremental_trees.specs.Costing.{CostedBelow, CostsOnly}
+use Rattle.incremental_trees.specs.Costing.{CostsOnly}
+use Rattle.incremental_trees.specs.Deciding.{TreeDecided}
 use Rattle.incremental_trees.specs.Stepping.{TreeMade}
 use Rattle.incremental_trees.proofs.Ready.{ordered-costs, stands-costs, field-kept}
 use borrow.Author.Needs.{needs}
@@ -19,8 +20,8 @@ module _ (g : Graph) (sc sc₁ : List ℕ) (co : CostsOnly sc sc₁) where
   same-count : (c : ℕ) → c ≡ C (stands g sc) → c ≡ C (stands g sc₁)
   same-count c e = e ∙ ap C (sym (stands-costs g sc sc₁ co))
 
-  same-costs : (u r : ℕ) → CostedBelow (stands g sc) sc₁ u r → CostedBelow (stands g sc₁) sc₁ u r
-  same-costs u r t = rw (← stands-costs g sc sc₁ co) at t
+  same-decided : (u : ℕ) → TreeDecided (stands g sc) u sc₁ → TreeDecided (stands g sc₁) u sc₁
+  same-decided u t = rw (← stands-costs g sc sc₁ co) at t
 
   after : (u : ℕ) (g′ : Graph) (sc′ : List ℕ) (c : ℕ) → Made sc₁ g′ sc′ (moved (stands g sc₁) (tree (stands g sc₁) u) (bestAt (stands g sc₁) (tree (stands g sc₁) u))) c
       → TreeMade sc g′ sc′ (moved (stands g sc) (tree (stands g sc) u) (bestAt (stands g sc) (tree (stands g sc) u))) c
@@ -34,14 +35,14 @@ module _ (g : Graph) (sc sc₁ : List ℕ) (co : CostsOnly sc sc₁) where
         count = mk .count ∙ ap C e;
       }
 
-fill-costs-requires : tie.Need-fill-costs-requires
-fill-costs-requires c κs = let p = c .before .before .before .before .before .pre in (p .0, p .1, p .2)
+decide-tree-requires : tie.Need-decide-tree-requires
+decide-tree-requires c κs = search needs
 
 make-moves-requires : tie.Need-make-moves-requires
 make-moves-requires c κs =
     let p = c .before .before .before .before .before .before .before .before .before .before .pre in
-    let f = c .before .before .before .before .fill-costs .ensures in
-    (ordered-costs _ _ _ (f .1) (p .0), p .1, p .2, same-count _ _ _ (f .1) _ (p .3), same-costs _ _ _ (f .1) _ _ (f .0))
+    let f = c .before .before .before .before .decide-tree .ensures in
+    (ordered-costs _ _ _ (f .1) (p .0), p .1, p .2, same-count _ _ _ (f .1) _ (p .3), same-decided _ _ _ (f .1) _ (f .0))
 
 same-length : tie.Need-same-length
 same-length c = search needs
@@ -50,8 +51,8 @@ same-length-2 : tie.Need-same-length-2
 same-length-2 c = search needs
 
 returns : tie.Need-returns
-returns c = after _ _ _ (c .before .before .before .before .before .before .before .before .before .fill-costs .ensures .1) _ _ _ _ (c .before .before .before .before .make-moves .ensures)
+returns c = after _ _ _ (c .before .before .before .before .before .before .before .before .before .decide-tree .ensures .1) _ _ _ _ (c .before .before .before .before .make-moves .ensures)
 
 pub tree-step-spec : {M : Type 1} → statement M
 tree-step-spec =
-    tie.close (tie.spec fill-costs-requires make-moves-requires same-length same-length-2 returns)
+    tie.close (tie.spec decide-tree-requires make-moves-requires same-length same-length-2 returns)
