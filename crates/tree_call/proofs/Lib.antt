@@ -1,4 +1,2 @@
-pub mod Turned
-pub mod Bridge
 pub mod Refused
 pub mod Saved

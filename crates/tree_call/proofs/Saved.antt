@@ -1,35 +1,30 @@
--- Both tables written are the graph after the best moves, admitted again, and the saving is C before less C after. From the
--- laws on `apply`.
-use mathlib.Core.Path.{_≡_}
+-- What a tree call leaves and saves, from what the state stands for after its moves.
+use mathlib.Core.Path.{_≡_, sym, ap, _∙_}
+use mathlib.Core.Bool.{true}
 use mathlib.Core.List.{List, [], _∷_}
-use Prim.Native.Nat.{ℕ, _-_, _*_, _≤_}
+use Prim.Native.Nat.{ℕ, _+_, _-_, _<_}
 use native.Mathlib.Omega.{arith}
-use Rattle.graph.specs.Graph.{Graph, graphOf}
-use Rattle.graph.specs.Count.{C, readers, nodeReaders, named, outNamed}
-use Rattle.graph.specs.Admission.{Admitted}
+use Rattle.graph.specs.Graph.{Graph, node}
+use Rattle.graph.specs.Count.{C}
 use Rattle.graph.specs.Answer.{outcome, accepted}
-use Rattle.moves.specs.Apply.{apply, put, none}
-use Rattle.moves.specs.Call.{moved, bestAt, rewrite}
-use Rattle.moves.proofs.Apply.{admitted}
-use Rattle.moves.proofs.Compose.{same-graph}
-use Rattle.tree_choice.proofs.Noting.{count-low}
+use Rattle.moves.specs.Call.{rewrite}
+use Rattle.moves.specs.Tree.{isRoot, IsRoot, tree}
+use Rattle.incremental.specs.State.{stands}
+use Rattle.incremental_trees.specs.Stepping.{treeMoved, TreeMade}
 
-module _ (g : Graph) (us : List ℕ) (ns os : List ℕ) (p : ns ≡ moved g us (bestAt g us) .nodes) (q : os ≡ moved g us (bestAt g us) .outs) where
-  whole : graphOf (g .I) (g .N) (g .O) ns os ≡ moved g us (bestAt g us)
-  unfolding moved apply
-  whole = same-graph (g .I) (g .N) (g .O) p q
+-- the root's own number
+pub root-node : (g : Graph) (r v : ℕ) → IsRoot g r → v ≡ r - (g .I + 1) → (v < g .N) × (isRoot g (node g v) ≡ true)
+root-node g r v i e =
+    let q : node g v ≡ r = omega (arith, e, i .after-inputs) in
+    (omega (arith, e, i .after-inputs, i .within), rw q (i .root))
 
-  moved-admitted : Admitted g → Admitted (moved g us (bestAt g us))
-  unfolding moved
-  moved-admitted adm = admitted g (put none us (bestAt g us)) adm
-
-  pub written-admitted : Admitted g → Admitted (graphOf (g .I) (g .N) (g .O) ns os)
-  written-admitted adm = rw whole (moved-admitted adm)
-
-  pub rewrite-is : (b a r : ℕ) → b ≡ C g → a ≡ C (graphOf (g .I) (g .N) (g .O) ns os) → r ≡ b - a → outcome (accepted (r ∷ [])) (graphOf (g .I) (g .N) (g .O) ns os) ≡ rewrite g us
-  unfolding rewrite
-  rewrite-is b a r e f h = rw (h, e, f, whole)
-
-pub readers-low : (g : Graph) → Admitted g → (u : ℕ) → readers g u ≤ 304096
-unfolding readers nodeReaders
-readers-low g adm u = omega (arith, count-low (named g u) (3 * g .N), count-low (outNamed g u) (g .O), adm .few-nodes, adm .few-outs)
+-- g filled, stepped to g′ and written out as h
+pub rewrite-is : (g g′ h : Graph) (sc sc′ : List ℕ) (r v b a x : ℕ) → IsRoot g r → v ≡ r - (g .I + 1) → stands g sc ≡ g → TreeMade sc g′ sc′ (treeMoved (stands g sc) (node g v)) a → h ≡ stands g′ sc′
+    → b ≡ C g → x ≡ b - a → outcome (accepted (x ∷ [])) h ≡ rewrite g (tree g r)
+unfolding rewrite
+rewrite-is g g′ h sc sc′ r v b a x i e s m w p q =
+    let n : node g v ≡ r = omega (arith, e, i .after-inputs) in
+    let k : treeMoved (stands g sc) (node g v) ≡ treeMoved g r = ap (λ y. treeMoved y (node g v)) s ∙ ap (treeMoved g) n in
+    let t : h ≡ treeMoved g r = w ∙ m .stands-for ∙ k in
+    let c : a ≡ C (treeMoved g r) = m .count ∙ ap C k in
+    rw (q, p, c, t)

@@ -4,10 +4,8 @@ ghost use Rattle.graph.specs.Answer.{outcome, ScratchKept};
 ghost use Rattle.graph.specs.Graph.{graphOf};
 ghost use Rattle.moves.specs.Call.{savingAnswer, treeCall};
 
-pub mod deciding;
 pub mod faults;
 pub mod rewriting;
-pub mod turning;
 
 use graph::checks::refused_by;
 use moves::Saving;

@@ -1,4 +1,4 @@
-// A tree's moves decided, then one sweep over each table.
+// The tree call in the state: scratch filled, the tree decided and its moves made, and what is pending written out.
 ghost use mathlib.Core.Path.{_≡_};
 ghost use mathlib.Core.List.{[], _∷_};
 ghost use Prim.Native.Nat.{_*_, _≤_};
@@ -8,11 +8,12 @@ ghost use Rattle.graph.specs.Answer.{accepted, outcome};
 ghost use Rattle.graph.specs.Graph.{graphOf};
 ghost use Rattle.moves.specs.Call.{rewrite};
 ghost use Rattle.moves.specs.Tree.{IsRoot, tree};
-use crate::deciding::decide_tree;
-use crate::turning::turn_outputs;
-use crate::turning::turn_words;
 use graph::edges::complemented;
+use incremental::writing::write_out;
+use incremental_trees::start::fill_scratch;
+use incremental_trees::trees::tree_step;
 use moves::words::over;
+use moves::words::wide;
 
 // What the call saves.
 pub fn rewrite_tree(
@@ -28,19 +29,18 @@ pub fn rewrite_tree(
     ensures { λ r. ⌜ outcome (accepted (r ∷ [])) (graphOf inputs nodes outputs (now («node_table» .exit)) (now («output_table» .exit))) ≡ rewrite (graphOf inputs nodes outputs (now («node_table» .entry)) (now («output_table» .entry))) (tree (graphOf inputs nodes outputs (now («node_table» .entry)) (now («output_table» .entry))) root) ⌝ }
 {
     let before = complemented(inputs, nodes, outputs, node_table, output_table);
-    decide_tree(
+    fill_scratch(inputs, nodes, outputs, node_table, output_table, scratch);
+    let v = wide(root - (inputs + 1));
+    let after = tree_step(
         inputs,
         nodes,
         outputs,
         node_table,
         output_table,
-        root,
+        v,
+        before,
         scratch,
     );
-    let i = inputs as usize;
-    let n = nodes as usize;
-    turn_words(i, n, node_table, scratch);
-    turn_outputs(i, n, outputs as usize, output_table, scratch);
-    let after = complemented(inputs, nodes, outputs, node_table, output_table);
+    write_out(inputs, nodes, outputs, node_table, output_table, scratch);
     over(before, after)
 }

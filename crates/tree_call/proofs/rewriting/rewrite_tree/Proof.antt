@@ -1,10 +1,7 @@
--- C counted before and after, and both tables written as the tree's best moves turn them.
-use Rattle.moves.specs.Tree.{tree}
-use mathlib.Core.Path.{_∙_}
-use native.Mathlib.Omega.{arith}
-use Rattle.graph.specs.Graph.{Graph, graphOf}
-use Rattle.tree_choice.proofs.Noting.{sized-by}
-use Rattle.tree_call.proofs.Saved.{written-admitted, rewrite-is}
+-- `rewrite_tree` fills scratch, decides the tree, makes its moves and writes the pending turns out: that is the tree call.
+use mathlib.Core.Path.{sym, ap, _∙_}
+use Rattle.graph.specs.Count.{C}
+use Rattle.tree_call.proofs.Saved.{root-node, rewrite-is}
 use borrow.Author.Needs.{needs}
 use Rattle.tree_call.proofs.rewriting.rewrite_tree.Statement.{statement}
 use Rattle.tree_call.proofs.rewriting.rewrite_tree.Tie as tie
@@ -12,35 +9,26 @@ use Rattle.tree_call.proofs.rewriting.rewrite_tree.Tie as tie
 complemented-requires : tie.Need-complemented-requires
 complemented-requires c κs = search needs
 
-decide-tree-requires : tie.Need-decide-tree-requires
-decide-tree-requires c κs = search needs
+fill-scratch-requires : tie.Need-fill-scratch-requires
+fill-scratch-requires c κs = search needs
 
-turn-words-requires : tie.Need-turn-words-requires
-turn-words-requires c κs =
-    let st = c .before .before .before .before .before .before .before .before .before .before .before .before .before .before in
-    let a = st .args in
-    let g : Graph = graphOf (a .inputs) (a .nodes) (a .outputs) (a .node-table .now) (a .output-table .now) in
-    let d = c .before .before .before .before .decide-tree in
-    (sized-by g (d .last .1 .1 .1 .1 .1 .1 .0) (st .pre .0) (omega (arith, st .pre .2, d .kept .1 .1 .1 .1 .1 .1 .0)), d .ensures .bits)
+add-wide : tie.Need-add-wide
+add-wide c = search needs
 
-turn-outputs-requires : tie.Need-turn-outputs-requires
-turn-outputs-requires c κs =
-    let st = c .before .before .before .before .before .before .before .before .before .before .before .before .before .before .before .before .before .before .before in
-    let a = st .args in
-    let g : Graph = graphOf (a .inputs) (a .nodes) (a .outputs) (a .node-table .now) (a .output-table .now) in
-    let d = c .before .before .before .before .before .before .before .before .before .decide-tree in
-    let m = st .pre .0 in
-    (m .few-inputs, m .few-nodes, omega (arith, st .pre .2, d .kept .1 .1 .1 .1 .1 .1 .0), m .long-outs, (λ j h. m .out-below j h), d .ensures .bits)
+sub-wide : tie.Need-sub-wide
+sub-wide c = search needs
 
-complemented-requires-2 : tie.Need-complemented-requires-2
-complemented-requires-2 c κs =
-    let st = c .before .before .before .before .before .before .before .before .before .before .before .before .before .before .before .before .before .before .before .before .before .before .before .before in
-    let a = st .args in
-    let g : Graph = graphOf (a .inputs) (a .nodes) (a .outputs) (a .node-table .now) (a .output-table .now) in
-    let d = c .before .before .before .before .before .before .before .before .before .before .before .before .before .before .decide-tree in
-    let ns = c .before .before .before .before .before .before .before .before .before .turn-words .last .1 .1 .0 in
-    let os = c .before .before .before .before .turn-outputs .last .1 .1 .1 .0 in
-    written-admitted g (tree g (a .root)) ns os (c .before .before .before .before .before .before .before .before .before .turn-words .ensures ∙ d .ensures .words) (c .before .before .before .before .turn-outputs .ensures ∙ d .ensures .outs) (st .pre .0)
+wide-requires : tie.Need-wide-requires
+wide-requires c κs = search needs
+
+tree-step-requires : tie.Need-tree-step-requires
+tree-step-requires c κs =
+    let f = c .before .before .before .before .before .before .fill-scratch .ensures in
+    let n = root-node _ _ _ (c .before .before .before .before .before .before .before .before .before .before .before .before .before .before .before .before .pre .1) (c .before .before .before .wide .ensures) in
+    (f .0, n .0, n .1, c .before .before .before .before .before .before .before .before .before .before .complemented .ensures .0 ∙ ap C (sym (f .1)))
+
+write-out-requires : tie.Need-write-out-requires
+write-out-requires c κs = search needs
 
 over-requires : tie.Need-over-requires
 over-requires c κs = search needs
@@ -55,25 +43,19 @@ same-length-3 : tie.Need-same-length-3
 same-length-3 c = search needs
 
 returns : tie.Need-returns
-returns c =
-    let st = c .before .before .before .before .before .before .before .before .before .before .before .before .before .before .before .before .before .before .before .before .before .before .before .before .before .before in
-    let a = st .args in
-    let g : Graph = graphOf (a .inputs) (a .nodes) (a .outputs) (a .node-table .now) (a .output-table .now) in
-    let d = c .before .before .before .before .before .before .before .before .before .before .before .before .before .before .before .before .decide-tree in
-    let ns = c .before .before .before .before .before .before .before .before .before .before .before .turn-words .last .1 .1 .0 in
-    let os = c .before .before .before .before .before .before .turn-outputs .last .1 .1 .1 .0 in
-    rewrite-is g (tree g (a .root)) ns os (c .before .before .before .before .before .before .before .before .before .before .before .turn-words .ensures ∙ d .ensures .words) (c .before .before .before .before .before .before .turn-outputs .ensures ∙ d .ensures .outs)
-    (c .before .before .before .before .before .before .before .before .before .before .before .before .before .before .before .before .before .before .before .before .complemented .result) (c .before .complemented2 .result) (c .over .result) (c .before .before .before .before .before .before .before .before .before .before .before .before .before .before .before .before .before .before .before .before .complemented .ensures .0) (c .before .complemented2 .ensures .0) (c .over .ensures)
+returns c = rewrite-is _ _ _ _ _ _ _ _ _ _ (c .before .before .before .before .before .before .before .before .before .before .before .before .before .before .before .before .before .before .before .before .before .before .before .before .before .before .before .before .before .before .pre .1) (c .before .before .before .before .before .before .before .before .before .before .before .before .before .before .before .before .before .wide .ensures) (c .before .before .before .before .before .before .before .before .before .before .before .before .before .before .before .before .before .before .before .before .fill-scratch .ensures .1) (c .before .before .before .before .before .before .before .before .before .before .before .before .before .tree-step .ensures) (c .before .before .before .before .before .write-out .ensures) (c .before .before .before .before .before .before .before .before .before .before .before .before .before .before .before .before .before .before .before .before .before .before .before .before .complemented .ensures .0) (c .over .ensures)
 
 pub rewrite-tree-spec : {M : Type 1} → statement M
 rewrite-tree-spec =
     tie.close
     (tie.spec
     complemented-requires
-    decide-tree-requires
-    turn-words-requires
-    turn-outputs-requires
-    complemented-requires-2
+    fill-scratch-requires
+    add-wide
+    sub-wide
+    wide-requires
+    tree-step-requires
+    write-out-requires
     over-requires
     same-length
     same-length-2
