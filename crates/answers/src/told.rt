@@ -24,7 +24,7 @@ pub fn count_number(answer: graph::Count) -> u32
 {
     match answer {
         graph::Count::Edges(_) => 0,
-        graph::Count::Refused(refusal) => graph::checks::number_of(refusal),
+        graph::Count::Refused(refusal) => graph::faults::number_of(refusal),
     }
 }
 
@@ -42,7 +42,7 @@ pub fn loaded_number(answer: tagged_file::Loaded) -> u32
 {
     match answer {
         tagged_file::Loaded::Graph { .. } => 0,
-        tagged_file::Loaded::Refused(refusal) => graph::checks::number_of(refusal),
+        tagged_file::Loaded::Refused(refusal) => graph::faults::number_of(refusal),
     }
 }
 
@@ -64,7 +64,7 @@ pub fn written_number(answer: tagged_file::Written) -> u32
 {
     match answer {
         tagged_file::Written::Bytes(_) => 0,
-        tagged_file::Written::Refused(refusal) => graph::checks::number_of(refusal),
+        tagged_file::Written::Refused(refusal) => graph::faults::number_of(refusal),
     }
 }
 
@@ -82,7 +82,7 @@ pub fn evaluated_number(answer: evaluation::Evaluated) -> u32
 {
     match answer {
         evaluation::Evaluated::Done => 0,
-        evaluation::Evaluated::Refused(refusal) => graph::checks::number_of(refusal),
+        evaluation::Evaluated::Refused(refusal) => graph::faults::number_of(refusal),
     }
 }
 
@@ -91,7 +91,7 @@ pub fn saving_number(answer: moves::Saving) -> u32
 {
     match answer {
         moves::Saving::Saved(_) => 0,
-        moves::Saving::Refused(refusal) => graph::checks::number_of(refusal),
+        moves::Saving::Refused(refusal) => graph::faults::number_of(refusal),
     }
 }
 
@@ -109,7 +109,7 @@ pub fn settled_number(answer: settling::Settled) -> u32
 {
     match answer {
         settling::Settled::Rounds { .. } => 0,
-        settling::Settled::Refused(refusal) => graph::checks::number_of(refusal),
+        settling::Settled::Refused(refusal) => graph::faults::number_of(refusal),
     }
 }
 

@@ -6,8 +6,8 @@ use Prim.Native.Nat.{ℕ, zero, suc, _≤_, _<_}
 use native.Mathlib.Omega.{arith}
 use lib.ListN.{length, getD, drop, List·getD-append}
 use Rattle.graph.specs.Finite.{tab, first}
-use Rattle.graph.specs.Graph.{Graph, out}
-use Rattle.graph.specs.Value.{values, outValue}
+use Rattle.graph.specs.Graph.{Graph, output}
+use Rattle.graph.specs.Value.{values, outputValue}
 use Rattle.graph.specs.Admission.{limitNumber, tableNumber, literalNumber, admissionNumber, Admitted}
 use Rattle.graph.proofs.Finite.{length-tab, getD-tab}
 use Rattle.graph.proofs.Tests.{less, no-less, equal, fault, both, off}
@@ -73,13 +73,13 @@ module _ (g : Graph) (w s r : ℕ) where
 
 -- bit j of result o, where nothing is refused, is the output's value under the assignment of place j
 module _ (g : Graph) (words : List ℕ) where
-  output-bit : (o j : ℕ) → j < 64 → bit j (outputWord g words o) ≡ outValue g (assignmentAt words j) o
-  unfolding outputWord outValue
+  output-bit : (o j : ℕ) → j < 64 → bit j (outputWord g words o) ≡ outputValue g (assignmentAt words j) o
+  unfolding outputWord outputValue
   output-bit o j h =
-      bit-gather (λ k. outValue g (assignmentAt words k) o) (λ k. literal-bit (values g (assignmentAt words k) (g .N)) (out g o)) 64 j h
+      bit-gather (λ k. outputValue g (assignmentAt words k) o) (λ k. literal-bit (values g (assignmentAt words k) (g .N)) (output g o)) 64 j h
 
   pub result-bit : (s : ℕ) (results : List ℕ) → evaluateNumber g (length words) s (length results) ≡ 0
-      → (o j : ℕ) → o < g .O → j < 64 → bit j (getD (resultsAfter g words s results) o 0) ≡ outValue g (assignmentAt words j) o
+      → (o j : ℕ) → o < g .O → j < 64 → bit j (getD (resultsAfter g words s results) o 0) ≡ outputValue g (assignmentAt words j) o
   unfolding resultsAfter
   result-bit s results e o j h k =
       let t = length-tab (g .O) (outputWord g words) in

@@ -9,13 +9,13 @@ use lib.ListN.{length, getD, set, drop, length-append, length-drop, List·getD-a
 use lib.Seq.{ext-getD, getD-drop}
 use Rattle.graph.specs.Finite.{tab}
 use Rattle.graph.specs.Graph.{Graph}
-use Rattle.graph.specs.Value.{literalValue, outValue}
+use Rattle.graph.specs.Value.{literalValue, outputValue}
 use Rattle.graph.specs.Admission.{Admitted}
 use Rattle.graph.proofs.Cases.{lt-or-le}
 use Rattle.graph.proofs.Edge.{edge-early, edge-third}
 use Rattle.graph.proofs.Finite.{length-tab, getD-tab, tab-same}
 use Rattle.graph.proofs.Sweep.{swept, length-swept, swept-done, swept-left, swept-suc}
-use Rattle.evaluation.specs.Inner.{byIndex, literalWord, outWord, nodesOf, NodeBelow, NodeWords}
+use Rattle.evaluation.specs.Inner.{byIndex, literalWord, outputWordFrom, nodesOf, NodeBelow, NodeWords}
 use Rattle.evaluation.specs.Evaluation.{assignmentAt, outputWord}
 use Rattle.evaluation.proofs.Gather.{gather-same}
 use Rattle.evaluation.proofs.Index.{getD-right}
@@ -35,15 +35,15 @@ swept-front f l n h =
     swept-left f l n i b p ∙ sym (getD-right (tab n f) (drop n l) i (omega arith) ∙ getD-drop n l (i - length (tab n f)) 0 ∙ ap (λ (m : ℕ). getD l m 0) e))
     (lt-or-le i n))
 
-outWord-is : (ws outs : List ℕ) (o : ℕ) → outWord ws outs o ≡ literalWord ws (getD outs o 0)
-unfolding outWord
-outWord-is ws outs o = refl
+outputWordFrom-is : (ws outputs : List ℕ) (o : ℕ) → outputWordFrom ws outputs o ≡ literalWord ws (getD outputs o 0)
+unfolding outputWordFrom
+outputWordFrom-is ws outputs o = refl
 
 -- one output more
-pub swept-next : (ws outs before after : List ℕ) (o w : ℕ) → o < length before → after ≡ swept (outWord ws outs) before o
-    → w ≡ literalWord ws (getD outs o 0) → set after o w ≡ swept (outWord ws outs) before (o + 1)
-swept-next ws outs before after o w h e q =
-    rw (add-one o, e, q ∙ sym (outWord-is ws outs o)) (swept-suc (outWord ws outs) before o h)
+pub swept-next : (ws outputs before after : List ℕ) (o w : ℕ) → o < length before → after ≡ swept (outputWordFrom ws outputs) before o
+    → w ≡ literalWord ws (getD outputs o 0) → set after o w ≡ swept (outputWordFrom ws outputs) before (o + 1)
+swept-next ws outputs before after o w h e q =
+    rw (add-one o, e, q ∙ sym (outputWordFrom-is ws outputs o)) (swept-suc (outputWordFrom ws outputs) before o h)
 
 module _ (g : Graph) where
   pub node-below : Admitted g → (v : ℕ) → v < g .N → NodeBelow (g .I) (g .nodes) v
@@ -56,8 +56,8 @@ module _ (g : Graph) where
 
   -- the outputs' words, from the words of all nodes
   pub output-words : (words nodeWords : List ℕ) → NodeWords (nodesOf (g .I) (g .N) (g .nodes)) words nodeWords (g .N)
-      → tab (g .O) (outWord (byIndex (g .I) words nodeWords) (g .outs)) ≡ tab (g .O) (outputWord g words)
-  unfolding outWord literalWord outputWord outValue
+      → tab (g .O) (outputWordFrom (byIndex (g .I) words nodeWords) (g .outputs)) ≡ tab (g .O) (outputWord g words)
+  unfolding outputWordFrom literalWord outputWord outputValue
   output-words words nodeWords e =
       tab-same (g .O) _ _ (λ o h. gather-same _ _ 64 (λ j l.
-      ap (λ (vs : List ℕ). literalValue vs (getD (g .outs) o 0)) (e j l ∙ values-of-nodes g (assignmentAt words j) (g .N))))
+      ap (λ (vs : List ℕ). literalValue vs (getD (g .outputs) o 0)) (e j l ∙ values-of-nodes g (assignmentAt words j) (g .N))))

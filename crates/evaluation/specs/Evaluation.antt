@@ -4,7 +4,7 @@ use Prim.Native.Nat.{ℕ}
 use lib.ListN.{length, getD, drop}
 use Rattle.graph.specs.Finite.{tab, ifLess, ifEqual, first}
 use Rattle.graph.specs.Graph.{Graph}
-use Rattle.graph.specs.Value.{Assignment, outValue}
+use Rattle.graph.specs.Value.{Assignment, outputValue}
 use Rattle.graph.specs.Admission.{limitNumber, tableNumber, literalNumber}
 use Rattle.graph.specs.Answer.{Answer, accepted, refused, numberOf}
 use Rattle.evaluation.specs.Word.{bit, gather}
@@ -17,7 +17,7 @@ assignmentAt words j k = bit j (getD words k 0)
 
 -- the word of output o: in bit place j its value under the assignment of place j
 unfoldable pub outputWord : Graph → List ℕ → ℕ → ℕ
-outputWord g words o = gather (λ j. outValue g (assignmentAt words j) o) 64
+outputWord g words o = gather (λ j. outputValue g (assignmentAt words j) o) 64
 
 -- 4: the input slice, of the length w, or the result slice, of the length r, too short
 unfoldable pub sliceNumber : Graph → ℕ → ℕ → ℕ

@@ -21,8 +21,8 @@ unfoldable pub literalWord : List ℕ → ℕ → ℕ
 literalWord ws x = gather (λ j. literalValue (column j ws) x) 64
 
 -- the same of the literal at place o of an output table
-unfoldable pub outWord : List ℕ → List ℕ → ℕ → ℕ
-outWord ws outs o = literalWord ws (getD outs o 0)
+unfoldable pub outputWordFrom : List ℕ → List ℕ → ℕ → ℕ
+outputWordFrom ws outputs o = literalWord ws (getD outputs o 0)
 
 -- the graph of a node table alone: a node's value does not look at outputs
 abbrev pub nodesOf : ℕ → ℕ → List ℕ → Graph

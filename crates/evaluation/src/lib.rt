@@ -5,9 +5,9 @@ ghost use Rattle.graph.specs.Graph.{graphOf};
 ghost use Rattle.graph.specs.Answer.{accepted, unless, ScratchKept};
 ghost use Rattle.evaluation.specs.Evaluation.{evaluateNumber, resultsAfter, evaluatedAnswer};
 
-pub mod checks;
+pub mod faults;
 pub mod results;
-pub mod words;
+pub mod values;
 
 // What an evaluation answers.
 pub enum Evaluated {
@@ -30,7 +30,7 @@ pub fn evaluate(
     ensures results { λ r. ⌜ now (results .exit) ≡ resultsAfter (graphOf inputs nodes outputs (now («node_table» .entry)) (now («output_table» .entry))) (now («input_words» .entry)) (length (now (scratch .entry))) (now (results .entry)) ⌝ }
     ensures scratch { λ r. ⌜ ScratchKept (evaluatedAnswer r) (now (scratch .entry)) (now (scratch .exit)) ⌝ }
 {
-    let number = checks::evaluate_number(
+    let number = faults::evaluate_number(
         inputs,
         nodes,
         outputs,
@@ -41,7 +41,7 @@ pub fn evaluate(
         results.len(),
     );
     if number != 0 {
-        return Evaluated::Refused(graph::checks::refused_by(number));
+        return Evaluated::Refused(graph::faults::refused_by(number));
     }
     results::evaluate_words(
         inputs,

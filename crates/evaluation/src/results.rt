@@ -5,9 +5,9 @@ ghost use lib.ListN.{length, drop, getD};
 ghost use Rattle.graph.specs.Finite.{tab};
 ghost use Rattle.graph.specs.Graph.{graphOf};
 ghost use Rattle.graph.specs.Admission.{Admitted};
-ghost use Rattle.evaluation.specs.Inner.{byIndex, outWord};
+ghost use Rattle.evaluation.specs.Inner.{byIndex, outputWordFrom};
 ghost use Rattle.evaluation.specs.Evaluation.{outputWord};
-use crate::words;
+use crate::values;
 
 // Fills the outputs' words into the front of `results`, from the words of the inputs and of all nodes.
 fn fill_results(
@@ -19,10 +19,10 @@ fn fill_results(
     results: &mut [u64],
 )
     requires { ⌜ (inputs ≤ length (now «input_words»)) × (outputs ≤ length (now «output_table»)) × (outputs ≤ length (now results)) × ((o : ℕ) → o < outputs → getD (now «output_table») o 0 / 2 < inputs + 1 + length (now «node_words»)) ⌝ }
-    ensures { λ r. ⌜ now (results .exit) ≡ tab outputs (outWord (byIndex inputs (now («input_words» .entry)) (now («node_words» .entry))) (now («output_table» .entry))) ++ drop outputs (now (results .entry)) ⌝ }
+    ensures { λ r. ⌜ now (results .exit) ≡ tab outputs (outputWordFrom (byIndex inputs (now («input_words» .entry)) (now («node_words» .entry))) (now («output_table» .entry))) ++ drop outputs (now (results .entry)) ⌝ }
 {
     for o in 0..outputs as usize {
-        let w = words::literal_word(inputs, input_words, node_words, output_table[o]);
+        let w = values::literal_word(inputs, input_words, node_words, output_table[o]);
         results[o] = w;
     }
 }
@@ -41,7 +41,7 @@ pub fn evaluate_words(
     requires { ⌜ Admitted (graphOf inputs nodes outputs (now «node_table») (now «output_table»)) × (inputs ≤ length (now «input_words»)) × (nodes ≤ length (now scratch)) × (outputs ≤ length (now results)) ⌝ }
     ensures { λ r. ⌜ now (results .exit) ≡ tab outputs (outputWord (graphOf inputs nodes outputs (now («node_table» .entry)) (now («output_table» .entry))) (now («input_words» .entry))) ++ drop outputs (now (results .entry)) ⌝ }
 {
-    words::fill_nodes(inputs, nodes, node_table, input_words, scratch);
+    values::fill_nodes(inputs, nodes, node_table, input_words, scratch);
     fill_results(
         inputs,
         outputs,

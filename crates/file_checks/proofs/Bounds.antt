@@ -10,7 +10,7 @@ use Rattle.graph.specs.Finite.{ifEqual}
 use Rattle.graph.proofs.Cases.{eq-or-ne}
 use Rattle.graph.proofs.Tests.{equal, unequal}
 use Rattle.graph.proofs.Answers.{ifLess-le, first-le}
-use Rattle.file_checks.specs.File.{be4, dueNumber, nodeSize, headNumber, nodeNumber, outNumber, endNumber, outsNumber, nodesNumber, fileNumber}
+use Rattle.file_checks.specs.File.{be4, dueNumber, nodeSize, headNumber, nodeFieldNumber, outputFieldNumber, endNumber, outputFieldsNumber, nodeFieldsNumber, fileNumber}
 
 ifEqual-le : (a b x y n : ℕ) → x ≤ n → y ≤ n → ifEqual a b x y ≤ n
 ifEqual-le a b x y n h k =
@@ -28,26 +28,26 @@ head-le s a b =
     first-le _ _ 6 (due-le 1 1 s) (ifLess-le _ _ _ _ 6 (lit≤ tt) (ifLess-le _ _ _ _ 6 (lit≤ tt) (ifLess-le _ _ _ _ 6 (lit≤ tt)
     (ifLess-le _ _ _ _ 6 (lit≤ tt) (ifLess-le _ _ _ _ 6 (lit≤ tt) (lit≤ tt))))))
 
-node-le : (s : List ℕ) (v : ℕ) → nodeNumber s v ≤ 6
-unfolding nodeNumber
+node-le : (s : List ℕ) (v : ℕ) → nodeFieldNumber s v ≤ 6
+unfolding nodeFieldNumber
 node-le s v =
     first-le _ _ 6 (due-le 2 3 s) (ifLess-le _ _ _ _ 6 (ifLess-le _ _ _ _ 6
     (ifEqual-le _ _ _ _ 6 (lit≤ tt) (ifLess-le _ _ _ _ 6 (lit≤ tt) (lit≤ tt))) (lit≤ tt)) (lit≤ tt))
 
-out-le : (s : List ℕ) (v : ℕ) → outNumber s v ≤ 6
-unfolding outNumber
+out-le : (s : List ℕ) (v : ℕ) → outputFieldNumber s v ≤ 6
+unfolding outputFieldNumber
 out-le s v = first-le _ _ 6 (due-le 4 4 s) (ifLess-le _ _ _ _ 6 (lit≤ tt) (lit≤ tt))
 
 end-le : (s : List ℕ) → endNumber s ≤ 6
 unfolding endNumber
 end-le s = first-le _ _ 6 (due-le 5 5 s) (ifLess-le _ _ _ _ 6 (lit≤ tt) (lit≤ tt))
 
-outs-le : (o : ℕ) (s : List ℕ) (v : ℕ) → outsNumber o s v ≤ 6
-outs-le zero s v = end-le s
-outs-le (suc o) s v = first-le _ _ 6 (out-le s v) (outs-le o (drop 7 s) v)
+outputs-le : (o : ℕ) (s : List ℕ) (v : ℕ) → outputFieldsNumber o s v ≤ 6
+outputs-le zero s v = end-le s
+outputs-le (suc o) s v = first-le _ _ 6 (out-le s v) (outputs-le o (drop 7 s) v)
 
-nodes-le : (n o : ℕ) (s : List ℕ) (v : ℕ) → nodesNumber n o s v ≤ 6
-nodes-le zero o s v = outs-le o s v
+nodes-le : (n o : ℕ) (s : List ℕ) (v : ℕ) → nodeFieldsNumber n o s v ≤ 6
+nodes-le zero o s v = outputs-le o s v
 nodes-le (suc n) o s v = first-le _ _ 6 (node-le s v) (nodes-le n o (drop (nodeSize s) s) (v + 1))
 
 file-le : (s : List ℕ) (a b : ℕ) → fileNumber s a b ≤ 6

@@ -10,7 +10,7 @@ use lib.Seq.{take-all}
 use Rattle.graph.proofs.Tests.{off, is, both}
 use Rattle.file_checks.specs.Walk.{NodeRoom}
 use Rattle.graph.specs.Finite.{ifEqual, first}
-use Rattle.file_checks.specs.File.{outsNumber, outNumber, endNumber, nodesNumber, nodeNumber, nodeSize, headNumber, be2, be4, payloadOf, dueNumber}
+use Rattle.file_checks.specs.File.{outputFieldsNumber, outputFieldNumber, endNumber, nodeFieldsNumber, nodeFieldNumber, nodeSize, headNumber, be2, be4, payloadOf, dueNumber}
 
 -- what an accepted field has
 pub record Due (low high : ℕ) (s : List ℕ) : Type 0 where
@@ -31,12 +31,12 @@ due-is low high s e =
     record { head = a .0; least = b .0; most = d .0; size = f .0; whole = g .0 }
 
 -- one step of each walk
-pub outs-step : (n : ℕ) (s : List ℕ) (i : ℕ) → 0 < n → outsNumber n s i ≡ first (outNumber s i) (outsNumber (n - 1) (drop 7 s) i)
-outs-step zero s i h = absurd (omega arith)
-outs-step (suc n) s i h = let e : suc n - 1 ≡ n = omega arith in rw e
+pub outputs-step : (n : ℕ) (s : List ℕ) (i : ℕ) → 0 < n → outputFieldsNumber n s i ≡ first (outputFieldNumber s i) (outputFieldsNumber (n - 1) (drop 7 s) i)
+outputs-step zero s i h = absurd (omega arith)
+outputs-step (suc n) s i h = let e : suc n - 1 ≡ n = omega arith in rw e
 
 pub nodes-step : (n o : ℕ) (s : List ℕ) (i : ℕ) → 0 < n
-    → nodesNumber n o s i ≡ first (nodeNumber s i) (nodesNumber (n - 1) o (drop (nodeSize s) s) (i + 1))
+    → nodeFieldsNumber n o s i ≡ first (nodeFieldNumber s i) (nodeFieldsNumber (n - 1) o (drop (nodeSize s) s) (i + 1))
 nodes-step zero o s i h = absurd (omega arith)
 nodes-step (suc n) o s i h = let e : suc n - 1 ≡ n = omega arith in rw e
 
@@ -71,29 +71,29 @@ node-room s e =
     (λ q. let z = size-at (getD s 0 0) 3 8 refl (omega arith) in record { two = omega arith; whole = omega arith; three = λ n. absurd (n (omega arith)) })
     (eq-or-lt-of-le (d .least))
 
-pub out-passed : (s : List ℕ) (i : ℕ) → outNumber s i ≡ 0 → 7 ≤ length s
-unfolding outNumber
+pub out-passed : (s : List ℕ) (i : ℕ) → outputFieldNumber s i ≡ 0 → 7 ≤ length s
+unfolding outputFieldNumber
 out-passed s i e = out-room s (both _ _ e .0)
 
-pub node-passed : (s : List ℕ) (i : ℕ) → nodeNumber s i ≡ 0 → NodeRoom s
-unfolding nodeNumber
+pub node-passed : (s : List ℕ) (i : ℕ) → nodeFieldNumber s i ≡ 0 → NodeRoom s
+unfolding nodeFieldNumber
 node-passed s i e = node-room s (both _ _ e .0)
 
-pub outs-done : (n : ℕ) (s : List ℕ) (i : ℕ) → n ≤ 0 → outsNumber n s i ≡ endNumber s
-outs-done zero s i h = refl
-outs-done (suc n) s i h = absurd (omega arith)
+pub outputs-done : (n : ℕ) (s : List ℕ) (i : ℕ) → n ≤ 0 → outputFieldsNumber n s i ≡ endNumber s
+outputs-done zero s i h = refl
+outputs-done (suc n) s i h = absurd (omega arith)
 
-pub nodes-done : (n o : ℕ) (s : List ℕ) (i : ℕ) → n ≤ 0 → nodesNumber n o s i ≡ outsNumber o s i
+pub nodes-done : (n o : ℕ) (s : List ℕ) (i : ℕ) → n ≤ 0 → nodeFieldsNumber n o s i ≡ outputFieldsNumber o s i
 nodes-done zero o s i h = refl
 nodes-done (suc n) o s i h = absurd (omega arith)
 
 pub record HeadPassed (s : List ℕ) (a b : ℕ) : Type 0 where
   pub room : 15 ≤ length s
-  pub inputs : be4 s 3 ≤ 4096
-  pub count : be4 s 7 ≤ 100000
-  pub outputs : be4 s 11 ≤ 4096
-  pub nodes : 3 * be4 s 7 ≤ a
-  pub outs : be4 s 11 ≤ b
+  pub few-inputs : be4 s 3 ≤ 4096
+  pub few-nodes : be4 s 7 ≤ 100000
+  pub few-outputs : be4 s 11 ≤ 4096
+  pub long-nodes : 3 * be4 s 7 ≤ a
+  pub long-outputs : be4 s 11 ≤ b
 
 pub head-passed : (s : List ℕ) (a b : ℕ) → headNumber s a b ≡ 0 → HeadPassed s a b
 unfolding headNumber
@@ -104,4 +104,4 @@ head-passed s a b e =
     let o = off _ _ _ _ (n .1) in
     let x = off _ _ _ _ (o .1) in
     let y = off _ _ _ _ (x .1) in
-    record { room = head-room s (h .0); inputs = omega arith; count = omega arith; outputs = omega arith; nodes = omega arith; outs = omega arith }
+    record { room = head-room s (h .0); few-inputs = omega arith; few-nodes = omega arith; few-outputs = omega arith; long-nodes = omega arith; long-outputs = omega arith }

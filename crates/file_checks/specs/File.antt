@@ -45,17 +45,17 @@ third s = ifEqual (getD s 0 0) 3 mark (be4 s 11)
 
 -- field 01, with tables of so many words lent
 unfoldable pub headNumber : List ℕ → ℕ → ℕ → ℕ
-headNumber s nodeRoom outRoom =
+headNumber s nodeRoom outputRoom =
     first (dueNumber 1 1 s)
     (ifLess 4096 (be4 s 3) 3
     (ifLess 100000 (be4 s 7) 3
     (ifLess 4096 (be4 s 11) 3
     (ifLess nodeRoom (3 * be4 s 7) 4
-    (ifLess outRoom (be4 s 11) 4 0)))))
+    (ifLess outputRoom (be4 s 11) 4 0)))))
 
 -- the field of the node that has index v: its literals name indices below v
-unfoldable pub nodeNumber : List ℕ → ℕ → ℕ
-nodeNumber s v =
+unfoldable pub nodeFieldNumber : List ℕ → ℕ → ℕ
+nodeFieldNumber s v =
     first (dueNumber 2 3 s)
     (ifLess (index (be4 s 3)) v
     (ifLess (index (be4 s 7)) v
@@ -65,26 +65,26 @@ nodeNumber s v =
     5)
 
 -- the field of an output, which may name an index below v
-unfoldable pub outNumber : List ℕ → ℕ → ℕ
-outNumber s v = first (dueNumber 4 4 s) (ifLess (index (be4 s 3)) v 0 5)
+unfoldable pub outputFieldNumber : List ℕ → ℕ → ℕ
+outputFieldNumber s v = first (dueNumber 4 4 s) (ifLess (index (be4 s 3)) v 0 5)
 
 -- field 05, and nothing more
 unfoldable pub endNumber : List ℕ → ℕ
 endNumber s = first (dueNumber 5 5 s) (ifLess 3 (length s) 6 0)
 
 -- o outputs and the end
-abbrev pub outsNumber : ℕ → List ℕ → ℕ → ℕ
-outsNumber zero s v = endNumber s
-outsNumber (suc o) s v = let rest = outsNumber o (drop 7 s) v in first (outNumber s v) rest
+abbrev pub outputFieldsNumber : ℕ → List ℕ → ℕ → ℕ
+outputFieldsNumber zero s v = endNumber s
+outputFieldsNumber (suc o) s v = let rest = outputFieldsNumber o (drop 7 s) v in first (outputFieldNumber s v) rest
 
 -- n nodes, the first with index v, then o outputs and the end
-abbrev pub nodesNumber : ℕ → ℕ → List ℕ → ℕ → ℕ
-nodesNumber zero o s v = outsNumber o s v
-nodesNumber (suc n) o s v = let rest = nodesNumber n o (drop (nodeSize s) s) (v + 1) in first (nodeNumber s v) rest
+abbrev pub nodeFieldsNumber : ℕ → ℕ → List ℕ → ℕ → ℕ
+nodeFieldsNumber zero o s v = outputFieldsNumber o s v
+nodeFieldsNumber (suc n) o s v = let rest = nodeFieldsNumber n o (drop (nodeSize s) s) (v + 1) in first (nodeFieldNumber s v) rest
 
 -- the whole file: the first fault from front to back
 unfoldable pub fileNumber : List ℕ → ℕ → ℕ → ℕ
-fileNumber s nodeRoom outRoom = let rest = nodesNumber (be4 s 7) (be4 s 11) (drop 15 s) (be4 s 3 + 1) in first (headNumber s nodeRoom outRoom) rest
+fileNumber s nodeRoom outputRoom = let rest = nodeFieldsNumber (be4 s 7) (be4 s 11) (drop 15 s) (be4 s 3 + 1) in first (headNumber s nodeRoom outputRoom) rest
 
 -- the words of n nodes and what follows them; the words of o outputs
 abbrev pub nodeWords : ℕ → List ℕ → List ℕ
@@ -95,6 +95,6 @@ abbrev pub afterNodes : ℕ → List ℕ → List ℕ
 afterNodes zero s = s
 afterNodes (suc n) s = afterNodes n (drop (nodeSize s) s)
 
-abbrev pub outWords : ℕ → List ℕ → List ℕ
-outWords zero s = []
-outWords (suc o) s = be4 s 3 ∷ outWords o (drop 7 s)
+abbrev pub outputWords : ℕ → List ℕ → List ℕ
+outputWords zero s = []
+outputWords (suc o) s = be4 s 3 ∷ outputWords o (drop 7 s)

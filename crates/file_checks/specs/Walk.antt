@@ -16,6 +16,6 @@ abbrev pub Nodes : ℕ → List ℕ → Type 0
 Nodes zero s = Unit {0}
 Nodes (suc n) s = NodeRoom s × Nodes n (drop (nodeSize s) s)
 
-abbrev pub Outs : ℕ → List ℕ → Type 0
-Outs zero s = Unit {0}
-Outs (suc n) s = (7 ≤ length s) × Outs n (drop 7 s)
+abbrev pub Outputs : ℕ → List ℕ → Type 0
+Outputs zero s = Unit {0}
+Outputs (suc n) s = (7 ≤ length s) × Outputs n (drop 7 s)

@@ -4,7 +4,7 @@ use Prim.Native.Nat.{ℕ, _+_, _*_, _/_, _%_, _≤_}
 use native.Mathlib.Omega.{arith}
 use lib.Dec.{eqb}
 use Rattle.graph.specs.Graph.{Graph, mark}
-use Rattle.graph.specs.Count.{C, adds, nodeAdds, outAdds, wordAdds}
+use Rattle.graph.specs.Count.{C, adds, nodeAdds, outputAdds, wordAdds}
 use Rattle.graph.proofs.Cases.{cond-le}
 use Rattle.graph.proofs.Finite.{sum-le}
 
@@ -20,10 +20,10 @@ pub nodeAdds-le : (g : Graph) (j : ℕ) → nodeAdds g j ≤ 1
 unfolding nodeAdds
 nodeAdds-le g j = wordAdds-le _ _
 
-pub outAdds-le : (g : Graph) (j : ℕ) → outAdds g j ≤ 1
-unfolding outAdds
-outAdds-le g j = adds-le _
+pub outputAdds-le : (g : Graph) (j : ℕ) → outputAdds g j ≤ 1
+unfolding outputAdds
+outputAdds-le g j = adds-le _
 
 pub C-le : (g : Graph) → C g ≤ 3 * g .N + g .O
 unfolding C
-C-le g = omega (arith, sum-le (nodeAdds g) (nodeAdds-le g) (3 * g .N), sum-le (outAdds g) (outAdds-le g) (g .O))
+C-le g = omega (arith, sum-le (nodeAdds g) (nodeAdds-le g) (3 * g .N), sum-le (outputAdds g) (outputAdds-le g) (g .O))

@@ -5,8 +5,8 @@ use Prim.Native.Nat.{ℕ, _*_, _/_, _≤_, _<_}
 use native.Mathlib.Omega.{arith}
 use mathlib.Core.Logic.{⊎-elim}
 use lib.ListN.{length}
-use Rattle.graph.specs.Graph.{Graph, word, out, isEdge, node}
-use Rattle.graph.specs.Admission.{limitNumber, tableNumber, wordNumber, outNumber, literalNumber, admissionNumber, Admitted}
+use Rattle.graph.specs.Graph.{Graph, word, output, isEdge, node}
+use Rattle.graph.specs.Admission.{limitNumber, tableNumber, wordNumber, outputNumber, literalNumber, admissionNumber, Admitted}
 use Rattle.graph.proofs.Cases.{true-or-false}
 use Rattle.graph.proofs.Tests.{off, on, both, no-less, less, none, all-none, each-none}
 
@@ -15,7 +15,7 @@ module _ (g : Graph) where
   unfolding limitNumber
   limits-are e = let a = off _ _ _ _ e in let b = off _ _ _ _ (a .1) in let d = off _ _ _ _ (b .1) in (a .0, b .0, d .0)
 
-  pub tables-are : tableNumber g ≡ 0 → (3 * g .N ≤ length (g .nodes)) × (g .O ≤ length (g .outs))
+  pub tables-are : tableNumber g ≡ 0 → (3 * g .N ≤ length (g .nodes)) × (g .O ≤ length (g .outputs))
   unfolding tableNumber
   tables-are e = let a = off _ _ _ _ e in let b = off _ _ _ _ (a .1) in (a .0, b .0)
 
@@ -31,16 +31,16 @@ module _ (g : Graph) where
       (λ (t : isEdge g j ≡ false). simp t)
       (true-or-false (isEdge g j))
 
-  out-is : (j : ℕ) → outNumber g j ≡ 0 → out g j / 2 < node g (g .N)
-  unfolding outNumber
-  out-is j e = on (out g j / 2) (node g (g .N)) 4 0 e .0
+  out-is : (j : ℕ) → outputNumber g j ≡ 0 → output g j / 2 < node g (g .N)
+  unfolding outputNumber
+  out-is j e = on (output g j / 2) (node g (g .N)) 4 0 e .0
 
   pub literals-are : literalNumber g ≡ 0
-      → ((j : ℕ) → j < 3 * g .N → isEdge g j ≡ true → word g j / 2 < node g (j / 3)) × ((j : ℕ) → j < g .O → out g j / 2 < node g (g .N))
+      → ((j : ℕ) → j < 3 * g .N → isEdge g j ≡ true → word g j / 2 < node g (j / 3)) × ((j : ℕ) → j < g .O → output g j / 2 < node g (g .N))
   unfolding literalNumber
   literals-are e =
       let b = both _ _ e in
-      ((λ j h t. word-is j t (each-none (3 * g .N) (wordNumber g) (b .0) j h)), (λ j h. out-is j (each-none (g .O) (outNumber g) (b .1) j h)))
+      ((λ j h t. word-is j t (each-none (3 * g .N) (wordNumber g) (b .0) j h)), (λ j h. out-is j (each-none (g .O) (outputNumber g) (b .1) j h)))
 
   pub admitted-by : limitNumber g ≡ 0 → tableNumber g ≡ 0 → literalNumber g ≡ 0 → Admitted g
   admitted-by l t w =
@@ -50,11 +50,11 @@ module _ (g : Graph) where
       record {
         few-inputs = a .0;
         few-nodes = a .1;
-        few-outs = a .2;
+        few-outputs = a .2;
         long-nodes = b .0;
-        long-outs = b .1;
+        long-outputs = b .1;
         below = d .0;
-        out-below = d .1;
+        output-below = d .1;
       }
 
   pub admitted : admissionNumber g ≡ 0 → Admitted g
@@ -68,17 +68,17 @@ module _ (g : Graph) where
     pub limits-none : limitNumber g ≡ 0
     unfolding limitNumber
     limits-none =
-        sym (no-less _ _ _ _ (adm .few-inputs) (no-less _ _ _ _ (adm .few-nodes) (no-less _ _ _ _ (adm .few-outs) refl)))
+        sym (no-less _ _ _ _ (adm .few-inputs) (no-less _ _ _ _ (adm .few-nodes) (no-less _ _ _ _ (adm .few-outputs) refl)))
 
     pub tables-none : tableNumber g ≡ 0
     unfolding tableNumber
-    tables-none = sym (no-less _ _ _ _ (adm .long-nodes) (no-less _ _ _ _ (adm .long-outs) refl))
+    tables-none = sym (no-less _ _ _ _ (adm .long-nodes) (no-less _ _ _ _ (adm .long-outputs) refl))
 
     pub literals-none : literalNumber g ≡ 0
-    unfolding literalNumber outNumber
+    unfolding literalNumber outputNumber
     literals-none =
         sym (none _ _ (all-none _ _ (λ j h. word-none j (adm .below j h)))
-        (sym (all-none _ _ (λ j h. sym (less (out g j / 2) (node g (g .N)) 0 5 (adm .out-below j h) refl)))))
+        (sym (all-none _ _ (λ j h. sym (less (output g j / 2) (node g (g .N)) 0 5 (adm .output-below j h) refl)))))
 
     pub admission-none : admissionNumber g ≡ 0
     unfolding admissionNumber

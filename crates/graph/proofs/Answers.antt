@@ -6,7 +6,7 @@ use native.Mathlib.Omega.{arith}
 use lib.Dec.{ltb}
 use Rattle.graph.specs.Finite.{ifLess, first, firstOf}
 use Rattle.graph.specs.Graph.{Graph, isEdge}
-use Rattle.graph.specs.Admission.{limitNumber, tableNumber, wordNumber, outNumber, literalNumber, admissionNumber}
+use Rattle.graph.specs.Admission.{limitNumber, tableNumber, wordNumber, outputNumber, literalNumber, admissionNumber}
 use Rattle.graph.proofs.Cases.{cond-le}
 use Rattle.graph.specs.Answer.{Answer, Outcome, refused, outcome, unless, guarded}
 
@@ -60,8 +60,8 @@ module _ (g : Graph) where
   unfolding wordNumber
   word-le j = cond-le (isEdge g j) _ _ _ (ifLess-le _ _ _ _ _ (omega arith) (omega arith)) (omega arith)
 
-  out-le : (j : ℕ) → outNumber g j ≤ 5
-  unfolding outNumber
+  out-le : (j : ℕ) → outputNumber g j ≤ 5
+  unfolding outputNumber
   out-le j = ifLess-le _ _ _ _ _ (omega arith) (omega arith)
 
   literal-le : literalNumber g ≤ 5

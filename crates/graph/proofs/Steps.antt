@@ -6,8 +6,8 @@ use native.Mathlib.Numerals.{add-one}
 use native.Mathlib.Omega.{arith}
 use borrow.Author.Tests.{eq-eqb, ne-eqb}
 use Rattle.graph.specs.Finite.{ifLess, ifEqual, first, firstOf}
-use Rattle.graph.specs.Graph.{Graph, mark, node, word, out, isEdge}
-use Rattle.graph.specs.Admission.{wordNumber, outNumber}
+use Rattle.graph.specs.Graph.{Graph, mark, node, word, output, isEdge}
+use Rattle.graph.specs.Admission.{wordNumber, outputNumber}
 use Rattle.graph.proofs.Cases.{cond-not}
 use Rattle.graph.proofs.Tests.{fault, none}
 
@@ -55,6 +55,6 @@ module _ (g : Graph) where
       let f : k ≡ first (first (w (3 * v)) (w (suc (3 * v)))) (w (suc (suc (3 * v)))) = rw (s₂, s₁, first-assoc) (e ∙ sym (node-words v)) in
       rw (s, z) f
 
-  pub out-next : (j k : ℕ) → firstOf j (outNumber g) ≡ 0 → k ≡ ifLess (out g j / 2) (node g (g .N)) 0 5 → k ≡ firstOf (j + 1) (outNumber g)
-  unfolding firstOf outNumber
+  pub out-next : (j k : ℕ) → firstOf j (outputNumber g) ≡ 0 → k ≡ ifLess (output g j / 2) (node g (g .N)) 0 5 → k ≡ firstOf (j + 1) (outputNumber g)
+  unfolding firstOf outputNumber
   out-next j k z e = rw (add-one j) (none _ _ z e)

@@ -5,9 +5,9 @@ use mathlib.Core.List.{[], _∷_}
 use Prim.Native.Nat.{ℕ}
 use Rattle.graph.specs.Finite.{ifLess, first, firstOf, sum, tab}
 use Rattle.graph.specs.Graph.{Graph, graphOf, mark, isXor, isEdge}
-use Rattle.graph.specs.Value.{majority, exclusive, literalValue, nodeValue, values, outValue}
-use Rattle.graph.specs.Count.{C, adds, wordAdds, nodeAdds, outAdds}
-use Rattle.graph.specs.Admission.{limitNumber, tableNumber, wordNumber, outNumber, literalNumber, admissionNumber}
+use Rattle.graph.specs.Value.{majority, exclusive, literalValue, nodeValue, values, outputValue}
+use Rattle.graph.specs.Count.{C, adds, wordAdds, nodeAdds, outputAdds}
+use Rattle.graph.specs.Admission.{limitNumber, tableNumber, wordNumber, outputNumber, literalNumber, admissionNumber}
 use Rattle.graph.specs.Decimal.{decimalIn, decimal}
 
 -- one node of three words with one output
@@ -15,25 +15,25 @@ abbrev one : ℕ → ℕ → ℕ → ℕ → ℕ → Graph
 one i x y z o = graphOf i 1 1 (x ∷ y ∷ z ∷ []) (o ∷ [])
 
 pub c1 : C (one 3 3 5 7 9) ≡ 4
-unfolding C sum nodeAdds outAdds wordAdds adds
+unfolding C sum nodeAdds outputAdds wordAdds adds
 c1 = refl
 
 pub c7 : C (one 2 0 3 5 6) ≡ 2
-unfolding C sum nodeAdds outAdds wordAdds adds
+unfolding C sum nodeAdds outputAdds wordAdds adds
 c7 = refl
 
 -- the mark is odd and no edge, and an odd constant does not count
 pub c-mark : C (one 2 3 1 mark 6) ≡ 1
-unfolding C sum nodeAdds outAdds wordAdds adds
+unfolding C sum nodeAdds outputAdds wordAdds adds
 c-mark = refl
 
 -- the first node may name 7 with I = 3, and not 8
 pub names-7 : admissionNumber (one 3 2 4 7 8) ≡ 0
-unfolding admissionNumber limitNumber tableNumber literalNumber wordNumber outNumber isEdge first firstOf ifLess
+unfolding admissionNumber limitNumber tableNumber literalNumber wordNumber outputNumber isEdge first firstOf ifLess
 names-7 = refl
 
 pub names-8 : admissionNumber (one 3 2 4 8 8) ≡ 5
-unfolding admissionNumber limitNumber tableNumber literalNumber wordNumber outNumber isEdge first firstOf ifLess
+unfolding admissionNumber limitNumber tableNumber literalNumber wordNumber outputNumber isEdge first firstOf ifLess
 names-8 = refl
 
 -- 100,000 nodes are within the limits, and one more is refused before any table is looked at
@@ -51,8 +51,8 @@ unfolding majority
 majority-bits = refl
 
 -- P6 with its first input 0 and its second 1
-pub xor-value : outValue (one 2 3 4 mark 7) (λ k. k) 0 ≡ 1
-unfolding outValue values nodeValue literalValue exclusive isXor tab
+pub xor-value : outputValue (one 2 3 4 mark 7) (λ k. k) 0 ≡ 1
+unfolding outputValue values nodeValue literalValue exclusive isXor tab
 xor-value = refl
 
 pub decimals : (decimal 0 ∷ decimal 9 ∷ decimal 10 ∷ []) ≡ ((48 ∷ []) ∷ (57 ∷ []) ∷ (49 ∷ 48 ∷ []) ∷ [])

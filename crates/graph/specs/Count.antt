@@ -3,7 +3,7 @@ use mathlib.Core.Bool.{Bool, cond, _&&_}
 use Prim.Native.Nat.{ℕ, _+_, _*_, _%_}
 use lib.Dec.{eqb}
 use Rattle.graph.specs.Finite.{sum, count}
-use Rattle.graph.specs.Graph.{Graph, mark, word, out, index, complement, isEdge}
+use Rattle.graph.specs.Graph.{Graph, mark, word, output, index, complement, isEdge}
 
 -- what a literal adds to C: an edge counts if its index is not 0
 unfoldable pub adds : ℕ → ℕ
@@ -16,23 +16,23 @@ wordAdds j x = cond (eqb (j % 3) 2 && eqb x mark) 0 (adds x)
 unfoldable pub nodeAdds : Graph → ℕ → ℕ
 nodeAdds g j = wordAdds j (word g j)
 
-unfoldable pub outAdds : Graph → ℕ → ℕ
-outAdds g j = adds (out g j)
+unfoldable pub outputAdds : Graph → ℕ → ℕ
+outputAdds g j = adds (output g j)
 
 -- C (document 01's term): how many counting edges are complemented
 unfoldable pub C : Graph → ℕ
-C g = sum (3 * g .N) (nodeAdds g) + sum (g .O) (outAdds g)
+C g = sum (3 * g .N) (nodeAdds g) + sum (g .O) (outputAdds g)
 
 -- the word at place j names index u; the mark names nothing
 unfoldable pub named : Graph → ℕ → ℕ → Bool
 named g u j = isEdge g j && eqb (index (word g j)) u
 
-unfoldable pub outNamed : Graph → ℕ → ℕ → Bool
-outNamed g u j = eqb (index (out g j)) u
+unfoldable pub outputNamed : Graph → ℕ → ℕ → Bool
+outputNamed g u j = eqb (index (output g j)) u
 
 -- the readers of index u: the words of the node table that name it, and with them those of the output table
 unfoldable pub nodeReaders : Graph → ℕ → ℕ
 nodeReaders g u = count (3 * g .N) (named g u)
 
 unfoldable pub readers : Graph → ℕ → ℕ
-readers g u = nodeReaders g u + count (g .O) (outNamed g u)
+readers g u = nodeReaders g u + count (g .O) (outputNamed g u)

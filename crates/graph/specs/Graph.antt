@@ -7,17 +7,17 @@ use lib.ListN.{getD}
 use Rattle.graph.specs.Finite.{tab}
 
 -- I inputs, N nodes and O outputs, with both whole tables. Only the first 3 × N words of `nodes` and the first O of
--- `outs` belong to the graph; what follows them is the tables' tails.
+-- `outputs` belong to the graph; what follows them is the tables' tails.
 pub record Graph : Type 0 where
   pub I : ℕ
   pub N : ℕ
   pub O : ℕ
   pub nodes : List ℕ
-  pub outs : List ℕ
+  pub outputs : List ℕ
 
 -- the graph of what an entry is lent
 abbrev pub graphOf : ℕ → ℕ → ℕ → List ℕ → List ℕ → Graph
-graphOf i n o ns os = record { I = i; N = n; O = o; nodes = ns; outs = os }
+graphOf i n o ns os = record { I = i; N = n; O = o; nodes = ns; outputs = os }
 
 -- the mark (document 01's term): the third word of an XOR
 abbrev pub mark : ℕ
@@ -42,8 +42,8 @@ node g v = g .I + 1 + v
 abbrev pub word : Graph → ℕ → ℕ
 word g j = getD (g .nodes) j 0
 
-abbrev pub out : Graph → ℕ → ℕ
-out g j = getD (g .outs) j 0
+abbrev pub output : Graph → ℕ → ℕ
+output g j = getD (g .outputs) j 0
 
 -- node v is an XOR of its first two words; any other node is a majority of its three
 unfoldable pub isXor : Graph → ℕ → Bool
@@ -59,13 +59,13 @@ pub record Wiring : Type 0 where
   pub N : ℕ
   pub O : ℕ
   pub nodes : List ℕ
-  pub outs : List ℕ
+  pub outputs : List ℕ
 
 unfoldable pub wire : Graph → ℕ → ℕ
 wire g j = cond (isEdge g j) (index (word g j)) mark
 
-unfoldable pub outWire : Graph → ℕ → ℕ
-outWire g j = index (out g j)
+unfoldable pub outputWire : Graph → ℕ → ℕ
+outputWire g j = index (output g j)
 
 unfoldable pub wiring : Graph → Wiring
 wiring g =
@@ -74,5 +74,5 @@ wiring g =
       N = g .N;
       O = g .O;
       nodes = tab (3 * g .N) (wire g);
-      outs = tab (g .O) (outWire g);
+      outputs = tab (g .O) (outputWire g);
     }

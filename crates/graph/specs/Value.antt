@@ -4,7 +4,7 @@ use mathlib.Core.List.{List, [], _∷_, _++_}
 use Prim.Native.Nat.{ℕ, zero, suc, _+_, _*_, _%_, min, max}
 use lib.ListN.{getD}
 use Rattle.graph.specs.Finite.{tab}
-use Rattle.graph.specs.Graph.{Graph, word, out, index, complement, isXor}
+use Rattle.graph.specs.Graph.{Graph, word, output, index, complement, isXor}
 
 abbrev pub Assignment : Type 0
 Assignment = ℕ → ℕ
@@ -36,5 +36,5 @@ unfoldable pub value : Graph → Assignment → ℕ → ℕ
 value g a i = getD (values g a (g .N)) i 0
 
 -- the value of an output, counted from 0: that of its literal
-unfoldable pub outValue : Graph → Assignment → ℕ → ℕ
-outValue g a j = literalValue (values g a (g .N)) (out g j)
+unfoldable pub outputValue : Graph → Assignment → ℕ → ℕ
+outputValue g a j = literalValue (values g a (g .N)) (output g j)

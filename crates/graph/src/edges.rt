@@ -5,7 +5,7 @@ ghost use Prim.Native.Nat.{ℕ, _*_, _≤_};
 ghost use lib.ListN.{length};
 ghost use Rattle.graph.specs.Finite.{sum};
 ghost use Rattle.graph.specs.Graph.{graphOf};
-ghost use Rattle.graph.specs.Count.{adds, wordAdds, nodeAdds, outAdds, C};
+ghost use Rattle.graph.specs.Count.{adds, wordAdds, nodeAdds, outputAdds, C};
 ghost use Rattle.graph.specs.Admission.{Admitted};
 use crate::literal::MARK;
 
@@ -46,9 +46,9 @@ pub fn nodes_add(nodes: u32, node_table: &[u32]) -> u32
     c
 }
 
-pub fn outs_add(outputs: u32, output_table: &[u32]) -> u32
+pub fn outputs_add(outputs: u32, output_table: &[u32]) -> u32
     requires { ⌜ outputs ≤ length (now «output_table») ⌝ }
-    ensures { λ r. ⌜ ((i n : ℕ) (ns : List ℕ) → r ≡ sum outputs (outAdds (graphOf i n outputs ns (now («output_table» .entry))))) ⌝ }
+    ensures { λ r. ⌜ ((i n : ℕ) (ns : List ℕ) → r ≡ sum outputs (outputAdds (graphOf i n outputs ns (now («output_table» .entry))))) ⌝ }
 {
     let mut c: u32 = 0;
     let mut j: u32 = 0;
@@ -69,5 +69,5 @@ pub fn complemented(
     requires { ⌜ Admitted (graphOf inputs nodes outputs (now «node_table») (now «output_table»)) ⌝ }
     ensures { λ r. ⌜ (r ≡ C (graphOf inputs nodes outputs (now («node_table» .entry)) (now («output_table» .entry)))) × (r ≤ 304096) ⌝ }
 {
-    nodes_add(nodes, node_table) + outs_add(outputs, output_table)
+    nodes_add(nodes, node_table) + outputs_add(outputs, output_table)
 }

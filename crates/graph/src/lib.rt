@@ -5,9 +5,9 @@ ghost use Rattle.graph.specs.Count.{C};
 ghost use Rattle.graph.specs.Admission.{admissionNumber};
 ghost use Rattle.graph.specs.Answer.{accepted, unless, admissionAnswer, countAnswer};
 
-pub mod checks;
 pub mod decimal;
 pub mod edges;
+pub mod faults;
 pub mod literal;
 
 // Why a call is refused: the causes of document 01's table, in its order.
@@ -45,9 +45,9 @@ pub fn admit_graph(
 ) -> Admission
     ensures { λ r. ⌜ admissionAnswer r ≡ unless (admissionNumber (graphOf inputs nodes outputs (now («node_table» .entry)) (now («output_table» .entry)))) (accepted []) ⌝ }
 {
-    let k = checks::admission_number(inputs, nodes, outputs, node_table, output_table);
+    let k = faults::admission_number(inputs, nodes, outputs, node_table, output_table);
     if k != 0 {
-        return Admission::Refused(checks::refused_by(k));
+        return Admission::Refused(faults::refused_by(k));
     }
     Admission::Admitted
 }
@@ -62,9 +62,9 @@ pub fn complemented_edges(
 ) -> Count
     ensures { λ r. ⌜ countAnswer r ≡ unless (admissionNumber (graphOf inputs nodes outputs (now («node_table» .entry)) (now («output_table» .entry)))) (accepted (C (graphOf inputs nodes outputs (now («node_table» .entry)) (now («output_table» .entry))) ∷ [])) ⌝ }
 {
-    let k = checks::admission_number(inputs, nodes, outputs, node_table, output_table);
+    let k = faults::admission_number(inputs, nodes, outputs, node_table, output_table);
     if k != 0 {
-        return Count::Refused(checks::refused_by(k));
+        return Count::Refused(faults::refused_by(k));
     }
     Count::Edges(edges::complemented(inputs, nodes, outputs, node_table, output_table))
 }

@@ -10,7 +10,7 @@ use lib.Seq.{ext-getD, getD-drop}
 use lib.ListN.{length, getD, drop, length-drop, List·getD-eq-default}
 use Rattle.graph.specs.Admission.{Admitted}
 use Rattle.graph.specs.Graph.{Graph, mark, turn, isEdge, isXor}
-use Rattle.moves.specs.Apply.{Choice, apply, turns, outTurns, own, seen}
+use Rattle.moves.specs.Apply.{Choice, apply, turns, outputTurns, own, seen}
 use Rattle.graph.proofs.Cases.{lt-or-le, cond-same, true-or-false}
 use Rattle.graph.proofs.Finite.{length-tab, getD-tab, getD-tab-past}
 use Rattle.graph.proofs.Turn.{turn-half, turn-zero}
@@ -28,21 +28,21 @@ module _ (g : Graph) (m : Choice) where
   unfolding turns
   turns-edge j h e = rw (lt-ltb j (3 * g .N) h, e)
 
-  pub outTurns-past : (j : ℕ) → g .O ≤ j → outTurns g m j ≡ 0
-  unfolding outTurns
-  outTurns-past j h = rw (le-ltb j (g .O) h)
+  pub outputTurns-past : (j : ℕ) → g .O ≤ j → outputTurns g m j ≡ 0
+  unfolding outputTurns
+  outputTurns-past j h = rw (le-ltb j (g .O) h)
 
-  pub outTurns-at : (j : ℕ) → j < g .O → outTurns g m j ≡ seen g m (getD (g .outs) j 0 / 2)
-  unfolding outTurns
-  outTurns-at j h = rw (lt-ltb j (g .O) h)
+  pub outputTurns-at : (j : ℕ) → j < g .O → outputTurns g m j ≡ seen g m (getD (g .outputs) j 0 / 2)
+  unfolding outputTurns
+  outputTurns-at j h = rw (lt-ltb j (g .O) h)
 
   pub length-nodes : length (apply g m .nodes) ≡ length (g .nodes)
   unfolding apply
   length-nodes = length-tab _ _
 
-  pub length-outs : length (apply g m .outs) ≡ length (g .outs)
+  pub length-outputs : length (apply g m .outputs) ≡ length (g .outputs)
   unfolding apply
-  length-outs = length-tab _ _
+  length-outputs = length-tab _ _
 
   pub node-at : 3 * g .N ≤ length (g .nodes) → (j : ℕ) → getD (apply g m .nodes) j 0 ≡ turn (turns g m j) (getD (g .nodes) j 0)
   unfolding apply
@@ -52,20 +52,20 @@ module _ (g : Graph) (m : Choice) where
       (λ (h : length (g .nodes) ≤ j). getD-tab-past _ _ j h ∙ sym (rw (List·getD-eq-default (g .nodes) 0 h, turns-past j (omega arith)) (turn-zero 0)))
       (lt-or-le j (length (g .nodes)))
 
-  pub out-at : g .O ≤ length (g .outs) → (j : ℕ) → getD (apply g m .outs) j 0 ≡ turn (outTurns g m j) (getD (g .outs) j 0)
+  pub out-at : g .O ≤ length (g .outputs) → (j : ℕ) → getD (apply g m .outputs) j 0 ≡ turn (outputTurns g m j) (getD (g .outputs) j 0)
   unfolding apply
   out-at long j =
       ⊎-elim
-      (λ (h : j < length (g .outs)). getD-tab _ _ j h)
-      (λ (h : length (g .outs) ≤ j). getD-tab-past _ _ j h ∙ sym (rw (List·getD-eq-default (g .outs) 0 h, outTurns-past j (omega arith)) (turn-zero 0)))
-      (lt-or-le j (length (g .outs)))
+      (λ (h : j < length (g .outputs)). getD-tab _ _ j h)
+      (λ (h : length (g .outputs) ≤ j). getD-tab-past _ _ j h ∙ sym (rw (List·getD-eq-default (g .outputs) 0 h, outputTurns-past j (omega arith)) (turn-zero 0)))
+      (lt-or-le j (length (g .outputs)))
 
 module _ (g : Graph) (m : Choice) (adm : Admitted g) where
   pub wiring : (j : ℕ) → getD (apply g m .nodes) j 0 / 2 ≡ getD (g .nodes) j 0 / 2
   wiring j = rw (node-at g m (adm .long-nodes) j) (turn-half _ _)
 
-  pub out-wiring : (j : ℕ) → getD (apply g m .outs) j 0 / 2 ≡ getD (g .outs) j 0 / 2
-  out-wiring j = rw (out-at g m (adm .long-outs) j) (turn-half _ _)
+  pub out-wiring : (j : ℕ) → getD (apply g m .outputs) j 0 / 2 ≡ getD (g .outputs) j 0 / 2
+  out-wiring j = rw (out-at g m (adm .long-outputs) j) (turn-half _ _)
 
   pub still : (j : ℕ) → turns g m j ≡ 0 → getD (apply g m .nodes) j 0 ≡ getD (g .nodes) j 0
   still j e = rw (node-at g m (adm .long-nodes) j, e) (turn-zero _)
@@ -73,8 +73,8 @@ module _ (g : Graph) (m : Choice) (adm : Admitted g) where
   pub tail : (j : ℕ) → 3 * g .N ≤ j → getD (apply g m .nodes) j 0 ≡ getD (g .nodes) j 0
   tail j h = still j (turns-past g m j h)
 
-  pub out-tail : (j : ℕ) → g .O ≤ j → getD (apply g m .outs) j 0 ≡ getD (g .outs) j 0
-  out-tail j h = rw (out-at g m (adm .long-outs) j, outTurns-past g m j h) (turn-zero _)
+  pub out-tail : (j : ℕ) → g .O ≤ j → getD (apply g m .outputs) j 0 ≡ getD (g .outputs) j 0
+  out-tail j h = rw (out-at g m (adm .long-outputs) j, outputTurns-past g m j h) (turn-zero _)
 
   pub tails : drop (3 * g .N) (apply g m .nodes) ≡ drop (3 * g .N) (g .nodes)
   tails = ext-getD 0 _ _ (simp (length-drop, length-nodes)) (λ i h. simp getD-drop (tail (3 * g .N + i) (omega arith)))
@@ -112,9 +112,9 @@ module _ (g : Graph) (m : Choice) (adm : Admitted g) where
       record {
         few-inputs = adm .few-inputs;
         few-nodes = adm .few-nodes;
-        few-outs = adm .few-outs;
+        few-outputs = adm .few-outputs;
         long-nodes = rw (length-nodes g m) (adm .long-nodes);
-        long-outs = rw (length-outs g m) (adm .long-outs);
+        long-outputs = rw (length-outputs g m) (adm .long-outputs);
         below = λ j h e. rw (wiring j) (adm .below j h (rw (same-edge j) at e));
-        out-below = λ j h. rw (out-wiring j) (adm .out-below j h);
+        output-below = λ j h. rw (out-wiring j) (adm .output-below j h);
       }

@@ -9,14 +9,14 @@ use borrow.Author.Tests.{eqb-true, eqb-false, eq-eqb, ne-eqb, not-false, not-tru
 use lib.Dec.{eqb, ltb}
 use lib.ListN.{getD}
 use Rattle.graph.specs.Admission.{Admitted}
-use Rattle.graph.specs.Count.{adds, wordAdds, nodeAdds, outAdds}
+use Rattle.graph.specs.Count.{adds, wordAdds, nodeAdds, outputAdds}
 use Rattle.graph.specs.Finite.{ifLess, sum}
-use Rattle.graph.specs.Graph.{Graph, mark, isEdge, isXor, turn, node, word, out}
-use Rattle.moves.specs.Apply.{Choice, own, seen, turns, outTurns, apply, at}
+use Rattle.graph.specs.Graph.{Graph, mark, isEdge, isXor, turn, node, word, output}
+use Rattle.moves.specs.Apply.{Choice, own, seen, turns, outputTurns, apply, at}
 use Rattle.moves.specs.Rows.{firstRow, arity, flag, rows}
 use Rattle.graph.proofs.Cases.{true-or-false, cond-same}
 use Rattle.graph.proofs.Turn.{turn-half, turn-bit}
-use Rattle.moves.proofs.Apply.{node-at, out-at, same-mark, turns-edge, turns-mark, outTurns-at}
+use Rattle.moves.proofs.Apply.{node-at, out-at, same-mark, turns-edge, turns-mark, outputTurns-at}
 use Rattle.moves.proofs.Compose.{seen-node}
 
 zeros : (i : ℕ) → _≡_ {A = ℕ} (getD (0 ∷ 0 ∷ 0 ∷ 0 ∷ []) i 0) 0
@@ -87,6 +87,6 @@ module _ (g : Graph) (d : Choice) where
         go true e = refl
         go false e = rw (node-at g d (adm .long-nodes) j, turns-edge g d j h (ap not e)) (adds-turn (word g j) _ (word g j + own g d j) (omega arith))
 
-    pub out-adds : (j : ℕ) → j < g .O → outAdds (apply g d) j ≡ plain (out g j / 2) (out g j)
-    unfolding outAdds
-    out-adds j h = rw (out-at g d (adm .long-outs) j, outTurns-at g d j h) (adds-turn (out g j) _ (out g j) refl)
+    pub out-adds : (j : ℕ) → j < g .O → outputAdds (apply g d) j ≡ plain (output g j / 2) (output g j)
+    unfolding outputAdds
+    out-adds j h = rw (out-at g d (adm .long-outputs) j, outputTurns-at g d j h) (adds-turn (output g j) _ (output g j) refl)

@@ -11,11 +11,11 @@ use lib.Seq.{ext-getD}
 use lib.ListN.{length, getD}
 use Rattle.graph.specs.Admission.{Admitted}
 use Rattle.graph.specs.Graph.{Graph, turn, isEdge, isXor}
-use Rattle.moves.specs.Apply.{Choice, apply, turns, outTurns, own, seen, compose, Permitted}
+use Rattle.moves.specs.Apply.{Choice, apply, turns, outputTurns, own, seen, compose, Permitted}
 use Rattle.moves.specs.Rows.{flag, combined, arity}
 use Rattle.graph.proofs.Cases.{lt-or-le, true-or-false, cond-same}
 use Rattle.graph.proofs.Turn.{turn-half, turn-zero, turn-turn, turn-same}
-use Rattle.moves.proofs.Apply.{length-nodes, length-outs, node-at, out-at, wiring, out-wiring, same-xor, same-edge, admitted, turns-past, turns-mark, turns-edge, outTurns-past, outTurns-at}
+use Rattle.moves.proofs.Apply.{length-nodes, length-outputs, node-at, out-at, wiring, out-wiring, same-xor, same-edge, admitted, turns-past, turns-mark, turns-edge, outputTurns-past, outputTurns-at}
 use Rattle.moves.proofs.Flags.{flag-both}
 
 module _ (g : Graph) (m : Choice) where
@@ -61,15 +61,15 @@ module _ (g : Graph) (m : Choice) (adm : Admitted g) (n : Choice) where
   unfolding turns apply
   same-turns j = rw (same-edge g m adm j, wiring g m adm j, same-own j, same-seen)
 
-  pub same-outTurns : (j : ℕ) → outTurns (apply g m) n j ≡ outTurns g n j
-  unfolding outTurns apply
+  pub same-outTurns : (j : ℕ) → outputTurns (apply g m) n j ≡ outputTurns g n j
+  unfolding outputTurns apply
   same-outTurns j = rw (out-wiring g m adm j, same-seen)
 
 parity : (a b c d : ℕ) → ((a + b) % 2 + (c + d) % 2) % 2 ≡ (a + c + (b + d)) % 2
 parity a b c d = omega arith
 
-pub same-graph : (i n o : ℕ) {ns ns′ os os′ : List ℕ} → ns ≡ ns′ → os ≡ os′ → _≡_ {A = Graph} (record { I = i; N = n; O = o; nodes = ns; outs = os }) (record { I = i; N = n; O = o; nodes = ns′; outs = os′ })
-same-graph i n o p q = λ k. record { I = i; N = n; O = o; nodes = p k; outs = q k }
+pub same-graph : (i n o : ℕ) {ns ns′ os os′ : List ℕ} → ns ≡ ns′ → os ≡ os′ → _≡_ {A = Graph} (record { I = i; N = n; O = o; nodes = ns; outputs = os }) (record { I = i; N = n; O = o; nodes = ns′; outputs = os′ })
+same-graph i n o p q = λ k. record { I = i; N = n; O = o; nodes = p k; outputs = q k }
 
 module _ (g : Graph) (m n : Choice) where
   join-at : (v : ℕ) → compose g m n (g .I + 1 + v) ≡ combined (isXor g v) (m (g .I + 1 + v)) (n (g .I + 1 + v))
@@ -101,11 +101,11 @@ module _ (g : Graph) (m n : Choice) (vm : Permitted g m) (vn : Permitted g n) wh
       (λ (h : 3 * g .N ≤ j). rw (turns-past g m j h, turns-past g n j h, turns-past g (compose g m n) j h))
       (lt-or-le j (3 * g .N))
 
-  pub outTurns-join : (j : ℕ) → outTurns g (compose g m n) j % 2 ≡ (outTurns g m j + outTurns g n j) % 2
-  outTurns-join j =
+  pub outputTurns-join : (j : ℕ) → outputTurns g (compose g m n) j % 2 ≡ (outputTurns g m j + outputTurns g n j) % 2
+  outputTurns-join j =
       ⊎-elim
-      (λ (h : j < g .O). omega (arith, outTurns-at g m j h, outTurns-at g n j h, outTurns-at g (compose g m n) j h, seen-join (getD (g .outs) j 0 / 2)))
-      (λ (h : g .O ≤ j). rw (outTurns-past g m j h, outTurns-past g n j h, outTurns-past g (compose g m n) j h))
+      (λ (h : j < g .O). omega (arith, outputTurns-at g m j h, outputTurns-at g n j h, outputTurns-at g (compose g m n) j h, seen-join (getD (g .outputs) j 0 / 2)))
+      (λ (h : g .O ≤ j). rw (outputTurns-past g m j h, outputTurns-past g n j h, outputTurns-past g (compose g m n) j h))
       (lt-or-le j (g .O))
 
   module _ (adm : Admitted g) where
@@ -114,14 +114,14 @@ module _ (g : Graph) (m n : Choice) (vm : Permitted g m) (vn : Permitted g n) wh
         rw (node-at (apply g m) n (admitted g m adm .long-nodes) j, node-at g m (adm .long-nodes) j, node-at g (compose g m n) (adm .long-nodes) j, same-turns g m adm n j, turn-turn)
         (turn-same _ _ _ (sym (turns-join j)))
 
-    pub compose-out : (j : ℕ) → getD (apply (apply g m) n .outs) j 0 ≡ getD (apply g (compose g m n) .outs) j 0
+    pub compose-out : (j : ℕ) → getD (apply (apply g m) n .outputs) j 0 ≡ getD (apply g (compose g m n) .outputs) j 0
     compose-out j =
-        rw (out-at (apply g m) n (admitted g m adm .long-outs) j, out-at g m (adm .long-outs) j, out-at g (compose g m n) (adm .long-outs) j, same-outTurns g m adm n j, turn-turn)
-        (turn-same _ _ _ (sym (outTurns-join j)))
+        rw (out-at (apply g m) n (admitted g m adm .long-outputs) j, out-at g m (adm .long-outputs) j, out-at g (compose g m n) (adm .long-outputs) j, same-outTurns g m adm n j, turn-turn)
+        (turn-same _ _ _ (sym (outputTurns-join j)))
 
     pub apply-apply : apply (apply g m) n ≡ apply g (compose g m n)
     unfolding apply
     apply-apply =
         same-graph (g .I) (g .N) (g .O)
         (ext-getD 0 _ _ (length-nodes (apply g m) n ∙ length-nodes g m ∙ sym (length-nodes g (compose g m n))) (λ j h. compose-node j))
-        (ext-getD 0 _ _ (length-outs (apply g m) n ∙ length-outs g m ∙ sym (length-outs g (compose g m n))) (λ j h. compose-out j))
+        (ext-getD 0 _ _ (length-outputs (apply g m) n ∙ length-outputs g m ∙ sym (length-outputs g (compose g m n))) (λ j h. compose-out j))

@@ -9,7 +9,7 @@ use borrow.Author.Tests.{lt-ltb, ne-eqb}
 use lib.Dec.{eqb}
 use lib.ListN.{getD}
 use Rattle.graph.specs.Admission.{Admitted}
-use Rattle.graph.specs.Count.{adds, named, outNamed, nodeReaders, readers}
+use Rattle.graph.specs.Count.{adds, named, outputNamed, nodeReaders, readers}
 use Rattle.graph.specs.Finite.{ifLess, ifEqual, count}
 use Rattle.graph.specs.Graph.{Graph, mark, node, word, turn, isEdge}
 use Rattle.moves.specs.Rows.{rows, firstRow, arity, flag}
@@ -96,9 +96,9 @@ numbers-low g v adm =
           omega (
             arith,
             adm .few-nodes,
-            adm .few-outs,
+            adm .few-outputs,
             sum-le (λ j. cond (named g (node g v) j) 1 0) (λ j. one-or-none (named g (node g v) j)) (3 * g .N),
-            sum-le (λ j. cond (outNamed g (node g v) j) 1 0) (λ j. one-or-none (outNamed g (node g v) j)) (g .O),
+            sum-le (λ j. cond (outputNamed g (node g v) j) 1 0) (λ j. one-or-none (outputNamed g (node g v) j)) (g .O),
           );
     }
   where

@@ -9,8 +9,8 @@ use native.Mathlib.Omega.{arith}
 use lib.Seq.{ext-getD}
 use lib.ListN.{length, getD}
 use Rattle.graph.specs.Finite.{tab}
-use Rattle.graph.specs.Graph.{Graph, Wiring, node, word, out, isXor, isEdge, index, mark, turn, wire, outWire, wiring}
-use Rattle.graph.specs.Value.{Assignment, outValue}
+use Rattle.graph.specs.Graph.{Graph, Wiring, node, word, output, isXor, isEdge, index, mark, turn, wire, outputWire, wiring}
+use Rattle.graph.specs.Value.{Assignment, outputValue}
 use Rattle.graph.specs.Count.{C}
 use Rattle.graph.specs.Admission.{Admitted}
 use Rattle.graph.specs.Answer.{Answer, Outcome}
@@ -20,7 +20,7 @@ use Rattle.graph.proofs.Turn.{turn-zero}
 use Rattle.choice.specs.Choice.{best, Fits, zeros}
 use Rattle.choice.proofs.Best.{best-is, best-zeros}
 use Rattle.moves.specs.Rows.{arity, movesAt}
-use Rattle.moves.specs.Apply.{Choice, none, at, put, Permitted, turns, outTurns, apply}
+use Rattle.moves.specs.Apply.{Choice, none, at, put, Permitted, turns, outputTurns, apply}
 use Rattle.moves.specs.Call.{moved, movedC, bestAt, rewrite}
 use Rattle.moves.proofs.Apply as applied
 use Rattle.moves.proofs.Compose.{same-graph}
@@ -29,8 +29,8 @@ use Rattle.moves.proofs.Values.{out-kept}
 use Rattle.moves.proofs.TreeBest.{movesAt-node, movesAt-fit, arity-pos}
 
 same-wiring : (i n o : ℕ) {ns ns′ os os′ : List ℕ} → ns ≡ ns′ → os ≡ os′
-    → _≡_ {A = Wiring} (record { I = i; N = n; O = o; nodes = ns; outs = os }) (record { I = i; N = n; O = o; nodes = ns′; outs = os′ })
-same-wiring i n o p q = λ k. record { I = i; N = n; O = o; nodes = p k; outs = q k }
+    → _≡_ {A = Wiring} (record { I = i; N = n; O = o; nodes = ns; outputs = os }) (record { I = i; N = n; O = o; nodes = ns′; outputs = os′ })
+same-wiring i n o p q = λ k. record { I = i; N = n; O = o; nodes = p k; outputs = q k }
 
 -- h comes from g by moves that save so much
 pub record Kept (g h : Graph) (saved : ℕ) : Type 0 where
@@ -39,7 +39,7 @@ pub record Kept (g h : Graph) (saved : ℕ) : Type 0 where
   pub same-N : h .N ≡ g .N
   pub same-O : h .O ≡ g .O
   pub wired : wiring h ≡ wiring g
-  pub outputs : (a : Assignment) (j : ℕ) → j < g .O → outValue h a j ≡ outValue g a j
+  pub outputs : (a : Assignment) (j : ℕ) → j < g .O → outputValue h a j ≡ outputValue g a j
   pub count : C h + saved ≡ C g
 
 pub kept-none : (g : Graph) → Admitted g → Kept g g 0
@@ -63,14 +63,14 @@ module _ (g : Graph) (m : Choice) (adm : Admitted g) where
   unfolding wire
   wire-kept j = rw (applied.same-edge g m adm j, applied.wiring g m adm j)
 
-  outWire-kept : (j : ℕ) → outWire (apply g m) j ≡ outWire g j
-  unfolding outWire
-  outWire-kept j = applied.out-wiring g m adm j
+  outputWire-kept : (j : ℕ) → outputWire (apply g m) j ≡ outputWire g j
+  unfolding outputWire
+  outputWire-kept j = applied.out-wiring g m adm j
 
   pub wiring-kept : wiring (apply g m) ≡ wiring g
   unfolding wiring apply
   wiring-kept =
-      same-wiring (g .I) (g .N) (g .O) (tab-same (3 * g .N) _ _ (λ j h. wire-kept j)) (tab-same (g .O) _ _ (λ j h. outWire-kept j))
+      same-wiring (g .I) (g .N) (g .O) (tab-same (3 * g .N) _ _ (λ j h. wire-kept j)) (tab-same (g .O) _ _ (λ j h. outputWire-kept j))
 
   pub apply-kept : C (apply g m) ≤ C g → Kept g (apply g m) (C g - C (apply g m))
   unfolding apply
@@ -99,11 +99,11 @@ module _ (g : Graph) (m : Choice) (adm : Admitted g) (idle : (u : ℕ) → m u �
       (λ (h : 3 * g .N ≤ j). applied.turns-past g m j h)
       (lt-or-le j (3 * g .N))
 
-  outTurns-idle : (j : ℕ) → outTurns g m j ≡ 0
-  outTurns-idle j =
+  outputTurns-idle : (j : ℕ) → outputTurns g m j ≡ 0
+  outputTurns-idle j =
       ⊎-elim
-      (λ (h : j < g .O). applied.outTurns-at g m j h ∙ seen-none g m (out g j / 2) (idle (out g j / 2)))
-      (λ (h : g .O ≤ j). applied.outTurns-past g m j h)
+      (λ (h : j < g .O). applied.outputTurns-at g m j h ∙ seen-none g m (output g j / 2) (idle (output g j / 2)))
+      (λ (h : g .O ≤ j). applied.outputTurns-past g m j h)
       (lt-or-le j (g .O))
 
   pub apply-idle : apply g m ≡ g
@@ -111,7 +111,7 @@ module _ (g : Graph) (m : Choice) (adm : Admitted g) (idle : (u : ℕ) → m u �
   apply-idle =
       same-graph (g .I) (g .N) (g .O)
       (ext-getD 0 _ _ (applied.length-nodes g m) (λ j h. applied.node-at g m (adm .long-nodes) j ∙ rw (turns-idle j) (turn-zero _)))
-      (ext-getD 0 _ _ (applied.length-outs g m) (λ j h. applied.out-at g m (adm .long-outs) j ∙ rw (outTurns-idle j) (turn-zero _)))
+      (ext-getD 0 _ _ (applied.length-outputs g m) (λ j h. applied.out-at g m (adm .long-outputs) j ∙ rw (outputTurns-idle j) (turn-zero _)))
 
 put-zeros : (ns us : List ℕ) (d : Choice) → ((u : ℕ) → d u ≡ 0) → (u : ℕ) → put d us (zeros ns) u ≡ 0
 unfolding put

@@ -8,9 +8,9 @@ use borrow.Author.Tests.{ltb-true, ltb-false, eqb-true, eqb-false, eq-eqb, ne-eq
 use lib.Dec.{eqb, ltb}
 use lib.ListN.{getD}
 use Rattle.graph.specs.Admission.{Admitted}
-use Rattle.graph.specs.Count.{nodeAdds, outAdds, C, named}
+use Rattle.graph.specs.Count.{nodeAdds, outputAdds, C, named}
 use Rattle.graph.specs.Finite.{sum}
-use Rattle.graph.specs.Graph.{Graph, isEdge, isXor, node, word, out}
+use Rattle.graph.specs.Graph.{Graph, isEdge, isXor, node, word, output}
 use Rattle.moves.specs.Apply.{Choice, own, seen, apply, at}
 use Rattle.moves.specs.Cost.{inner, edgeCost, turnedCost, wordCost, ownCost, moveCost, shows}
 use Rattle.moves.specs.Rows.{flag}
@@ -34,7 +34,7 @@ unfoldable pub term : Graph → (ℕ → ℕ → ℕ) → ℕ → ℕ → Choice
 term g c r n d j = cond (undecided g r n (node g (j / 3))) 0 (cond (isEdge g j) (part g c r n d (word g j / 2) (word g j + own g d j)) 0)
 
 unfoldable pub Φ : Graph → (ℕ → ℕ → ℕ) → ℕ → ℕ → Choice → ℕ
-Φ g c r n d = sum (3 * g .N) (term g c r n d) + sum (g .O) (outAdds (apply g d))
+Φ g c r n d = sum (3 * g .N) (term g c r n d) + sum (g .O) (outputAdds (apply g d))
 
 -- no move outside the tree
 abbrev pub Off : Graph → ℕ → Choice → Type 0
@@ -89,14 +89,14 @@ module _ (g : Graph) (c : ℕ → ℕ → ℕ) (r : ℕ) (adm : Admitted g) wher
 
   pub Φ-zero : (d : Choice) → Φ g c r 0 d ≡ C (apply g d)
   unfolding Φ C apply
-  Φ-zero d = ap (λ x. x + sum (g .O) (outAdds (apply g d))) (sum-same (3 * g .N) _ _ (term-zero d))
+  Φ-zero d = ap (λ x. x + sum (g .O) (outputAdds (apply g d))) (sum-same (3 * g .N) _ _ (term-zero d))
 
   -- a node outside the tree
   pub Φ-other : (n : ℕ) (d : Choice) → rootOf g (node g n) ≢ r → Φ g c r (suc n) d ≡ Φ g c r n d
   unfolding Φ term part
   Φ-other n d h =
       let s : (u : ℕ) → undecided g r (suc n) u ≡ undecided g r n u = λ u. undecided-same g r n u (λ e. rw e h) in
-      ap (λ x. x + sum (g .O) (outAdds (apply g d))) (sum-same (3 * g .N) _ _ (λ j l. rw (s (node g (j / 3)), s (word g j / 2))))
+      ap (λ x. x + sum (g .O) (outputAdds (apply g d))) (sum-same (3 * g .N) _ _ (λ j l. rw (s (node g (j / 3)), s (word g j / 2))))
 
   -- the own words of a node v of the tree, once v is decided
   module _ (n : ℕ) (h : n < g .N) (t : rootOf g (node g n) ≡ r) where
@@ -170,8 +170,8 @@ module _ (g : Graph) (c : ℕ → ℕ → ℕ) (r : ℕ) (adm : Admitted g) wher
           (λ (e : isEdge g j ≡ false). rw e)
           (true-or-false (isEdge g j)))
 
-      pub away-out : (j : ℕ) → j < g .O → out g j / 2 ≢ node g n → outAdds (apply g d) j ≡ outAdds (apply g (at d (node g n) k)) j
-      away-out j l f = rw (out-adds g d adm j l, out-adds g (at d (node g n) k) adm j l, seen-other d (node g n) k g (out g j / 2) f)
+      pub away-out : (j : ℕ) → j < g .O → output g j / 2 ≢ node g n → outputAdds (apply g d) j ≡ outputAdds (apply g (at d (node g n) k)) j
+      away-out j l f = rw (out-adds g d adm j l, out-adds g (at d (node g n) k) adm j l, seen-other d (node g n) k g (output g j / 2) f)
 
       -- the word that names a non-root v
       module _ (s : isRoot g (node g n) ≡ false) where

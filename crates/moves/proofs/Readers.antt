@@ -7,9 +7,9 @@ use native.Mathlib.Omega.{arith}
 use borrow.Author.Tests.{eqb-true, eqb-false, eq-eqb, not-false}
 use lib.Dec.{eqb}
 use Rattle.graph.specs.Admission.{Admitted}
-use Rattle.graph.specs.Count.{named, outNamed, nodeReaders, readers}
+use Rattle.graph.specs.Count.{named, outputNamed, nodeReaders, readers}
 use Rattle.graph.specs.Finite.{sum, count}
-use Rattle.graph.specs.Graph.{Graph, isEdge, node, word, out}
+use Rattle.graph.specs.Graph.{Graph, isEdge, node, word, output}
 use Rattle.moves.specs.Tree.{last, isRoot, place, reader, rootIn, rootOf}
 use Rattle.graph.proofs.Cases.{true-or-false}
 use Rattle.moves.proofs.Count.{count-none, count-only, Only, clash}
@@ -30,17 +30,17 @@ module _ (g : Graph) where
   -- a non-root has one reader, and that is a word of the node table
   pub record Single (u : ℕ) : Type 0 where
     pub at : Only (named g u) (3 * g .N) (place g u)
-    pub no-out : (j : ℕ) → j < g .O → out g j / 2 ≢ u
+    pub no-out : (j : ℕ) → j < g .O → output g j / 2 ≢ u
 
   pub single : (u : ℕ) → isRoot g u ≡ false → Single u
-  unfolding isRoot readers nodeReaders place outNamed
+  unfolding isRoot readers nodeReaders place outputNamed
   single u e =
       let b = both-true (eqb (readers g u) 1) (eqb (nodeReaders g u) 1) (not-false _ e) in
-      let r : nodeReaders g u + count (g .O) (outNamed g u) ≡ 1 = eqb-true _ _ (b .0) in
+      let r : nodeReaders g u + count (g .O) (outputNamed g u) ≡ 1 = eqb-true _ _ (b .0) in
       let n : nodeReaders g u ≡ 1 = eqb-true _ _ (b .1) in
       record {
         at = count-only (named g u) (3 * g .N) n;
-        no-out = λ j h q. eqb-false _ _ (count-none (outNamed g u) (g .O) (omega arith) j h) q;
+        no-out = λ j h q. eqb-false _ _ (count-none (outputNamed g u) (g .O) (omega arith) j h) q;
       }
 
   module _ (adm : Admitted g) where

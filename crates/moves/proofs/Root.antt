@@ -8,9 +8,9 @@ use borrow.Author.Tests.{ltb-true, ltb-false, eqb-true, eqb-false, eq-eqb, ne-eq
 use lib.Dec.{eqb, ltb}
 use lib.ListN.{getD}
 use Rattle.graph.specs.Admission.{Admitted}
-use Rattle.graph.specs.Count.{nodeAdds, outAdds, C, named, outNamed}
+use Rattle.graph.specs.Count.{nodeAdds, outputAdds, C, named, outputNamed}
 use Rattle.graph.specs.Finite.{sum}
-use Rattle.graph.specs.Graph.{Graph, isEdge, isXor, node, word, out}
+use Rattle.graph.specs.Graph.{Graph, isEdge, isXor, node, word, output}
 use Rattle.moves.specs.Apply.{Choice, own, seen, apply, at, none}
 use Rattle.moves.specs.Cost.{inner, shown, ownCost, wordCost, rootCost}
 use Rattle.moves.specs.Rows.{flag}
@@ -27,11 +27,11 @@ use Rattle.moves.proofs.Potential.{undecided, part, term, Φ, Off, unde
 fixed : Graph → (ℕ → ℕ → ℕ) → ℕ → ℕ → ℕ
 fixed g c n j = cond (eqb (j / 3) n) 0 (cond (named g (node g n) j) 0 (term g c (node g n) (suc n) none j))
 
-outFixed : Graph → ℕ → ℕ → ℕ
-outFixed g n j = cond (outNamed g (node g n) j) 0 (outAdds (apply g none) j)
+outputFixed : Graph → ℕ → ℕ → ℕ
+outputFixed g n j = cond (outputNamed g (node g n) j) 0 (outputAdds (apply g none) j)
 
 pub allFixed : Graph → (ℕ → ℕ → ℕ) → ℕ → ℕ
-allFixed g c n = sum (3 * g .N) (fixed g c n) + sum (g .O) (outFixed g n)
+allFixed g c n = sum (3 * g .N) (fixed g c n) + sum (g .O) (outputFixed g n)
 
 module _ (g : Graph) (c : ℕ → ℕ → ℕ) (adm : Admitted g) (n : ℕ) (h : n < g .N) (t : isRoot g (node g n) ≡ true) (k : ℕ) where
   own-root : rootOf g (node g n) ≡ node g n
@@ -81,16 +81,16 @@ module _ (g : Graph) (c : ℕ → ℕ → ℕ) (adm : Admitted g) (n : ℕ) (h :
   unfolding fixed read
   own-apart i l = rw (own-unnamed i l, eq-eqb ((3 * n + i) / 3) n (omega arith))
 
-  out-apart : (j : ℕ) → j < g .O → cond (outNamed g (node g n) j) ((out g j + flag (isXor g n) k 3) % 2) 0 + outFixed g n j ≡ outAdds (apply g (at none (node g n) k)) j
-  unfolding outFixed outNamed
+  out-apart : (j : ℕ) → j < g .O → cond (outputNamed g (node g n) j) ((output g j + flag (isXor g n) k 3) % 2) 0 + outputFixed g n j ≡ outputAdds (apply g (at none (node g n) k)) j
+  unfolding outputFixed outputNamed
   out-apart j l =
       ⊎-elim
-      (λ (e : eqb (out g j / 2) (node g n) ≡ true).
-      rw (e, out-adds g (at none (node g n) k) adm j l, eqb-true (out g j / 2) (node g n) e, ne-eqb (node g n) 0 (λ z. omega arith), seen-node g (at none (node g n) k) n h, at-same none (node g n) k)
+      (λ (e : eqb (output g j / 2) (node g n) ≡ true).
+      rw (e, out-adds g (at none (node g n) k) adm j l, eqb-true (output g j / 2) (node g n) e, ne-eqb (node g n) 0 (λ z. omega arith), seen-node g (at none (node g n) k) n h, at-same none (node g n) k)
       (omega arith))
-      (λ (e : eqb (out g j / 2) (node g n) ≡ false).
+      (λ (e : eqb (output g j / 2) (node g n) ≡ false).
       rw e (omega (arith, away-out g c (node g n) adm n h own-root none (λ u q. refl) k j l (eqb-false _ _ e))))
-      (true-or-false (eqb (out g j / 2) (node g n)))
+      (true-or-false (eqb (output g j / 2) (node g n)))
 
   pub Φ-root : Φ g c (node g n) n (at none (node g n) k) ≡ rootCost g (inner g) c n k + allFixed g c n
   unfolding Φ rootCost ownCost shown allFixed read
@@ -104,7 +104,7 @@ module _ (g : Graph) (c : ℕ → ℕ → ℕ) (adm : Admitted g) (n : ℕ) (h :
         w,
         os,
         sum-add (3 * g .N) read (fixed g c n),
-        sum-add (g .O) (λ j. cond (outNamed g (node g n) j) ((out g j + flag (isXor g n) k 3) % 2) 0) (outFixed g n),
+        sum-add (g .O) (λ j. cond (outputNamed g (node g n) j) ((output g j + flag (isXor g n) k 3) % 2) 0) (outputFixed g n),
         own 0 (omega arith),
         own 1 (omega arith),
         own 2 (omega arith),

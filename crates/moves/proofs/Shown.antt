@@ -3,9 +3,9 @@ use mathlib.Core.Path.{_≡_, refl, sym, ap, _∙_}
 use mathlib.Core.Bool.{Bool, true, false, cond}
 use Prim.Native.Nat.{ℕ, zero, suc, _+_, _-_, _*_, _%_, _≤_, _<_}
 use native.Mathlib.Omega.{arith}
-use Rattle.graph.specs.Count.{named, outNamed, nodeReaders, readers}
+use Rattle.graph.specs.Count.{named, outputNamed, nodeReaders, readers}
 use Rattle.graph.specs.Finite.{ifEqual, sum, count}
-use Rattle.graph.specs.Graph.{Graph, word, out}
+use Rattle.graph.specs.Graph.{Graph, word, output}
 use Rattle.moves.specs.Cost.{shown}
 use Rattle.graph.proofs.Finite.{sum-same}
 use Rattle.moves.proofs.Count.{sum-add}
@@ -20,7 +20,7 @@ halves n t x = sym (sum-add n (λ j. cond (t j) ((x j + 0) % 2) 0) (λ j. cond (
 
 pub shown-both : (g : Graph) (u : ℕ) → shown g u 0 + shown g u 1 ≡ readers g u
 unfolding shown readers nodeReaders
-shown-both g u = omega (arith, halves (3 * g .N) (named g u) (λ j. word g j), halves (g .O) (outNamed g u) (λ j. out g j))
+shown-both g u = omega (arith, halves (3 * g .N) (named g u) (λ j. word g j), halves (g .O) (outputNamed g u) (λ j. output g j))
 
 pub all-readers : (g : Graph) (u f : ℕ) → f ≤ 1 → ifEqual f 0 (shown g u 0) (readers g u - shown g u 0) ≡ shown g u f
 unfolding ifEqual

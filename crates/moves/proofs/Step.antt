@@ -10,9 +10,9 @@ use borrow.Author.Tests.{eqb-true, eqb-false, eq-eqb, ne-eqb}
 use lib.Dec.{eqb}
 use lib.ListN.{getD}
 use Rattle.graph.specs.Admission.{Admitted}
-use Rattle.graph.specs.Count.{nodeAdds, outAdds, C, named, outNamed, readers}
+use Rattle.graph.specs.Count.{nodeAdds, outputAdds, C, named, outputNamed, readers}
 use Rattle.graph.specs.Finite.{sum, ifEqual}
-use Rattle.graph.specs.Graph.{Graph, isEdge, isXor, node, word, out}
+use Rattle.graph.specs.Graph.{Graph, isEdge, isXor, node, word, output}
 use Rattle.moves.specs.Apply.{Choice, own, apply, at}
 use Rattle.moves.specs.Cost.{shown}
 use Rattle.moves.specs.Decide.{costBy, costWith}
@@ -37,11 +37,11 @@ costsAfter g d v = afterMove g d v 0 0 ∷ afterMove g d v 0 1 ∷ afterMove g d
 unfoldable pub fixed : Graph → Choice → ℕ → ℕ → ℕ
 fixed g d v j = cond (eqb (j / 3) v) 0 (cond (named g (node g v) j) 0 (nodeAdds (apply g d) j))
 
-unfoldable pub outFixed : Graph → Choice → ℕ → ℕ → ℕ
-outFixed g d v j = cond (outNamed g (node g v) j) 0 (outAdds (apply g d) j)
+unfoldable pub outputFixed : Graph → Choice → ℕ → ℕ → ℕ
+outputFixed g d v j = cond (outputNamed g (node g v) j) 0 (outputAdds (apply g d) j)
 
 unfoldable pub restOf : Graph → Choice → ℕ → ℕ
-restOf g d v = sum (3 * g .N) (fixed g d v) + sum (g .O) (outFixed g d v)
+restOf g d v = sum (3 * g .N) (fixed g d v) + sum (g .O) (outputFixed g d v)
 
 -- d has no move from index u on
 abbrev pub Below : Choice → ℕ → Type 0
@@ -54,8 +54,8 @@ module _ (g : Graph) (adm : Admitted g) (d : Choice) (v : ℕ) (h : v < g .N) (q
   read : ℕ → ℕ
   read j = cond (named g (node g v) j) ((word g j + flag (isXor g v) k 3) % 2) 0
 
-  outRead : ℕ → ℕ
-  outRead j = cond (outNamed g (node g v) j) ((out g j + flag (isXor g v) k 3) % 2) 0
+  outputRead : ℕ → ℕ
+  outputRead j = cond (outputNamed g (node g v) j) ((output g j + flag (isXor g v) k 3) % 2) 0
 
   -- a word that names v
   read-word : (j : ℕ) → j < 3 * g .N → named g (node g v) j ≡ true → nodeAdds (apply g (at d (node g v) k)) j ≡ (word g j + flag (isXor g v) k 3) % 2
@@ -103,16 +103,16 @@ module _ (g : Graph) (adm : Admitted g) (d : Choice) (v : ℕ) (h : v < g .N) (q
   unfolding fixed read
   own-apart i l = rw (own-unnamed i l, eq-eqb ((3 * v + i) / 3) v (omega arith))
 
-  out-apart : (j : ℕ) → j < g .O → outRead j + outFixed g d v j ≡ outAdds (apply g (at d (node g v) k)) j
-  unfolding outFixed outNamed outRead
+  out-apart : (j : ℕ) → j < g .O → outputRead j + outputFixed g d v j ≡ outputAdds (apply g (at d (node g v) k)) j
+  unfolding outputFixed outputNamed outputRead
   out-apart j l =
       ⊎-elim
-      (λ (e : eqb (out g j / 2) (node g v) ≡ true).
-      rw (e, out-adds g (at d (node g v) k) adm j l, eqb-true (out g j / 2) (node g v) e, ne-eqb (node g v) 0 (λ z. omega arith), seen-node g (at d (node g v) k) v h, at-same d (node g v) k)
+      (λ (e : eqb (output g j / 2) (node g v) ≡ true).
+      rw (e, out-adds g (at d (node g v) k) adm j l, eqb-true (output g j / 2) (node g v) e, ne-eqb (node g v) 0 (λ z. omega arith), seen-node g (at d (node g v) k) v h, at-same d (node g v) k)
       (omega arith))
-      (λ (e : eqb (out g j / 2) (node g v) ≡ false).
-      rw (e, out-adds g (at d (node g v) k) adm j l, seen-other d (node g v) k g (out g j / 2) (eqb-false _ _ e)) (omega (arith, out-adds g d adm j l)))
-      (true-or-false (eqb (out g j / 2) (node g v)))
+      (λ (e : eqb (output g j / 2) (node g v) ≡ false).
+      rw (e, out-adds g (at d (node g v) k) adm j l, seen-other d (node g v) k g (output g j / 2) (eqb-false _ _ e)) (omega (arith, out-adds g d adm j l)))
+      (true-or-false (eqb (output g j / 2) (node g v)))
 
   -- the own words of v
   own-word : (i : ℕ) → i < 3 → nodeAdds (apply g (at d (node g v) k)) (3 * v + i) ≡ afterMove g d v i (flag (isXor g v) k i)
@@ -141,7 +141,7 @@ module _ (g : Graph) (adm : Admitted g) (d : Choice) (v : ℕ) (h : v < g .N) (q
   at-flag i f p l m e = rw e (at-bit i f l m)
 
   pub cost-step : C (apply g (at d (node g v) k)) ≡ costWith (isXor g v) (costsAfter g d v) (readers g (node g v)) (shown g (node g v) 0) k + restOf g d v
-  unfolding C costWith costBy restOf shown apply read outRead
+  unfolding C costWith costBy restOf shown apply read outputRead
   cost-step =
       let x : Bool = isXor g v in
       let w = sum-but-node (3 * g .N) (λ j. read j + fixed g d v j) (nodeAdds (apply g (at d (node g v) k))) v (omega arith) (λ j l p. apart j l p) in
@@ -151,7 +151,7 @@ module _ (g : Graph) (adm : Admitted g) (d : Choice) (v : ℕ) (h : v < g .N) (q
         w,
         os,
         sum-add (3 * g .N) read (fixed g d v),
-        sum-add (g .O) outRead (outFixed g d v),
+        sum-add (g .O) outputRead (outputFixed g d v),
         own-word 0 (omega arith),
         own-word 1 (omega arith),
         own-word 2 (omega arith),

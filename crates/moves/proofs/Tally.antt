@@ -10,9 +10,9 @@ use native.Mathlib.Numerals.{add-one}
 use borrow.Author.Tests.{eqb-true, ne-eqb}
 use lib.Dec.{eqb}
 use lib.ListN.{getD}
-use Rattle.graph.specs.Count.{named, outNamed, nodeReaders, readers}
+use Rattle.graph.specs.Count.{named, outputNamed, nodeReaders, readers}
 use Rattle.graph.specs.Finite.{ifEqual, sum, count}
-use Rattle.graph.specs.Graph.{Graph, mark, isEdge, word, out}
+use Rattle.graph.specs.Graph.{Graph, mark, isEdge, word, output}
 use Rattle.moves.specs.Cost.{shown}
 use Rattle.moves.specs.Decide.{Tallied, Read}
 use Rattle.graph.proofs.Cases.{true-or-false}
@@ -71,18 +71,18 @@ module _ (g : Graph) (u : ℕ) (low : u < 2147483647) where
   unfolding nodeReaders count
   node-count = sum-same (3 * g .N) _ _ (λ j h. sym (names-by j 1 0))
 
-  out-count : sum (g .O) (λ j. ifEqual (getD (g .outs) j 0 / 2) u 1 0) ≡ count (g .O) (outNamed g u)
-  unfolding count outNamed ifEqual
+  out-count : sum (g .O) (λ j. ifEqual (getD (g .outputs) j 0 / 2) u 1 0) ≡ count (g .O) (outputNamed g u)
+  unfolding count outputNamed ifEqual
   out-count = refl
 
   node-odd : sum (3 * g .N) (λ j. ifEqual (getD (g .nodes) j 0 / 2) u (getD (g .nodes) j 0 % 2) 0) ≡ sum (3 * g .N) (λ j. cond (named g u j) ((word g j + 0) % 2) 0)
   node-odd = sum-same (3 * g .N) _ _ (λ j h. let e : (word g j + 0) % 2 ≡ word g j % 2 = omega arith in rw e (sym (names-by j (word g j % 2) 0)))
 
-  out-odd : sum (g .O) (λ j. ifEqual (getD (g .outs) j 0 / 2) u (getD (g .outs) j 0 % 2) 0) ≡ sum (g .O) (λ j. cond (outNamed g u j) ((out g j + 0) % 2) 0)
-  unfolding outNamed ifEqual
-  out-odd = sum-same (g .O) _ _ (λ j h. let e : (out g j + 0) % 2 ≡ out g j % 2 = omega arith in rw e)
+  out-odd : sum (g .O) (λ j. ifEqual (getD (g .outputs) j 0 / 2) u (getD (g .outputs) j 0 % 2) 0) ≡ sum (g .O) (λ j. cond (outputNamed g u j) ((output g j + 0) % 2) 0)
+  unfolding outputNamed ifEqual
+  out-odd = sum-same (g .O) _ _ (λ j h. let e : (output g j + 0) % 2 ≡ output g j % 2 = omega arith in rw e)
 
-  pub read-is : (c d c′ d′ : ℕ) → Tallied (g .nodes) (3 * g .N) u c d → Tallied (g .outs) (g .O) u c′ d′ → Read g u (c + c′) c (d + d′)
+  pub read-is : (c d c′ d′ : ℕ) → Tallied (g .nodes) (3 * g .N) u c d → Tallied (g .outputs) (g .O) u c′ d′ → Read g u (c + c′) c (d + d′)
   unfolding readers shown
   read-is c d c′ d′ a b =
       record {

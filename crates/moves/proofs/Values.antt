@@ -13,14 +13,14 @@ use lib.Seq.{getD-at}
 use lib.ListN.{length, getD, length-append, List·getD-append, List·getD-eq-default}
 use Rattle.graph.specs.Admission.{Admitted}
 use Rattle.graph.specs.Graph.{Graph, turn, isEdge, isXor, mark}
-use Rattle.graph.specs.Value.{exclusive, majority, literalValue, nodeValue, values, value, outValue}
-use Rattle.moves.specs.Apply.{Choice, apply, turns, outTurns, own, seen}
+use Rattle.graph.specs.Value.{exclusive, majority, literalValue, nodeValue, values, value, outputValue}
+use Rattle.moves.specs.Apply.{Choice, apply, turns, outputTurns, own, seen}
 use Rattle.graph.proofs.Values.{literal-bit, length-values, values-old, values-new, input-bit}
 use Rattle.moves.specs.Rows.{flag}
 use Rattle.graph.proofs.Cases.{lt-or-le, true-or-false, cond-same}
 use Rattle.graph.proofs.Finite.{length-tab, getD-tab}
 use Rattle.graph.proofs.Turn.{turn-half, turn-bit}
-use Rattle.moves.proofs.Apply.{node-at, out-at, wiring, out-wiring, same-xor, turns-edge, outTurns-at}
+use Rattle.moves.proofs.Apply.{node-at, out-at, wiring, out-wiring, same-xor, turns-edge, outputTurns-at}
 use Rattle.moves.proofs.Compose.{seen-node, seen-low, seen-high}
 use Rattle.moves.proofs.Flags.{flag-maj, flag-xor, all3-at}
 
@@ -111,11 +111,11 @@ module _ (g : Graph) (m : Choice) (adm : Admitted g) where
         rw (seen-high g m i h, List·getD-eq-default (values g a (g .N)) 0 {n = i} (rw length-values h), List·getD-eq-default (values (apply g m) a (g .N)) 0 {n = i} (rw length-values h)))
         (lt-or-le i (g .I + 1 + g .N))
 
-    pub out-kept : (j : ℕ) → j < g .O → outValue (apply g m) a j ≡ outValue g a j
-    unfolding outValue apply
+    pub out-kept : (j : ℕ) → j < g .O → outputValue (apply g m) a j ≡ outputValue g a j
+    unfolding outputValue apply
     out-kept j h =
-        let x : ℕ = getD (g .outs) j 0 in
-        rw (out-at g m (adm .long-outs) j)
+        let x : ℕ = getD (g .outputs) j 0 in
+        rw (out-at g m (adm .long-outputs) j)
         (lit-turn (values g a (g .N)) _ x _ (seen g m (x / 2)) 0
-        (values-turn (g .N) (omega arith) (x / 2) (adm .out-below j h))
-        (omega (arith, outTurns-at g m j h)) ∙ omega (arith, literal-bit (values g a (g .N)) x))
+        (values-turn (g .N) (omega arith) (x / 2) (adm .output-below j h))
+        (omega (arith, outputTurns-at g m j h)) ∙ omega (arith, literal-bit (values g a (g .N)) x))

@@ -5,7 +5,7 @@ use Prim.Native.Nat.{ℕ, _+_, _-_, _*_, _/_, _%_, _<_}
 use lib.Dec.{ltb, eqb}
 use lib.ListN.{length}
 use Rattle.graph.specs.Finite.{tab}
-use Rattle.graph.specs.Graph.{Graph, node, word, out, index, turn, isXor, isEdge}
+use Rattle.graph.specs.Graph.{Graph, node, word, output, index, turn, isXor, isEdge}
 use Rattle.moves.specs.Rows.{flag, arity, combined}
 
 -- a choice gives each node, by index, a move number; a node that is not concerned has move 0
@@ -42,8 +42,8 @@ own g m j = flag (isXor g (j / 3)) (m (node g (j / 3))) (j % 3)
 unfoldable pub turns : Graph → Choice → ℕ → ℕ
 turns g m j = cond (ltb j (3 * g .N)) (cond (isEdge g j) (own g m j + seen g m (index (word g j))) 0) 0
 
-unfoldable pub outTurns : Graph → Choice → ℕ → ℕ
-outTurns g m j = cond (ltb j (g .O)) (seen g m (index (out g j))) 0
+unfoldable pub outputTurns : Graph → Choice → ℕ → ℕ
+outputTurns g m j = cond (ltb j (g .O)) (seen g m (index (output g j))) 0
 
 unfoldable pub apply : Graph → Choice → Graph
 apply g m =
@@ -52,7 +52,7 @@ apply g m =
       N = g .N;
       O = g .O;
       nodes = tab (length (g .nodes)) (λ j. turn (turns g m j) (word g j));
-      outs = tab (length (g .outs)) (λ j. turn (outTurns g m j) (out g j));
+      outputs = tab (length (g .outputs)) (λ j. turn (outputTurns g m j) (output g j));
     }
 
 -- two choices, made one after the other, are one choice

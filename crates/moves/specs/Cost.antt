@@ -6,9 +6,9 @@ use mathlib.Core.Logic.{_≢_}
 use Prim.Native.Nat.{ℕ, zero, suc, _+_, _-_, _*_, _/_, _%_, _≤_, _<_, min}
 use lib.Dec.{ltb, eqb}
 use lib.ListN.{length, getD}
-use Rattle.graph.specs.Count.{named, outNamed}
+use Rattle.graph.specs.Count.{named, outputNamed}
 use Rattle.graph.specs.Finite.{sum}
-use Rattle.graph.specs.Graph.{Graph, isEdge, isXor, node, word, out}
+use Rattle.graph.specs.Graph.{Graph, isEdge, isXor, node, word, output}
 use Rattle.moves.specs.Apply.{Choice, own}
 use Rattle.moves.specs.Rows.{arity, flag}
 use Rattle.moves.specs.Tree.{isRoot, rootOf, place}
@@ -52,7 +52,7 @@ nodeCost g t c v s = moveCost g t c v s (pick (moveCost g t c v s) (arity (isXor
 
 -- how many readers of u are odd, all of them turned f times
 unfoldable pub shown : Graph → ℕ → ℕ → ℕ
-shown g u f = sum (3 * g .N) (λ j. cond (named g u j) ((word g j + f) % 2) 0) + sum (g .O) (λ j. cond (outNamed g u j) ((out g j + f) % 2) 0)
+shown g u f = sum (3 * g .N) (λ j. cond (named g u j) ((word g j + f) % 2) 0) + sum (g .O) (λ j. cond (outputNamed g u j) ((output g j + f) % 2) 0)
 
 -- root v under its move k
 unfoldable pub rootCost : Graph → (ℕ → Bool) → (ℕ → ℕ → ℕ) → ℕ → ℕ → ℕ

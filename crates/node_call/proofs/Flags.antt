@@ -9,15 +9,15 @@ use borrow.Author.Tests.{eq-eqb, ne-eqb}
 use lib.Dec.{eqb, ltb}
 use lib.ListN.{getD}
 use Rattle.graph.specs.Finite.{ifEqual}
-use Rattle.graph.specs.Graph.{Graph, graphOf, mark, node, word, out, turn, isEdge, isXor}
+use Rattle.graph.specs.Graph.{Graph, graphOf, mark, node, word, output, turn, isEdge, isXor}
 use Rattle.graph.proofs.Cases.{eq-or-ne}
 use Rattle.graph.proofs.Finite.{tab-same}
-use Rattle.moves.specs.Apply.{Choice, none, at, own, seen, turns, outTurns, apply}
+use Rattle.moves.specs.Apply.{Choice, none, at, own, seen, turns, outputTurns, apply}
 use Rattle.moves.specs.Rows.{flag}
 use Rattle.moves.proofs.Changed.{at-same, seen-other, own-other, seen-none, own-none}
 use Rattle.moves.proofs.Compose.{seen-node, same-graph}
 use Rattle.moves.proofs.Flags.{flag-bit}
-use Rattle.node_call.specs.Write.{moveWith, Bits, flagAt, wordTurns, nodesAfter, outsAfter}
+use Rattle.node_call.specs.Write.{moveWith, Bits, flagAt, wordTurns, nodesAfter, outputsAfter}
 use Rattle.node_call.specs.declared.write.NodeMove.{NodeMove}
 
 pub with-bits : (x : Bool) (u m : ℕ) → Bits (moveWith x u m)
@@ -99,15 +99,15 @@ module _ (g : Graph) (p k v m : ℕ) (hp : p < g .N) (hv : v < g .N) where
   unfolding turns wordTurns isEdge
   turns-are j = rw (own-is j, seen-is (word g j / 2))
 
-  out-turns-are : (j : ℕ) → outTurns g two j ≡ cond (ltb j (g .O)) (flagAt earlier later (out g j / 2) 3) 0
-  unfolding outTurns
-  out-turns-are j = rw (seen-is (out g j / 2))
+  out-turns-are : (j : ℕ) → outputTurns g two j ≡ cond (ltb j (g .O)) (flagAt earlier later (output g j / 2) 3) 0
+  unfolding outputTurns
+  out-turns-are j = rw (seen-is (output g j / 2))
 
   -- both tables are those after the choice
-  pub both-written : (ns os : List ℕ) → ns ≡ nodesAfter (g .I) (g .N) earlier later (g .nodes) → os ≡ outsAfter (g .O) earlier later (g .outs)
+  pub both-written : (ns os : List ℕ) → ns ≡ nodesAfter (g .I) (g .N) earlier later (g .nodes) → os ≡ outputsAfter (g .O) earlier later (g .outputs)
       → graphOf (g .I) (g .N) (g .O) ns os ≡ apply g two
-  unfolding apply nodesAfter outsAfter
+  unfolding apply nodesAfter outputsAfter
   both-written ns os e f =
       same-graph (g .I) (g .N) (g .O)
       (e ∙ tab-same _ _ _ (λ j h. ap (λ (t : ℕ). turn t (word g j)) (sym (turns-are j))))
-      (f ∙ tab-same _ _ _ (λ j h. ap (λ (t : ℕ). turn t (out g j)) (sym (out-turns-are j))))
+      (f ∙ tab-same _ _ _ (λ j h. ap (λ (t : ℕ). turn t (output g j)) (sym (out-turns-are j))))

@@ -29,5 +29,5 @@ wordTurns i a b j x = cond (not (eqb (j % 3) 2 && eqb x mark)) (flagAt a b (i + 
 unfoldable pub nodesAfter : ℕ → ℕ → NodeMove → NodeMove → List ℕ → List ℕ
 nodesAfter i n a b l = tab (length l) (λ j. turn (cond (ltb j (3 * n)) (wordTurns i a b j (getD l j 0)) 0) (getD l j 0))
 
-unfoldable pub outsAfter : ℕ → NodeMove → NodeMove → List ℕ → List ℕ
-outsAfter n a b l = tab (length l) (λ j. turn (cond (ltb j n) (flagAt a b (index (getD l j 0)) 3) 0) (getD l j 0))
+unfoldable pub outputsAfter : ℕ → NodeMove → NodeMove → List ℕ → List ℕ
+outputsAfter n a b l = tab (length l) (λ j. turn (cond (ltb j n) (flagAt a b (index (getD l j 0)) 3) 0) (getD l j 0))

@@ -4,7 +4,6 @@ ghost use mathlib.Core.Bool.{cond, _&&_};
 ghost use lib.Dec.{leb};
 ghost use Rattle.graph.specs.Graph.{graphOf};
 ghost use Rattle.moves.specs.Call.{nodeNumber, pairNumber};
-use graph::checks;
 use moves::rows;
 
 pub fn node_number(
@@ -17,7 +16,7 @@ pub fn node_number(
 ) -> u32
     ensures { λ r. ⌜ r ≡ nodeNumber (graphOf inputs nodes outputs (now («node_table» .entry)) (now («output_table» .entry))) node ⌝ }
 {
-    let number = checks::admission_number(inputs, nodes, outputs, node_table, output_table);
+    let number = graph::faults::admission_number(inputs, nodes, outputs, node_table, output_table);
     if number != 0 {
         return number;
     }

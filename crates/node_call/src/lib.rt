@@ -7,7 +7,6 @@ pub mod faults;
 pub mod rewrite;
 pub mod write;
 
-use graph::checks;
 use moves::Saving;
 
 // The node call: the move of a node with the least C, the lowest number among equals.
@@ -23,7 +22,7 @@ pub fn node_call(
 {
     let number = faults::node_number(inputs, nodes, outputs, node_table, output_table, node);
     if number != 0 {
-        return Saving::Refused(checks::refused_by(number));
+        return Saving::Refused(graph::faults::refused_by(number));
     }
     let v = node - (inputs + 1);
     Saving::Saved(rewrite::rewrite_node(inputs, nodes, outputs, node_table, output_table, v))
@@ -44,7 +43,7 @@ pub fn pair_call(
 {
     let number = faults::pair_number(inputs, nodes, outputs, node_table, output_table, node, word);
     if number != 0 {
-        return Saving::Refused(checks::refused_by(number));
+        return Saving::Refused(graph::faults::refused_by(number));
     }
     Saving::Saved(rewrite::rewrite_named(
         inputs,

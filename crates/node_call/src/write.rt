@@ -6,7 +6,7 @@ ghost use Rattle.graph.specs.Admission.{Admitted};
 ghost use Rattle.graph.specs.Graph.{graphOf, node, isXor};
 ghost use Rattle.moves.specs.Apply.{none, at, apply};
 ghost use Rattle.moves.specs.Rows.{arity};
-ghost use Rattle.node_call.specs.Write.{moveWith, Bits, flagAt, wordTurns, nodesAfter, outsAfter};
+ghost use Rattle.node_call.specs.Write.{moveWith, Bits, flagAt, wordTurns, nodesAfter, outputsAfter};
 use graph::literal;
 use moves::rows;
 
@@ -73,9 +73,9 @@ pub fn write_nodes(inputs: u32, nodes: u32, node_table: &mut [u32], a: NodeMove,
     }
 }
 
-pub fn write_outs(outputs: u32, output_table: &mut [u32], a: NodeMove, b: NodeMove)
+pub fn write_outputs(outputs: u32, output_table: &mut [u32], a: NodeMove, b: NodeMove)
     requires { ⌜ Bits a × Bits b × (outputs ≤ length (now «output_table»)) ⌝ }
-    ensures { λ _. ⌜ now («output_table» .exit) ≡ outsAfter outputs a b (now («output_table» .entry)) ⌝ }
+    ensures { λ _. ⌜ now («output_table» .exit) ≡ outputsAfter outputs a b (now («output_table» .entry)) ⌝ }
 {
     let end = outputs as usize;
     let mut j: usize = 0;
@@ -104,5 +104,5 @@ pub fn write_moves(
     let a = move_with(rows::is_xor(node_table, p as usize), inputs + 1 + p, k);
     let b = move_with(rows::is_xor(node_table, v as usize), inputs + 1 + v, m);
     write_nodes(inputs, nodes, node_table, a, b);
-    write_outs(outputs, output_table, a, b);
+    write_outputs(outputs, output_table, a, b);
 }

@@ -5,7 +5,7 @@ use Prim.Native.Nat.{ℕ, _+_, _-_, _≤_, _<_}
 use lib.ListN.{length, getD}
 use Rattle.graph.specs.Finite.{first}
 use Rattle.graph.specs.Graph.{Graph, wiring}
-use Rattle.graph.specs.Value.{Assignment, outValue}
+use Rattle.graph.specs.Value.{Assignment, outputValue}
 use Rattle.graph.specs.Count.{C}
 use Rattle.graph.specs.Admission.{Admitted}
 use Rattle.graph.specs.Answer.{Answer, Outcome}
@@ -80,6 +80,6 @@ pub record Demand (g : Graph) (calls : List Call) : Type 0 where
   -- the wiring is the loaded one
   pub wired : wiring (run g calls) ≡ wiring g
   -- every output has, under every assignment, its loaded value
-  pub outputs : (a : Assignment) (j : ℕ) → j < g .O → outValue (run g calls) a j ≡ outValue g a j
+  pub outputs : (a : Assignment) (j : ℕ) → j < g .O → outputValue (run g calls) a j ≡ outputValue g a j
   -- C is the loaded number less all savings that the calls reported
   pub count : C (run g calls) + savings g calls ≡ C g

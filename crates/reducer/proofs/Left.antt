@@ -22,9 +22,9 @@ pub loaded-nodes : (r : Loaded) (ns os : List ℕ) → ns ≡ loadedGraph r ns o
 loaded-nodes (loaded.Graph i n o) ns os = refl
 loaded-nodes (loaded.Refused r) ns os = refl
 
-pub loaded-outs : (r : Loaded) (ns os : List ℕ) → os ≡ loadedGraph r ns os .outs
-loaded-outs (loaded.Graph i n o) ns os = refl
-loaded-outs (loaded.Refused r) ns os = refl
+pub loaded-outputs : (r : Loaded) (ns os : List ℕ) → os ≡ loadedGraph r ns os .outputs
+loaded-outputs (loaded.Graph i n o) ns os = refl
+loaded-outputs (loaded.Refused r) ns os = refl
 
 -- the stretch that a field call tells of is the payload
 take-again : (m : ℕ) (l : List ℕ) → take (length (take m l)) l ≡ take m l

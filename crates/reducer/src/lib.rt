@@ -37,7 +37,7 @@ pub extern "C" fn reducer_load(
 ) -> u32
     ensures answer { λ r. ⌜ r ≡ loadCall (now (file .entry)) (now («node_table» .entry)) (now («output_table» .entry)) .answer .number ⌝ }
     ensures nodes { λ r. ⌜ now («node_table» .exit) ≡ loadCall (now (file .entry)) (now («node_table» .entry)) (now («output_table» .entry)) .graph .nodes ⌝ }
-    ensures outs { λ r. ⌜ now («output_table» .exit) ≡ loadCall (now (file .entry)) (now («node_table» .entry)) (now («output_table» .entry)) .graph .outs ⌝ }
+    ensures outputs { λ r. ⌜ now («output_table» .exit) ≡ loadCall (now (file .entry)) (now («node_table» .entry)) (now («output_table» .entry)) .graph .outputs ⌝ }
     ensures numbers { λ r. ⌜ now (numbers .exit) ≡ told (loadCall (now (file .entry)) (now («node_table» .entry)) (now («output_table» .entry)) .answer) (now (numbers .entry)) ⌝ }
 {
     let answer = tagged_file::load(file, node_table, output_table);

@@ -7,7 +7,7 @@ ghost use Rattle.promises.specs.Demand.{Demand};
 ghost use Rattle.replay.specs.Replay.{decode, replayNumber, replayCall, answersAfter, replayedAnswer, replayedGraph};
 
 pub mod calls;
-pub mod codes;
+pub mod faults;
 
 use tagged_file::Loaded;
 
@@ -36,9 +36,9 @@ pub fn replay(
     ensures scratch { λ r. ⌜ ScratchKept (replayedAnswer r) (now (scratch .entry)) (now (scratch .exit)) ⌝ }
     ensures demand { λ r. ⌜ (replayNumber (now (file .entry)) (now (calls .entry)) (now («node_table» .entry)) (now («output_table» .entry)) (length (now (answers .entry))) ≡ 0 → Demand (loadCall (now (file .entry)) (now («node_table» .entry)) (now («output_table» .entry)) .graph) (decode (now (scratch .entry)) (now (calls .entry)))) ⌝ }
 {
-    let number = codes::code_number(calls, answers.len());
+    let number = faults::code_number(calls, answers.len());
     if number != 0 {
-        return Replayed::Refused(graph::checks::refused_by(number));
+        return Replayed::Refused(graph::faults::refused_by(number));
     }
     let answer = tagged_file::load(file, node_table, output_table);
     match answer {

@@ -36,7 +36,7 @@ numberOf-some ShortBuffer e = omega arith
 
 -- a text at the front of the buffer
 printed-is : (o : Outcome) (b b′ text : List ℕ) (r : ℕ) → textOf o ≡ text → r ≡ length text → r ≤ length b → b′ ≡ sets b 0 text
-    → reportOutcome (accepted (r ∷ [])) (o .graph .nodes) (o .graph .outs) b′ ≡ printed o b
+    → reportOutcome (accepted (r ∷ [])) (o .graph .nodes) (o .graph .outputs) b′ ≡ printed o b
 unfolding printed
 printed-is o b b′ text r et er l eb =
     let e : b′ ≡ text ++ drop (length text) b = eb ∙ front text b (length text) refl (omega arith) in
@@ -45,7 +45,7 @@ printed-is o b b′ text r et er l eb =
 module _ (o : Outcome) (g : Graph) (b b′ : List ℕ) (r : ℕ) where
   pub settled-printed : (rounds before after : ℕ) → outcome (accepted (rounds ∷ before ∷ after ∷ [])) g ≡ o
       → (r ≡ length (settledText rounds before after g)) × (r ≤ length b) × (b′ ≡ sets b 0 (settledText rounds before after g))
-      → reportOutcome (accepted (r ∷ [])) (g .nodes) (g .outs) b′ ≡ printed o b
+      → reportOutcome (accepted (r ∷ [])) (g .nodes) (g .outputs) b′ ≡ printed o b
   unfolding textOf
   settled-printed rounds before after e h =
       let s : Outcome = outcome (accepted (rounds ∷ before ∷ after ∷ [])) g in
@@ -54,7 +54,7 @@ module _ (o : Outcome) (g : Graph) (b b′ : List ℕ) (r : ℕ) where
 
   pub refused-printed : (q : Refusal) → outcome (refused (numberOf q)) g ≡ o
       → (r ≡ length (line1 refusedText (numberOf q))) × (r ≤ length b) × (b′ ≡ sets b 0 (line1 refusedText (numberOf q)))
-      → reportOutcome (accepted (r ∷ [])) (g .nodes) (g .outs) b′ ≡ printed o b
+      → reportOutcome (accepted (r ∷ [])) (g .nodes) (g .outputs) b′ ≡ printed o b
   unfolding textOf
   refused-printed q e h =
       let s : Outcome = outcome (refused (numberOf q)) g in

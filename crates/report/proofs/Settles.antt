@@ -32,7 +32,7 @@ unfolding loadCall graphRead
 nodes-within file ns os e =
     let z = guarded-zero _ _ _ e in
     let q = guarded-graph _ _ _ e in
-    rw q (passed file (length ns) (length os) z .head .nodes)
+    rw q (passed file (length ns) (length os) z .head .long-nodes)
 
 pub always-settles : (file ns os : List ℕ) (s room : ℕ) → reportNumber (length ns) (length os) s room ≡ 0
     → loadCall file ns os .answer .number ≡ 0 → settledFile file ns os s .answer .number ≡ 0

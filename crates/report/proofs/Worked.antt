@@ -4,13 +4,13 @@ use mathlib.Core.List.{List, [], _∷_, _++_, flatMap}
 use Prim.Native.Nat.{ℕ}
 use Rattle.graph.specs.Finite.{tab, sum, count, ifLess, ifEqual, first, firstOf}
 use Rattle.graph.specs.Graph.{turn, isXor, isEdge}
-use Rattle.graph.specs.Count.{adds, wordAdds, nodeAdds, outAdds, C, named, outNamed, nodeReaders, readers}
-use Rattle.graph.specs.Admission.{limitNumber, tableNumber, wordNumber, outNumber, literalNumber, admissionNumber}
+use Rattle.graph.specs.Count.{adds, wordAdds, nodeAdds, outputAdds, C, named, outputNamed, nodeReaders, readers}
+use Rattle.graph.specs.Admission.{limitNumber, tableNumber, wordNumber, outputNumber, literalNumber, admissionNumber}
 use Rattle.graph.specs.Answer.{guarded}
 use Rattle.graph.specs.Decimal.{decimalIn, decimal}
 use Rattle.choice.specs.Choice.{from, choices, unlessLess, least, best}
 use Rattle.moves.specs.Rows.{rows, firstRow, arity, flag, movesAt}
-use Rattle.moves.specs.Apply.{at, put, seen, own, turns, outTurns, apply}
+use Rattle.moves.specs.Apply.{at, put, seen, own, turns, outputTurns, apply}
 use Rattle.moves.specs.Tree.{isRoot, last, place, reader, rootIn, rootOf, members, tree}
 use Rattle.moves.specs.Call.{moved, movedC, bestAt, rewrite, isNode, nodeFault, wordFault, rootFault, scratchFault, nodeNumber, nodeCall, namedBy, pairNumber, pairRewrite, pairCall, treeNumber, treeCall}
 use Rattle.settling.specs.Round.{savingOf, start, after, each, treeAt, nodeAt, pairAt, pairsAt, round}
@@ -19,7 +19,7 @@ use Rattle.file_checks.specs.File.{be2, be4, payloadOf, dueNumber, nodeSize, th
 use Rattle.file_checks.specs.File as file
 use Rattle.tagged_file.specs.Load.{graphRead, loadCall}
 use Rattle.report.specs.Text.{inputsText, nodesText, outputsText, beforeText, afterText, roundsText, nodeText, majText, xorText, spaceText, outText, refusedText, numbered, line1, line2, line3, line4}
-use Rattle.report.specs.Report.{sizesLine, countsLine, nodeLine, outLine, nodeLineAt, outLineAt, settledText, textOf, thenSettle, settledFile}
+use Rattle.report.specs.Report.{sizesLine, countsLine, nodeLine, outputLine, nodeLineAt, outputLineAt, settledText, textOf, thenSettle, settledFile}
 
 -- P1's file: I = 3, one node 3 5 7, one output 9
 abbrev p1 : List ℕ
@@ -50,9 +50,9 @@ abbrev refused6 : List ℕ
 refused6 = 114 ∷ 101 ∷ 102 ∷ 117 ∷ 115 ∷ 101 ∷ 100 ∷ 32 ∷ 54 ∷ 10 ∷ []
 
 pub p1-report : textOf (settledFile p1 (0 ∷ 0 ∷ 0 ∷ []) (0 ∷ []) 8) ≡ text1 ++ (text2 ++ (text3 ++ text4))
-unfolding flatMap tab sum count ifLess ifEqual first firstOf turn isXor isEdge adds wordAdds nodeAdds outAdds C named outNamed nodeReaders readers limitNumber tableNumber wordNumber outNumber literalNumber admissionNumber guarded decimalIn decimal from choices unlessLess least best rows firstRow arity flag movesAt at put seen own turns outTurns apply isRoot last place reader rootIn rootOf members tree moved movedC bestAt rewrite isNode nodeFault wordFault rootFault scratchFault nodeNumber nodeCall namedBy pairNumber pairRewrite pairCall treeNumber treeCall savingOf start after each treeAt nodeAt pairAt pairsAt round settleIn settle settleNumber settleCall be2 be4 payloadOf dueNumber nodeSize third headNumber endNumber fileNumber file.nodeNumber file.outNumber graphRead loadCall inputsText nodesText outputsText beforeText afterText roundsText nodeText majText xorText spaceText outText refusedText numbered line1 line2 line3 line4 sizesLine countsLine nodeLine outLine nodeLineAt outLineAt settledText textOf thenSettle settledFile
+unfolding flatMap tab sum count ifLess ifEqual first firstOf turn isXor isEdge adds wordAdds nodeAdds outputAdds C named outputNamed nodeReaders readers limitNumber tableNumber wordNumber outputNumber literalNumber admissionNumber guarded decimalIn decimal from choices unlessLess least best rows firstRow arity flag movesAt at put seen own turns outputTurns apply isRoot last place reader rootIn rootOf members tree moved movedC bestAt rewrite isNode nodeFault wordFault rootFault scratchFault nodeNumber nodeCall namedBy pairNumber pairRewrite pairCall treeNumber treeCall savingOf start after each treeAt nodeAt pairAt pairsAt round settleIn settle settleNumber settleCall be2 be4 payloadOf dueNumber nodeSize third headNumber endNumber fileNumber file.nodeFieldNumber file.outputFieldNumber graphRead loadCall inputsText nodesText outputsText beforeText afterText roundsText nodeText majText xorText spaceText outText refusedText numbered line1 line2 line3 line4 sizesLine countsLine nodeLine outputLine nodeLineAt outputLineAt settledText textOf thenSettle settledFile
 p1-report = refl
 
 pub p1-longer : textOf (settledFile (p1 ++ (0 ∷ [])) (0 ∷ 0 ∷ 0 ∷ []) (0 ∷ []) 8) ≡ refused6
-unfolding flatMap tab sum count ifLess ifEqual first firstOf turn isXor isEdge adds wordAdds nodeAdds outAdds C named outNamed nodeReaders readers limitNumber tableNumber wordNumber outNumber literalNumber admissionNumber guarded decimalIn decimal from choices unlessLess least best rows firstRow arity flag movesAt at put seen own turns outTurns apply isRoot last place reader rootIn rootOf members tree moved movedC bestAt rewrite isNode nodeFault wordFault rootFault scratchFault nodeNumber nodeCall namedBy pairNumber pairRewrite pairCall treeNumber treeCall savingOf start after each treeAt nodeAt pairAt pairsAt round settleIn settle settleNumber settleCall be2 be4 payloadOf dueNumber nodeSize third headNumber endNumber fileNumber file.nodeNumber file.outNumber graphRead loadCall inputsText nodesText outputsText beforeText afterText roundsText nodeText majText xorText spaceText outText refusedText numbered line1 line2 line3 line4 sizesLine countsLine nodeLine outLine nodeLineAt outLineAt settledText textOf thenSettle settledFile
+unfolding flatMap tab sum count ifLess ifEqual first firstOf turn isXor isEdge adds wordAdds nodeAdds outputAdds C named outputNamed nodeReaders readers limitNumber tableNumber wordNumber outputNumber literalNumber admissionNumber guarded decimalIn decimal from choices unlessLess least best rows firstRow arity flag movesAt at put seen own turns outputTurns apply isRoot last place reader rootIn rootOf members tree moved movedC bestAt rewrite isNode nodeFault wordFault rootFault scratchFault nodeNumber nodeCall namedBy pairNumber pairRewrite pairCall treeNumber treeCall savingOf start after each treeAt nodeAt pairAt pairsAt round settleIn settle settleNumber settleCall be2 be4 payloadOf dueNumber nodeSize third headNumber endNumber fileNumber file.nodeFieldNumber file.outputFieldNumber graphRead loadCall inputsText nodesText outputsText beforeText afterText roundsText nodeText majText xorText spaceText outText refusedText numbered line1 line2 line3 line4 sizesLine countsLine nodeLine outputLine nodeLineAt outputLineAt settledText textOf thenSettle settledFile
 p1-longer = refl

@@ -5,7 +5,7 @@ use lib.ListN.{length, getD, drop}
 use Rattle.graph.specs.Finite.{ifLess, ifEqual}
 use Rattle.graph.specs.Graph.{Graph, mark}
 use Rattle.graph.specs.Answer.{Answer, accepted, refused, numberOf, Outcome}
-use Rattle.tagged_file.specs.Write.{run}
+use Rattle.tagged_file.specs.Write.{inOrder}
 use Rattle.tagged_file.specs.Load.{loadCall}
 use Rattle.settling.specs.Settle.{settleCall}
 use Rattle.report.specs.declared.Reported.{Reported}
@@ -24,21 +24,21 @@ unfoldable pub nodeLine : ℕ → ℕ → ℕ → ℕ → List ℕ
 nodeLine i x y z =
     ifEqual z mark (line3 nodeText i xorText x spaceText y) (line4 nodeText i majText x spaceText y spaceText z)
 
-unfoldable pub outLine : ℕ → List ℕ
-outLine x = line1 outText x
+unfoldable pub outputLine : ℕ → List ℕ
+outputLine x = line1 outText x
 
 -- node v, where there are i inputs, and output j of the tables
 unfoldable pub nodeLineAt : ℕ → List ℕ → ℕ → List ℕ
 nodeLineAt i ns v = nodeLine (i + 1 + v) (getD ns (3 * v) 0) (getD ns (3 * v + 1) 0) (getD ns (3 * v + 2) 0)
 
-unfoldable pub outLineAt : List ℕ → ℕ → List ℕ
-outLineAt os j = outLine (getD os j 0)
+unfoldable pub outputLineAt : List ℕ → ℕ → List ℕ
+outputLineAt os j = outputLine (getD os j 0)
 
 -- the graph g, settled in so many rounds, with C before and after
 unfoldable pub settledText : ℕ → ℕ → ℕ → Graph → List ℕ
 settledText rounds before after g =
     (sizesLine (g .I) (g .N) (g .O) ++ countsLine before after rounds)
-    ++ (run (nodeLineAt (g .I) (g .nodes)) 0 (g .N) ++ run (outLineAt (g .outs)) 0 (g .O))
+    ++ (inOrder (nodeLineAt (g .I) (g .nodes)) 0 (g .N) ++ inOrder (outputLineAt (g .outputs)) 0 (g .O))
 
 -- what is printed of settling's outcome: a refusal is one line
 unfoldable pub textOf : Outcome → List ℕ
@@ -59,8 +59,8 @@ settledFile file ns os s = thenSettle (loadCall file ns os) s
 -- for; 9: the buffer has fewer than 128 bytes for the first two lines and 18 for each word of the tables, which is enough
 -- for numbers of ten digits.
 unfoldable pub reportNumber : ℕ → ℕ → ℕ → ℕ → ℕ
-reportNumber nodeRoom outRoom s room =
-    ifLess s (8 * (nodeRoom / 3)) 8 (ifLess room (128 + 18 * (nodeRoom + outRoom)) 9 0)
+reportNumber nodeRoom outputRoom s room =
+    ifLess s (8 * (nodeRoom / 3)) 8 (ifLess room (128 + 18 * (nodeRoom + outputRoom)) 9 0)
 
 abbrev pub reportedAnswer : Reported → Answer
 reportedAnswer (reported.Text n) = accepted (n ∷ [])
@@ -70,16 +70,16 @@ reportedAnswer (reported.Refused r) = refused (numberOf r)
 pub record ReportOutcome : Type 0 where
   pub answer : Answer
   pub nodes : List ℕ
-  pub outs : List ℕ
+  pub outputs : List ℕ
   pub buffer : List ℕ
 
 abbrev pub reportOutcome : Answer → List ℕ → List ℕ → List ℕ → ReportOutcome
-reportOutcome a ns os b = record { answer = a; nodes = ns; outs = os; buffer = b }
+reportOutcome a ns os b = record { answer = a; nodes = ns; outputs = os; buffer = b }
 
 -- the text of an outcome at the front of the buffer, the rest of which is left
 unfoldable pub printed : Outcome → List ℕ → ReportOutcome
 printed o b =
-    reportOutcome (accepted (length (textOf o) ∷ [])) (o .graph .nodes) (o .graph .outs) (textOf o ++ drop (length (textOf o)) b)
+    reportOutcome (accepted (length (textOf o) ∷ [])) (o .graph .nodes) (o .graph .outputs) (textOf o ++ drop (length (textOf o)) b)
 
 -- reporting the file into the tables and the buffer, with s words of scratch
 unfoldable pub reportCall : List ℕ → List ℕ → List ℕ → ℕ → List ℕ → ReportOutcome

@@ -4,8 +4,8 @@ ghost use lib.ListN.{length};
 ghost use Rattle.graph.specs.Answer.{ScratchKept};
 ghost use Rattle.report.specs.Report.{reportedAnswer, reportOutcome, reportCall};
 
+pub mod faults;
 pub mod lines;
-pub mod sizes;
 pub mod text;
 pub mod whole;
 
@@ -27,14 +27,14 @@ pub fn report(
     ensures { λ r. ⌜ reportOutcome (reportedAnswer r) (now («node_table» .exit)) (now («output_table» .exit)) (now (buffer .exit)) ≡ reportCall (now (file .entry)) (now («node_table» .entry)) (now («output_table» .entry)) (length (now (scratch .entry))) (now (buffer .entry)) ⌝ }
     ensures { λ r. ⌜ ScratchKept (reportedAnswer r) (now (scratch .entry)) (now (scratch .exit)) ⌝ }
 {
-    let refusal = sizes::report_number(
+    let refusal = faults::report_number(
         node_table.len(),
         output_table.len(),
         scratch.len(),
         buffer.len(),
     );
     if refusal != 0 {
-        return Reported::Refused(graph::checks::refused_by(refusal));
+        return Reported::Refused(graph::faults::refused_by(refusal));
     }
     Reported::Text(whole::put_report(file, node_table, output_table, scratch, buffer))
 }

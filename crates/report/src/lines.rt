@@ -7,13 +7,12 @@ ghost use lib.ListN.{length};
 ghost use lib.Seq.{sets};
 ghost use Rattle.graph.specs.Graph.{graphOf};
 ghost use Rattle.graph.specs.Answer.{numberOf};
-ghost use Rattle.tagged_file.specs.Write.{run};
+ghost use Rattle.tagged_file.specs.Write.{inOrder};
 ghost use Rattle.report.specs.Text.{refusedText, line1};
-ghost use Rattle.report.specs.Report.{sizesLine, countsLine, nodeLine, outLine, nodeLineAt, outLineAt, settledText};
+ghost use Rattle.report.specs.Report.{sizesLine, countsLine, nodeLine, outputLine, nodeLineAt, outputLineAt, settledText};
 use crate::text;
 use graph::Refusal;
-
-const MARK: u32 = 4294967295;
+use graph::literal::MARK;
 
 pub fn put_node(buffer: &mut [u8], at: usize, index: u32, x: u32, y: u32, z: u32) -> usize
     requires { ⌜ at + 54 ≤ length (now buffer) ⌝ }
@@ -27,7 +26,7 @@ pub fn put_node(buffer: &mut [u8], at: usize, index: u32, x: u32, y: u32, z: u32
 
 pub fn put_output(buffer: &mut [u8], at: usize, x: u32) -> usize
     requires { ⌜ at + 15 ≤ length (now buffer) ⌝ }
-    ensures { λ r. ⌜ (r ≡ at + length (outLine x)) × (r ≤ at + 15) × (now (buffer .exit) ≡ sets (now (buffer .entry)) at (outLine x)) ⌝ }
+    ensures { λ r. ⌜ (r ≡ at + length (outputLine x)) × (r ≤ at + 15) × (now (buffer .exit) ≡ sets (now (buffer .entry)) at (outputLine x)) ⌝ }
 {
     text::put_line1(buffer, at, b"out ", x)
 }
@@ -41,7 +40,7 @@ pub fn put_nodes(
 ) -> usize
     requires { ⌜ (inputs ≤ 4096) × (nodes ≤ 100000) × (3 * nodes ≤ length (now «node_table»)) ⌝ }
     requires { ⌜ start + 54 * nodes ≤ length (now buffer) ⌝ }
-    ensures { λ r. ⌜ (r ≡ start + length (run (nodeLineAt inputs (now («node_table» .entry))) 0 nodes)) × (r ≤ start + 54 * nodes) × (now (buffer .exit) ≡ sets (now (buffer .entry)) start (run (nodeLineAt inputs (now («node_table» .entry))) 0 nodes)) ⌝ }
+    ensures { λ r. ⌜ (r ≡ start + length (inOrder (nodeLineAt inputs (now («node_table» .entry))) 0 nodes)) × (r ≤ start + 54 * nodes) × (now (buffer .exit) ≡ sets (now (buffer .entry)) start (inOrder (nodeLineAt inputs (now («node_table» .entry))) 0 nodes)) ⌝ }
 {
     let mut at = start;
     let mut index = inputs + 1;
@@ -67,7 +66,7 @@ pub fn put_nodes(
 pub fn put_outputs(buffer: &mut [u8], start: usize, outputs: u32, output_table: &[u32]) -> usize
     requires { ⌜ outputs ≤ length (now «output_table») ⌝ }
     requires { ⌜ start + 15 * outputs ≤ length (now buffer) ⌝ }
-    ensures { λ r. ⌜ (r ≡ start + length (run (outLineAt (now («output_table» .entry))) 0 outputs)) × (r ≤ start + 15 * outputs) × (now (buffer .exit) ≡ sets (now (buffer .entry)) start (run (outLineAt (now («output_table» .entry))) 0 outputs)) ⌝ }
+    ensures { λ r. ⌜ (r ≡ start + length (inOrder (outputLineAt (now («output_table» .entry))) 0 outputs)) × (r ≤ start + 15 * outputs) × (now (buffer .exit) ≡ sets (now (buffer .entry)) start (inOrder (outputLineAt (now («output_table» .entry))) 0 outputs)) ⌝ }
 {
     let mut at = start;
     let mut v = 0;
@@ -141,5 +140,5 @@ pub fn put_refused(buffer: &mut [u8], refusal: Refusal) -> usize
     requires { ⌜ 128 ≤ length (now buffer) ⌝ }
     ensures { λ r. ⌜ (r ≡ length (line1 refusedText (numberOf refusal))) × (r ≤ length (now (buffer .entry))) × (now (buffer .exit) ≡ sets (now (buffer .entry)) 0 (line1 refusedText (numberOf refusal))) ⌝ }
 {
-    text::put_line1(buffer, 0, b"refused ", graph::checks::number_of(refusal))
+    text::put_line1(buffer, 0, b"refused ", graph::faults::number_of(refusal))
 }

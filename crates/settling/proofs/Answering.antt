@@ -11,7 +11,7 @@ use Rattle.graph.proofs.Tests.{both, off}
 use Rattle.graph.proofs.Admit.{admitted}
 use Rattle.graph.proofs.Answers.{refused-outcome, accepted-outcome}
 use Rattle.moves.specs.Call.{scratchFault}
-use Rattle.incremental.specs.State.{stands}
+use Rattle.state.specs.State.{stands}
 use Rattle.settling.specs.Settle.{Rounds, settle, settleNumber, settleCall}
 use Rattle.settling.specs.Phase.{AllRounds, SettledTo}
 

@@ -10,8 +10,8 @@ use Rattle.graph.specs.Graph.{Graph}
 use Rattle.graph.specs.Count.{C}
 use Rattle.graph.specs.Admission.{Admitted}
 use Rattle.graph.proofs.Adds.{C-le}
-use Rattle.incremental.specs.State.{stands, Ordered}
-use Rattle.incremental.proofs.Stands.{stands-admitted}
+use Rattle.state.specs.State.{stands, Ordered}
+use Rattle.state.proofs.Stands.{stands-admitted}
 use Rattle.settling.specs.Round.{Progress, start, round}
 use Rattle.settling.specs.Settle.{Rounds, settleIn, settle}
 use Rattle.settling.specs.Phase.{Phase, AllRounds, phases}
@@ -48,7 +48,7 @@ pub record Going (s : ℕ) (g₀ : Graph) (sc₀ : List ℕ) (g : Graph) (sc : L
   pub done : c₁ ≤ c₂ → settle s (stands g₀ sc₀) ≡ later rounds (record { rounds = 0; graph = stands g sc })
 
 pub count-few : (g : Graph) (sc : List ℕ) → Ordered g sc → C (stands g sc) ≤ 304096
-count-few g sc o = let a = stands-admitted g sc (o .admitted) in omega (arith, C-le (stands g sc), a .few-nodes, a .few-outs)
+count-few g sc o = let a = stands-admitted g sc (o .admitted) in omega (arith, C-le (stands g sc), a .few-nodes, a .few-outputs)
 
 module _ (s : ℕ) (g : Graph) (sc : List ℕ) (o : Ordered g sc) where
   -- what the three phases make of a state is a round

@@ -17,11 +17,11 @@ use Rattle.graph.proofs.Cases.{true-or-false}
 use Rattle.moves.specs.Tree.{isRoot, place, tree}
 use Rattle.moves.specs.Call.{moved, bestAt, wordFault, pairRewrite}
 use Rattle.moves.proofs.TreeBest.{reader-node}
-use Rattle.incremental.specs.State.{field, stands, Ordered}
-use Rattle.incremental.specs.Step.{Made}
-use Rattle.incremental_trees.specs.Stepping.{TreeMade}
-use Rattle.incremental.proofs.Alike.{Alike, alike-xor, alike-isRoot}
-use Rattle.incremental.proofs.Stands.{stands-alike, stands-admitted}
+use Rattle.state.specs.State.{field, stands, Ordered}
+use Rattle.state.specs.Step.{Made}
+use Rattle.trees.specs.Stepping.{TreeMade}
+use Rattle.state.proofs.Alike.{Alike, alike-xor, alike-isRoot}
+use Rattle.state.proofs.Stands.{stands-alike, stands-admitted}
 use Rattle.settling.specs.Round.{Progress, each, treeAt, nodeAt, pairAt, pairsAt}
 use Rattle.settling.specs.Phase.{Phase}
 use Rattle.settling.proofs.Turns.{nodeAt-graph, treeAt-root, treeAt-inner, pairAt-word, pairAt-none}

@@ -5,7 +5,7 @@ use Prim.Native.Nat.{ℕ, _+_, _≤_}
 use lib.ListN.{length}
 use Rattle.graph.specs.Graph.{Graph}
 use Rattle.graph.specs.Count.{C}
-use Rattle.incremental.specs.State.{stands, Ordered}
+use Rattle.state.specs.State.{stands, Ordered}
 use Rattle.settling.specs.Round.{Progress, each, treeAt, nodeAt, pairsAt}
 use Rattle.settling.specs.Settle.{Rounds, settle}
 

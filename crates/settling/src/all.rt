@@ -5,12 +5,12 @@ ghost use lib.ListN.{length};
 ghost use Rattle.graph.specs.Admission.{Admitted};
 ghost use Rattle.graph.specs.Graph.{graphOf};
 ghost use Rattle.graph.specs.Count.{C};
-ghost use Rattle.incremental.specs.State.{stands, Ordered};
+ghost use Rattle.state.specs.State.{stands, Ordered};
 ghost use Rattle.settling.specs.Phase.{Phase, AllRounds, SettledTo, phases};
 use crate::phases;
 
 // The rounds made, and C after them.
-pub struct Tally {
+pub struct RoundsMade {
     pub rounds: u32,
     pub count: u32,
 }
@@ -56,7 +56,7 @@ pub fn all_rounds(
     output_table: &[u32],
     count: u32,
     scratch: &mut [u32],
-) -> Tally
+) -> RoundsMade
     requires { ⌜ Ordered (graphOf inputs nodes outputs (now «node_table») (now «output_table»)) (now scratch) × (count ≡ C (stands (graphOf inputs nodes outputs (now «node_table») (now «output_table»)) (now scratch))) ⌝ }
     ensures { λ r. ⌜ AllRounds (length (now (scratch .entry))) (graphOf inputs nodes outputs (now («node_table» .entry)) (now («output_table» .entry))) (now (scratch .entry)) (graphOf inputs nodes outputs (now («node_table» .exit)) (now («output_table» .entry))) (now (scratch .exit)) (r .rounds) (r .count) ⌝ }
 {
@@ -76,7 +76,7 @@ pub fn all_rounds(
         );
         rounds += 1;
     }
-    Tally {
+    RoundsMade {
         rounds,
         count: after,
     }
@@ -95,14 +95,7 @@ pub fn settle_admitted(
     ensures { λ r. ⌜ SettledTo (length (now (scratch .entry))) (graphOf inputs nodes outputs (now («node_table» .entry)) (now («output_table» .entry))) (graphOf inputs nodes outputs (now («node_table» .exit)) (now («output_table» .exit))) (r .rounds) (r .before) (r .after) ⌝ }
 {
     let before = graph::edges::complemented(inputs, nodes, outputs, node_table, output_table);
-    incremental_trees::start::fill_scratch(
-        inputs,
-        nodes,
-        outputs,
-        node_table,
-        output_table,
-        scratch,
-    );
+    trees::start::fill_scratch(inputs, nodes, outputs, node_table, output_table, scratch);
     let tally = all_rounds(
         inputs,
         nodes,
@@ -112,7 +105,7 @@ pub fn settle_admitted(
         before,
         scratch,
     );
-    incremental::writing::write_out(inputs, nodes, outputs, node_table, output_table, scratch);
+    state::writing::write_out(inputs, nodes, outputs, node_table, output_table, scratch);
     Figures {
         rounds: tally.rounds,
         before,

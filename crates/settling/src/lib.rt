@@ -5,7 +5,7 @@ ghost use Rattle.graph.specs.Answer.{outcome, ScratchKept};
 ghost use Rattle.settling.specs.Settle.{settledAnswer, settleCall};
 
 pub mod all;
-pub mod checks;
+pub mod faults;
 pub mod phases;
 
 // What settling answers.
@@ -31,7 +31,7 @@ pub fn settle(
     ensures call { λ r. ⌜ outcome (settledAnswer r) (graphOf inputs nodes outputs (now («node_table» .exit)) (now («output_table» .exit))) ≡ settleCall (graphOf inputs nodes outputs (now («node_table» .entry)) (now («output_table» .entry))) (length (now (scratch .entry))) ⌝ }
     ensures scratch { λ r. ⌜ ScratchKept (settledAnswer r) (now (scratch .entry)) (now (scratch .exit)) ⌝ }
 {
-    let refusal = checks::settle_number(
+    let refusal = faults::settle_number(
         inputs,
         nodes,
         outputs,
@@ -40,7 +40,7 @@ pub fn settle(
         scratch.len(),
     );
     if refusal != 0 {
-        return Settled::Refused(graph::checks::refused_by(refusal));
+        return Settled::Refused(graph::faults::refused_by(refusal));
     }
     let figures = all::settle_admitted(inputs, nodes, outputs, node_table, output_table, scratch);
     Settled::Rounds {

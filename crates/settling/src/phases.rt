@@ -5,7 +5,7 @@ ghost use lib.ListN.{length};
 ghost use mathlib.Core.Bool.{true};
 ghost use Rattle.graph.specs.Graph.{graphOf};
 ghost use Rattle.graph.specs.Count.{C};
-ghost use Rattle.incremental.specs.State.{stands, Ordered};
+ghost use Rattle.state.specs.State.{stands, Ordered};
 ghost use Rattle.settling.specs.Round.{each, treeAt, nodeAt, pairAt, pairsAt};
 ghost use Rattle.settling.specs.Phase.{Phase};
 use graph::literal::MARK;
@@ -28,7 +28,7 @@ pub fn tree_call_at(
     if scratch[only] != MARK {
         return count;
     }
-    incremental_trees::trees::tree_step(
+    trees::making::tree_step(
         inputs,
         nodes,
         outputs,
@@ -89,7 +89,7 @@ pub fn single_calls(
     let mut c = count;
     let mut v: usize = 0;
     while v < end {
-        c = incremental::moving::node_step(
+        c = state::moving::node_step(
             inputs,
             nodes,
             outputs,
@@ -118,7 +118,7 @@ pub fn pair_calls_at(
     requires { ⌜ Ordered (graphOf inputs nodes outputs (now «node_table») (now «output_table»)) (now scratch) × (v < nodes) × (count ≡ C (stands (graphOf inputs nodes outputs (now «node_table») (now «output_table»)) (now scratch))) ⌝ }
     ensures { λ r. ⌜ Phase (pairsAt v) (graphOf inputs nodes outputs (now («node_table» .entry)) (now («output_table» .entry))) (now (scratch .entry)) (graphOf inputs nodes outputs (now («node_table» .exit)) (now («output_table» .entry))) (now (scratch .exit)) r ⌝ }
 {
-    let a = incremental::moving::pair_step(
+    let a = state::moving::pair_step(
         inputs,
         nodes,
         outputs,
@@ -129,7 +129,7 @@ pub fn pair_calls_at(
         count,
         scratch,
     );
-    let b = incremental::moving::pair_step(
+    let b = state::moving::pair_step(
         inputs,
         nodes,
         outputs,
@@ -144,7 +144,7 @@ pub fn pair_calls_at(
     if node_table[third] == MARK {
         return b;
     }
-    incremental::moving::pair_step(
+    state::moving::pair_step(
         inputs,
         nodes,
         outputs,

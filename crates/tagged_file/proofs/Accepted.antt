@@ -9,8 +9,8 @@ use native.Mathlib.Nat.{not-suc-le-zero, le-of-suc-le-suc}
 use lib.ListN.{getD, drop}
 use Rattle.graph.specs.Graph.{mark}
 use Rattle.graph.proofs.Tests.{both, on}
-use Rattle.file_checks.specs.File.{be4, nodeSize, third, outNumber, outsNumber, nodesNumber, nodeWords, outWords, afterNodes}
-use Rattle.tagged_file.specs.Write.{nodeFieldAt, outFieldAt, endField, run}
+use Rattle.file_checks.specs.File.{be4, nodeSize, third, outputFieldNumber, outputFieldsNumber, nodeFieldsNumber, nodeWords, outputWords, afterNodes}
+use Rattle.tagged_file.specs.Write.{nodeFieldAt, outputFieldAt, endField, inOrder}
 use Rattle.tagged_file.proofs.BigEndian.{Bytes, bytes-drop}
 use Rattle.tagged_file.proofs.OneField.{Majority, Xor, NodeAccepted, node-accepted, node-back, output-back, end-back}
 
@@ -18,9 +18,9 @@ use Rattle.tagged_file.proofs.OneField.{Majority, Xor, NodeAccepted, no
 abbrev pub Holds : List ℕ → ℕ → ℕ → List ℕ → Type 0
 Holds l p n ws = (k : ℕ) → k < n → getD l (p + k) 0 ≡ getD ws k 0
 
-pub outputs-back : (o : ℕ) (s : List ℕ) (i : ℕ) (l : List ℕ) (v : ℕ) → Bytes s → outsNumber o s i ≡ 0 → Holds l v o (outWords o s)
-    → s ≡ run (outFieldAt l) v o ++ endField
-unfolding outFieldAt
+pub outputs-back : (o : ℕ) (s : List ℕ) (i : ℕ) (l : List ℕ) (v : ℕ) → Bytes s → outputFieldsNumber o s i ≡ 0 → Holds l v o (outputWords o s)
+    → s ≡ inOrder (outputFieldAt l) v o ++ endField
+unfolding outputFieldAt
 outputs-back zero s i l v h e w = end-back s e
 outputs-back (suc o) s i l v h e w =
     let f = both _ _ e in
@@ -29,8 +29,8 @@ outputs-back (suc o) s i l v h e w =
     (λ k b. ap (λ (j : ℕ). getD l j 0) (omega arith) ∙ w (suc k) (omega arith)) in
     output-back s i h (f .0) ∙ rw (x, append-assoc, ← r)
 
-pub nodes-back : (n o : ℕ) (s : List ℕ) (i : ℕ) (l : List ℕ) (v : ℕ) → Bytes s → i + n < 2147483648 → nodesNumber n o s i ≡ 0
-    → Holds l (3 * v) (3 * n) (nodeWords n s) → s ≡ run (nodeFieldAt l) v n ++ afterNodes n s
+pub nodes-back : (n o : ℕ) (s : List ℕ) (i : ℕ) (l : List ℕ) (v : ℕ) → Bytes s → i + n < 2147483648 → nodeFieldsNumber n o s i ≡ 0
+    → Holds l (3 * v) (3 * n) (nodeWords n s) → s ≡ inOrder (nodeFieldAt l) v n ++ afterNodes n s
 unfolding nodeFieldAt
 nodes-back zero o s i l v h b e w = refl
 nodes-back (suc n) o s i l v h b e w =
@@ -43,7 +43,7 @@ nodes-back (suc n) o s i l v h b e w =
     node-back s i h (omega arith) (f .0) ∙ rw (x, y, z, append-assoc, ← r)
 
 -- the walk over the outputs, once the nodes are passed
-pub after-nodes : (n o : ℕ) (s : List ℕ) (i : ℕ) → nodesNumber n o s i ≡ 0 → outsNumber o (afterNodes n s) (i + n) ≡ 0
+pub after-nodes : (n o : ℕ) (s : List ℕ) (i : ℕ) → nodeFieldsNumber n o s i ≡ 0 → outputFieldsNumber o (afterNodes n s) (i + n) ≡ 0
 after-nodes zero o s i e = let q : i + 0 ≡ i = omega arith in rw q e
 after-nodes (suc n) o s i e =
     let q : i + suc n ≡ i + 1 + n = omega arith in
@@ -54,8 +54,8 @@ bytes-after zero s h = h
 bytes-after (suc n) s h = bytes-after n (drop (nodeSize s) s) (bytes-drop (nodeSize s) s h)
 
 -- the words that are read
-pub outputs-below : (o : ℕ) (s : List ℕ) (i : ℕ) → outsNumber o s i ≡ 0 → (j : ℕ) → j < o → getD (outWords o s) j 0 / 2 < i
-unfolding outNumber
+pub outputs-below : (o : ℕ) (s : List ℕ) (i : ℕ) → outputFieldsNumber o s i ≡ 0 → (j : ℕ) → j < o → getD (outputWords o s) j 0 / 2 < i
+unfolding outputFieldNumber
 outputs-below zero s i e j h = absurd (not-suc-le-zero h)
 outputs-below (suc o) s i e zero h = on _ _ _ _ (both _ _ (both _ _ e .0) .1) .0
 outputs-below (suc o) s i e (suc j) h = outputs-below o (drop 7 s) i (both _ _ e .1) j (le-of-suc-le-suc h)
@@ -63,7 +63,7 @@ outputs-below (suc o) s i e (suc j) h = outputs-below o (drop 7 s) i (both _ _ e
 third-below : (s : List ℕ) (i : ℕ) → NodeAccepted s i → (third s ≡ mark → ⊥) → third s / 2 < i
 third-below s i a n = ⊎-elim (λ (m : Majority s i). m .below) (λ (x : Xor s). absurd (n (x .third-is))) (a .kind)
 
-pub nodes-below : (n o : ℕ) (s : List ℕ) (i : ℕ) → nodesNumber n o s i ≡ 0 → (j : ℕ) → j < 3 * n
+pub nodes-below : (n o : ℕ) (s : List ℕ) (i : ℕ) → nodeFieldsNumber n o s i ≡ 0 → (j : ℕ) → j < 3 * n
     → (j % 3 ≡ 2 → getD (nodeWords n s) j 0 ≡ mark → ⊥) → getD (nodeWords n s) j 0 / 2 < i + j / 3
 nodes-below zero o s i e j h d = absurd (omega arith)
 nodes-below (suc n) o s i e zero h d = omega (arith, node-accepted s i (both _ _ e .0) .one)

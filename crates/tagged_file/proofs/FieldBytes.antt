@@ -6,7 +6,7 @@ use lib.ListN.{length}
 use lib.Seq.{sets}
 use Rattle.graph.specs.Graph.{mark}
 use Rattle.graph.proofs.Tests.{equal, unequal}
-use Rattle.tagged_file.specs.Write.{big, fieldOf, nodeField, outField, outFieldAt, endField}
+use Rattle.tagged_file.specs.Write.{big, fieldOf, nodeField, outputField, outputFieldAt, endField}
 use Rattle.tagged_file.proofs.Stores.{then}
 
 pub length-big : (x : ℕ) → length (big 4 x) ≡ 4
@@ -40,8 +40,8 @@ length-xor x y z e = sym (length-two 3 x y) ∙ ap length (node-xor x y z e)
 pub length-majority : (x y z : ℕ) → (z ≡ mark → ⊥) → 15 ≡ length (nodeField x y z)
 length-majority x y z e = sym (length-three 2 x y z) ∙ ap length (node-majority x y z e)
 
-pub length-output : (x : ℕ) → length (outField x) ≡ 7
-unfolding outField fieldOf big
+pub length-output : (x : ℕ) → length (outputField x) ≡ 7
+unfolding outputField fieldOf big
 length-output x = refl
 
 module _ (t t₁ t₂ t₃ : List ℕ) (at : ℕ) where
@@ -61,10 +61,10 @@ module _ (t t₁ t₂ t₃ : List ℕ) (at : ℕ) where
       let h : List ℕ = tag ∷ 0 ∷ 8 ∷ [] in
       then t t₂ t₃ (h ++ big 4 x) (big 4 y) at (at + 7) (then t t₁ t₂ h (big 4 x) at (at + 3) e₁ e₂ refl) e₃ refl
 
-pub output-stored : (t t₁ t₂ : List ℕ) (at x : ℕ) → t₁ ≡ sets t at (4 ∷ 0 ∷ 4 ∷ []) → t₂ ≡ sets t₁ (at + 3) (big 4 x) → t₂ ≡ sets t at (outField x)
-unfolding outField fieldOf big
+pub output-stored : (t t₁ t₂ : List ℕ) (at x : ℕ) → t₁ ≡ sets t at (4 ∷ 0 ∷ 4 ∷ []) → t₂ ≡ sets t₁ (at + 3) (big 4 x) → t₂ ≡ sets t at (outputField x)
+unfolding outputField fieldOf big
 output-stored t t₁ t₂ at x e₁ e₂ = then t t₁ t₂ (4 ∷ 0 ∷ 4 ∷ []) (big 4 x) at (at + 3) e₁ e₂ refl
 
-pub length-output-at : (os : List ℕ) (j : ℕ) → length (outFieldAt os j) ≡ 7
-unfolding outFieldAt
+pub length-output-at : (os : List ℕ) (j : ℕ) → length (outputFieldAt os j) ≡ 7
+unfolding outputFieldAt
 length-output-at os j = length-output _

@@ -6,14 +6,14 @@ use native.Mathlib.Omega.{arith}
 use lib.ListN.{length, drop, set, length-set}
 use lib.Seq.{sets}
 use Rattle.tagged_file.proofs.Stores.{front}
-use Rattle.file_checks.specs.File.{be4, third, nodeSize, nodeWords, outWords, afterNodes}
-use Rattle.file_checks.specs.Walk.{NodeRoom, Nodes, Outs}
+use Rattle.file_checks.specs.File.{be4, third, nodeSize, nodeWords, outputWords, afterNodes}
+use Rattle.file_checks.specs.Walk.{NodeRoom, Nodes, Outputs}
 
 pub length-nodeWords : (n : ℕ) (s : List ℕ) → length (nodeWords n s) ≡ 3 * n
 length-nodeWords zero s = refl
 length-nodeWords (suc n) s = omega (arith, length-nodeWords n (drop (nodeSize s) s))
 
-pub length-outWords : (n : ℕ) (s : List ℕ) → length (outWords n s) ≡ n
+pub length-outWords : (n : ℕ) (s : List ℕ) → length (outputWords n s) ≡ n
 length-outWords zero s = refl
 length-outWords (suc n) s = omega (arith, length-outWords n (drop 7 s))
 
@@ -51,21 +51,21 @@ module _ (n : ℕ) (bytes t₀ t s : List ℕ) (at : ℕ) where
   nodes-left-none zero h f i = (i .after, i .words ∙ front (nodeWords n bytes) t₀ (3 * n) (length-nodeWords n bytes) f)
   nodes-left-none (suc left) h f i = absurd (omega arith)
 
-pub record OutsLeft (n : ℕ) (bytes t₀ t s : List ℕ) (at left : ℕ) : Type 0 where
-  pub room : Outs left s
+pub record OutputsLeft (n : ℕ) (bytes t₀ t s : List ℕ) (at left : ℕ) : Type 0 where
+  pub room : Outputs left s
   pub fits : at + left ≤ length t
   pub same : length t ≡ length t₀
-  pub words : sets t at (outWords left s) ≡ sets t₀ 0 (outWords n bytes)
+  pub words : sets t at (outputWords left s) ≡ sets t₀ 0 (outputWords n bytes)
 
 module _ (n : ℕ) (bytes t₀ t s : List ℕ) (at : ℕ) where
-  pub outs-left-room : (left : ℕ) → 0 < left → OutsLeft n bytes t₀ t s at left → 7 ≤ length s
-  outs-left-room zero h i = absurd (omega arith)
-  outs-left-room (suc left) h i = i .room .0
+  pub outputs-left-room : (left : ℕ) → 0 < left → OutputsLeft n bytes t₀ t s at left → 7 ≤ length s
+  outputs-left-room zero h i = absurd (omega arith)
+  outputs-left-room (suc left) h i = i .room .0
 
-  pub outs-left-more : (left : ℕ) → 0 < left → OutsLeft n bytes t₀ t s at left → (s′ : List ℕ) (x : ℕ) → s′ ≡ drop 7 s → x ≡ be4 s 3
-      → OutsLeft n bytes t₀ (set t at x) s′ (at + 1) (left - 1)
-  outs-left-more zero h i s′ x es ex = absurd (omega arith)
-  outs-left-more (suc left) h i s′ x es ex =
+  pub outputs-left-more : (left : ℕ) → 0 < left → OutputsLeft n bytes t₀ t s at left → (s′ : List ℕ) (x : ℕ) → s′ ≡ drop 7 s → x ≡ be4 s 3
+      → OutputsLeft n bytes t₀ (set t at x) s′ (at + 1) (left - 1)
+  outputs-left-more zero h i s′ x es ex = absurd (omega arith)
+  outputs-left-more (suc left) h i s′ x es ex =
       let e : suc left - 1 ≡ left = omega arith in
       let q₁ : at + 1 ≡ suc at = omega arith in
       let d : length (set t at x) ≡ length t = simp length-set in
@@ -76,6 +76,6 @@ module _ (n : ℕ) (bytes t₀ t s : List ℕ) (at : ℕ) where
         words = rw (e, es, ex, q₁) (i .words);
       }
 
-  pub outs-left-none : (left : ℕ) → left ≤ 0 → n ≤ length t₀ → OutsLeft n bytes t₀ t s at left → t ≡ outWords n bytes ++ drop n t₀
-  outs-left-none zero h f i = i .words ∙ front (outWords n bytes) t₀ n (length-outWords n bytes) f
-  outs-left-none (suc left) h f i = absurd (omega arith)
+  pub outputs-left-none : (left : ℕ) → left ≤ 0 → n ≤ length t₀ → OutputsLeft n bytes t₀ t s at left → t ≡ outputWords n bytes ++ drop n t₀
+  outputs-left-none zero h f i = i .words ∙ front (outputWords n bytes) t₀ n (length-outWords n bytes) f
+  outputs-left-none (suc left) h f i = absurd (omega arith)

@@ -9,8 +9,8 @@ use Rattle.graph.specs.Finite.{ifEqual}
 use Rattle.graph.specs.Graph.{mark}
 use Rattle.graph.proofs.Cases.{eq-or-ne}
 use Rattle.graph.proofs.Tests.{equal, unequal, both, on, off}
-use Rattle.file_checks.specs.File.{be2, be4, payloadOf, nodeSize, third, headNumber, nodeNumber, outNumber, endNumber}
-use Rattle.tagged_file.specs.Write.{big, fieldOf, headField, nodeField, outField, endField}
+use Rattle.file_checks.specs.File.{be2, be4, payloadOf, nodeSize, third, headNumber, nodeFieldNumber, outputFieldNumber, endNumber}
+use Rattle.tagged_file.specs.Write.{big, fieldOf, headField, nodeField, outputField, endField}
 use Rattle.tagged_file.proofs.BigEndian.{Bytes, next, four-bytes}
 use Rattle.tagged_file.proofs.FieldBytes.{node-xor, node-majority, end-is}
 use Rattle.file_checks.proofs.Checked.{due-is, size-at}
@@ -24,8 +24,8 @@ two-is : (tag x y : ℕ) → fieldOf tag (big 4 x ++ big 4 y) ≡ tag ∷ 0 ∷ 
 unfolding fieldOf big
 two-is tag x y = refl
 
-out-is : (x : ℕ) → outField x ≡ 4 ∷ 0 ∷ 4 ∷ big 4 x
-unfolding outField fieldOf big
+out-is : (x : ℕ) → outputField x ≡ 4 ∷ 0 ∷ 4 ∷ big 4 x
+unfolding outputField fieldOf big
 out-is x = refl
 
 -- the head of an accepted field
@@ -50,7 +50,7 @@ module _ (s : List ℕ) (h : Bytes s) where
   two-back tag l t e =
       head-bytes s tag 8 (omega arith) t e (omega arith) ∙ rw (four-bytes s 3 h (omega arith), four-bytes s 7 h (omega arith), two-is, append-assoc)
 
-  out-back : 7 ≤ length s → getD s 0 0 ≡ 4 → be2 s 1 ≡ 4 → s ≡ outField (be4 s 3) ++ drop 7 s
+  out-back : 7 ≤ length s → getD s 0 0 ≡ 4 → be2 s 1 ≡ 4 → s ≡ outputField (be4 s 3) ++ drop 7 s
   out-back l t e = head-bytes s 4 4 (omega arith) t e (omega arith) ∙ rw (four-bytes s 3 h (omega arith), out-is)
 
 -- what an accepted node field is: a majority's or an XOR's
@@ -106,8 +106,8 @@ pub payload-five : payloadOf 5 ≡ 0
 unfolding payloadOf ifEqual
 payload-five = refl
 
-pub node-accepted : (s : List ℕ) (v : ℕ) → nodeNumber s v ≡ 0 → NodeAccepted s v
-unfolding nodeNumber
+pub node-accepted : (s : List ℕ) (v : ℕ) → nodeFieldNumber s v ≡ 0 → NodeAccepted s v
+unfolding nodeFieldNumber
 node-accepted s v e =
     let f = both _ _ e in
     let d = due-is 2 3 s (f .0) in
@@ -127,7 +127,7 @@ node-accepted s v e =
     record { one = x .0; two = y .0; kind = ⊎-elim (λ (t : getD s 0 0 ≡ 3). inr (xor t)) (λ (n : getD s 0 0 ≢ 3). inl (majority n)) (eq-or-ne (getD s 0 0) 3) }
 
 -- an accepted field is, byte for byte, the field of what is read from it; an index has less than 31 bits, so that no majority's literal is the mark
-pub node-back : (s : List ℕ) (v : ℕ) → Bytes s → v < 2147483648 → nodeNumber s v ≡ 0 → s ≡ nodeField (be4 s 3) (be4 s 7) (third s) ++ drop (nodeSize s) s
+pub node-back : (s : List ℕ) (v : ℕ) → Bytes s → v < 2147483648 → nodeFieldNumber s v ≡ 0 → s ≡ nodeField (be4 s 3) (be4 s 7) (third s) ++ drop (nodeSize s) s
 node-back s v h l e =
     let a = node-accepted s v e in
     ⊎-elim
@@ -138,8 +138,8 @@ node-back s v h l e =
     rw (← node-xor (be4 s 3) (be4 s 7) (third s) (x .third-is), x .size) (two-back s h 3 (x .room) (x .tag) (x .length-is)))
     (a .kind)
 
-pub output-back : (s : List ℕ) (v : ℕ) → Bytes s → outNumber s v ≡ 0 → s ≡ outField (be4 s 3) ++ drop 7 s
-unfolding outNumber
+pub output-back : (s : List ℕ) (v : ℕ) → Bytes s → outputFieldNumber s v ≡ 0 → s ≡ outputField (be4 s 3) ++ drop 7 s
+unfolding outputFieldNumber
 output-back s v h e =
     let d = due-is 4 4 s (both _ _ e .0) in
     let t : getD s 0 0 ≡ 4 = omega arith in

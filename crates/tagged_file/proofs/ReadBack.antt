@@ -9,8 +9,8 @@ use lib.ListN.{length, getD, drop, length-append}
 use Rattle.graph.specs.Graph.{mark}
 use Rattle.graph.proofs.Cases.{eq-or-ne}
 use Rattle.graph.proofs.Tests.{less, no-less, equal, unequal, none}
-use Rattle.file_checks.specs.File.{be2, be4, payloadOf, dueNumber, nodeSize, third, headNumber, nodeNumber, outNumber, endNumber}
-use Rattle.tagged_file.specs.Write.{big, fieldOf, headField, nodeField, outField, endField}
+use Rattle.file_checks.specs.File.{be2, be4, payloadOf, dueNumber, nodeSize, third, headNumber, nodeFieldNumber, outputFieldNumber, endNumber}
+use Rattle.tagged_file.specs.Write.{big, fieldOf, headField, nodeField, outputField, endField}
 use Rattle.tagged_file.proofs.BigEndian.{big-says}
 use Rattle.tagged_file.proofs.FieldBytes.{node-xor, node-majority, end-is, length-three, length-two, length-output}
 use Rattle.file_checks.proofs.Checked.{size-at}
@@ -74,15 +74,15 @@ module _ (tag x y : ℕ) (rest : List ℕ) where
 
 -- a node's field, with index v
 pub record NodeRead (s : List ℕ) (v x y z : ℕ) (rest : List ℕ) : Type 0 where
-  pub number : nodeNumber s v ≡ 0
+  pub number : nodeFieldNumber s v ≡ 0
   pub one : be4 s 3 ≡ x
   pub two : be4 s 7 ≡ y
   pub last : third s ≡ z
   pub after : drop (nodeSize s) s ≡ rest
 
 accepted-node : (s : List ℕ) (v x y : ℕ) → dueNumber 2 3 s ≡ 0 → be4 s 3 ≡ x → be4 s 7 ≡ y → x / 2 < v → y / 2 < v
-    → ((getD s 0 0 ≡ 3 → ⊥) → be4 s 11 / 2 < v) → nodeNumber s v ≡ 0
-unfolding nodeNumber
+    → ((getD s 0 0 ≡ 3 → ⊥) → be4 s 11 / 2 < v) → nodeFieldNumber s v ≡ 0
+unfolding nodeFieldNumber
 accepted-node s v x y d ex ey hx hy hz =
     sym (none _ _ d (less _ _ _ _ (rw ex hx) (less _ _ _ _ (rw ey hy)
     (⊎-elim
@@ -131,32 +131,32 @@ module _ (v x y z : ℕ) (rest : List ℕ) (bx : x < 4294967296) (by : y < 42949
 
 -- an output's field, with the indices below v allowed
 pub record OutputRead (s : List ℕ) (v x : ℕ) (rest : List ℕ) : Type 0 where
-  pub number : outNumber s v ≡ 0
+  pub number : outputFieldNumber s v ≡ 0
   pub one : be4 s 3 ≡ x
   pub after : drop 7 s ≡ rest
 
 module _ (x : ℕ) (rest : List ℕ) where
-  out-tag : getD (outField x ++ rest) 0 0 ≡ 4
-  unfolding outField fieldOf
+  out-tag : getD (outputField x ++ rest) 0 0 ≡ 4
+  unfolding outputField fieldOf
   out-tag = refl
 
-  out-size : be2 (outField x ++ rest) 1 ≡ 4
-  unfolding outField fieldOf big be2
+  out-size : be2 (outputField x ++ rest) 1 ≡ 4
+  unfolding outputField fieldOf big be2
   out-size = refl
 
-  out-first : x < 4294967296 → be4 (outField x ++ rest) 3 ≡ x
-  unfolding outField fieldOf big be4
+  out-first : x < 4294967296 → be4 (outputField x ++ rest) 3 ≡ x
+  unfolding outputField fieldOf big be4
   out-first h = big-says x h
 
-  out-after : drop 7 (outField x ++ rest) ≡ rest
-  unfolding outField fieldOf big
+  out-after : drop 7 (outputField x ++ rest) ≡ rest
+  unfolding outputField fieldOf big
   out-after = refl
 
-  pub output-read : (v : ℕ) → x / 2 < v → x < 4294967296 → OutputRead (outField x ++ rest) v x rest
-  unfolding outNumber
+  pub output-read : (v : ℕ) → x / 2 < v → x < 4294967296 → OutputRead (outputField x ++ rest) v x rest
+  unfolding outputFieldNumber
   output-read v h b =
-      let s : List ℕ = outField x ++ rest in
-      let r = length-append (outField x) rest in
+      let s : List ℕ = outputField x ++ rest in
+      let r = length-append (outputField x) rest in
       let l = length-output x in
       let w : be4 s 3 ≡ x = out-first b in
       let d = due-from 4 4 4 4 s out-tag (omega arith) (omega arith) payload-four out-size (omega arith) in

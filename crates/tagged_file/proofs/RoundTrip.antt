@@ -11,15 +11,15 @@ use native.Mathlib.Omega.{arith}
 use borrow.Author.Tests.{eq-eqb, ne-eqb}
 use lib.Seq.{ext-getD, length-take-le, getD-take}
 use lib.ListN.{length, getD, take, drop, length-append, List·getD-append}
-use Rattle.graph.specs.Graph.{Graph, graphOf, mark, word, out, isEdge}
+use Rattle.graph.specs.Graph.{Graph, graphOf, mark, word, output, isEdge}
 use Rattle.graph.specs.Admission.{Admitted}
 use Rattle.graph.specs.Answer.{Outcome, outcome, accepted, guarded}
 use Rattle.graph.proofs.Edge.{edge-early, edge-third}
 use Rattle.graph.proofs.Tests.{both, none}
 use Rattle.graph.proofs.Answers.{accepted-outcome}
-use Rattle.file_checks.specs.File.{be4, nodesNumber, fileNumber, nodeWords, outWords, afterNodes}
+use Rattle.file_checks.specs.File.{be4, nodeFieldsNumber, fileNumber, nodeWords, outputWords, afterNodes}
 use Rattle.tagged_file.specs.Load.{graphRead, loadCall}
-use Rattle.tagged_file.specs.Write.{headField, nodeFieldAt, outFieldAt, endField, run, fileOf}
+use Rattle.tagged_file.specs.Write.{headField, nodeFieldAt, outputFieldAt, endField, inOrder, fileOf}
 use Rattle.tagged_file.proofs.BigEndian.{Bytes, bytes-drop}
 use Rattle.file_checks.proofs.Checked.{head-passed}
 use Rattle.tagged_file.proofs.Filled.{length-nodeWords, length-outWords}
@@ -60,9 +60,9 @@ module _ (s ns os : List ℕ) where
   unfolding graphRead
   read-word j h = List·getD-append (nodeWords (be4 s 7) (drop 15 s)) _ 0 j (rw (length-nodeWords (be4 s 7) (drop 15 s)) h)
 
-  read-out : (j : ℕ) → j < be4 s 11 → out (graphRead s ns os) j ≡ getD (outWords (be4 s 11) (afterNodes (be4 s 7) (drop 15 s))) j 0
+  read-out : (j : ℕ) → j < be4 s 11 → output (graphRead s ns os) j ≡ getD (outputWords (be4 s 11) (afterNodes (be4 s 7) (drop 15 s))) j 0
   unfolding graphRead
-  read-out j h = List·getD-append (outWords (be4 s 11) (afterNodes (be4 s 7) (drop 15 s))) _ 0 j (rw (length-outWords (be4 s 11) (afterNodes (be4 s 7) (drop 15 s))) h)
+  read-out j h = List·getD-append (outputWords (be4 s 11) (afterNodes (be4 s 7) (drop 15 s))) _ 0 j (rw (length-outWords (be4 s 11) (afterNodes (be4 s 7) (drop 15 s))) h)
 
   read-admitted : fileNumber s (length ns) (length os) ≡ 0 → Admitted (graphRead s ns os)
   unfolding graphRead fileNumber
@@ -73,13 +73,13 @@ module _ (s ns os : List ℕ) where
       let o : ℕ = be4 s 11 in
       let g : Graph = graphRead s ns os in
       record {
-        few-inputs = p .inputs;
-        few-nodes = p .count;
-        few-outs = p .outputs;
+        few-inputs = p .few-inputs;
+        few-nodes = p .few-nodes;
+        few-outputs = p .few-outputs;
         long-nodes = omega (arith, length-append (nodeWords n (drop 15 s)) (drop (3 * n) ns), length-nodeWords n (drop 15 s));
-        long-outs = omega (arith, length-append (outWords o (afterNodes n (drop 15 s))) (drop o os), length-outWords o (afterNodes n (drop 15 s)));
+        long-outputs = omega (arith, length-append (outputWords o (afterNodes n (drop 15 s))) (drop o os), length-outWords o (afterNodes n (drop 15 s)));
         below = λ j h t. rw (read-word j h) (nodes-below n o (drop 15 s) (be4 s 3 + 1) (f .1) j h (λ q m. edge-not g j t q (read-word j h ∙ m)));
-        out-below = λ j h. rw (read-out j h) (outputs-below o (afterNodes n (drop 15 s)) (be4 s 3 + 1 + n) (after-nodes n o (drop 15 s) (be4 s 3 + 1) (f .1)) j h);
+        output-below = λ j h. rw (read-out j h) (outputs-below o (afterNodes n (drop 15 s)) (be4 s 3 + 1 + n) (after-nodes n o (drop 15 s) (be4 s 3 + 1) (f .1)) j h);
       }
 
   -- what an accepted load reads is admitted
@@ -87,13 +87,13 @@ module _ (s ns os : List ℕ) where
   load-admitted e = rw (read-is s ns os e) (read-admitted (no-fault s ns os e))
 
   -- the parts of a file put together
-  parts : afterNodes (be4 s 7) (drop 15 s) ≡ run (outFieldAt (graphRead s ns os .outs)) 0 (be4 s 11) ++ endField
-      → drop 15 s ≡ run (nodeFieldAt (graphRead s ns os .nodes)) 0 (be4 s 7) ++ afterNodes (be4 s 7) (drop 15 s)
+  parts : afterNodes (be4 s 7) (drop 15 s) ≡ inOrder (outputFieldAt (graphRead s ns os .outputs)) 0 (be4 s 11) ++ endField
+      → drop 15 s ≡ inOrder (nodeFieldAt (graphRead s ns os .nodes)) 0 (be4 s 7) ++ afterNodes (be4 s 7) (drop 15 s)
       → s ≡ headField (be4 s 3) (be4 s 7) (be4 s 11) ++ drop 15 s → fileOf (graphRead s ns os) ≡ s
   unfolding fileOf graphRead
   parts a b c =
       sym (c ∙ ap (λ (t : List ℕ). headField (be4 s 3) (be4 s 7) (be4 s 11) ++ t)
-      (b ∙ ap (λ (t : List ℕ). run (nodeFieldAt (graphRead s ns os .nodes)) 0 (be4 s 7) ++ t) a))
+      (b ∙ ap (λ (t : List ℕ). inOrder (nodeFieldAt (graphRead s ns os .nodes)) 0 (be4 s 7) ++ t) a))
 
   read-back : Bytes s → fileNumber s (length ns) (length os) ≡ 0 → fileOf (graphRead s ns os) ≡ s
   unfolding fileNumber
@@ -104,8 +104,8 @@ module _ (s ns os : List ℕ) where
       let o : ℕ = be4 s 11 in
       let g : Graph = graphRead s ns os in
       let t : List ℕ = drop 15 s in
-      let a = outputs-back o (afterNodes n t) (be4 s 3 + 1 + n) (g .outs) 0 (bytes-after n t (bytes-drop 15 s h)) (after-nodes n o t (be4 s 3 + 1) (f .1))
-      (λ k b. ap (λ (j : ℕ). getD (g .outs) j 0) (omega arith) ∙ read-out k b) in
+      let a = outputs-back o (afterNodes n t) (be4 s 3 + 1 + n) (g .outputs) 0 (bytes-after n t (bytes-drop 15 s h)) (after-nodes n o t (be4 s 3 + 1) (f .1))
+      (λ k b. ap (λ (j : ℕ). getD (g .outputs) j 0) (omega arith) ∙ read-out k b) in
       let b = nodes-back n o t (be4 s 3 + 1) (g .nodes) 0 (bytes-drop 15 s h) (omega arith) (f .1)
       (λ k b. ap (λ (j : ℕ). getD (g .nodes) j 0) (omega arith) ∙ read-word k b) in
       parts a b (head-back s (length ns) (length os) h (f .0))
@@ -120,27 +120,27 @@ pub record SameGraph (g h : Graph) : Type 0 where
   pub nodes : g .N ≡ h .N
   pub outputs : g .O ≡ h .O
   pub words : (j : ℕ) → j < 3 * g .N → word g j ≡ word h j
-  pub outs : (j : ℕ) → j < g .O → out g j ≡ out h j
+  pub output-words : (j : ℕ) → j < g .O → output g j ≡ output h j
 
-run-same : (f h : ℕ → List ℕ) (v n : ℕ) → ((j : ℕ) → j < v + n → f j ≡ h j) → run f v n ≡ run h v n
-run-same f h v zero e = refl
-run-same f h v (suc n) e = rw (e v (omega arith), run-same f h (v + 1) n (λ j l. e j (omega arith)))
+inOrder-same : (f h : ℕ → List ℕ) (v n : ℕ) → ((j : ℕ) → j < v + n → f j ≡ h j) → inOrder f v n ≡ inOrder h v n
+inOrder-same f h v zero e = refl
+inOrder-same f h v (suc n) e = rw (e v (omega arith), inOrder-same f h (v + 1) n (λ j l. e j (omega arith)))
 
 module _ (g h : Graph) (same : SameGraph g h) where
   same-node : (v : ℕ) → v < g .N → nodeFieldAt (g .nodes) v ≡ nodeFieldAt (h .nodes) v
   unfolding nodeFieldAt
   same-node v l = rw (same .words (3 * v) (omega arith), same .words (3 * v + 1) (omega arith), same .words (3 * v + 2) (omega arith))
 
-  same-output : (j : ℕ) → j < g .O → outFieldAt (g .outs) j ≡ outFieldAt (h .outs) j
-  unfolding outFieldAt
-  same-output j l = rw (same .outs j l)
+  same-output : (j : ℕ) → j < g .O → outputFieldAt (g .outputs) j ≡ outputFieldAt (h .outputs) j
+  unfolding outputFieldAt
+  same-output j l = rw (same .output-words j l)
 
   -- the same graph has the same file
   pub file-same : fileOf g ≡ fileOf h
   unfolding fileOf
   file-same =
-      let a = run-same (nodeFieldAt (g .nodes)) (nodeFieldAt (h .nodes)) 0 (g .N) (λ j l. same-node j (omega arith)) in
-      let b = run-same (outFieldAt (g .outs)) (outFieldAt (h .outs)) 0 (g .O) (λ j l. same-output j (omega arith)) in
+      let a = inOrder-same (nodeFieldAt (g .nodes)) (nodeFieldAt (h .nodes)) 0 (g .N) (λ j l. same-node j (omega arith)) in
+      let b = inOrder-same (outputFieldAt (g .outputs)) (outputFieldAt (h .outputs)) 0 (g .O) (λ j l. same-output j (omega arith)) in
       rw (a, b, same .inputs, same .nodes, same .outputs)
 
 -- each graph has one file: two accepted files that read the same graph are equal
@@ -163,21 +163,21 @@ module _ (g : Graph) where
 
 -- the file of an admitted graph loads as that graph, into any tables that are long enough: their first words are then the
 -- graph's, and later ones are left
-module _ (g : Graph) (a : Admitted g) (ns os : List ℕ) (long-nodes : 3 * g .N ≤ length ns) (long-outs : g .O ≤ length os) where
+module _ (g : Graph) (a : Admitted g) (ns os : List ℕ) (long-nodes : 3 * g .N ≤ length ns) (long-outputs : g .O ≤ length os) where
   outputs : List ℕ
-  outputs = run (outFieldAt (g .outs)) 0 (g .O) ++ endField
+  outputs = inOrder (outputFieldAt (g .outputs)) 0 (g .O) ++ endField
 
   nodes : List ℕ
-  nodes = run (nodeFieldAt (g .nodes)) 0 (g .N) ++ outputs
+  nodes = inOrder (nodeFieldAt (g .nodes)) 0 (g .N) ++ outputs
 
   written-read : HeadRead (fileOf g) (length ns) (length os) (g .I) (g .N) (g .O) nodes
   unfolding fileOf nodes outputs
-  written-read = head-read (length ns) (length os) (g .I) (g .N) (g .O) nodes (a .few-inputs) (a .few-nodes) (a .few-outs) long-nodes long-outs
+  written-read = head-read (length ns) (length os) (g .I) (g .N) (g .O) nodes (a .few-inputs) (a .few-nodes) (a .few-outputs) long-nodes long-outputs
 
-  nodes-fine : nodesNumber (g .N) (g .O) nodes (g .I + 1) ≡ 0
+  nodes-fine : nodeFieldsNumber (g .N) (g .O) nodes (g .I + 1) ≡ 0
   unfolding nodes outputs
   nodes-fine =
-      let e = outputs-number (g .outs) (g .O) (g .I + 1 + g .N) (omega (arith, a .few-inputs, a .few-nodes)) (a .out-below) (g .O) 0 (omega arith) in
+      let e = outputs-number (g .outputs) (g .O) (g .I + 1 + g .N) (omega (arith, a .few-inputs, a .few-nodes)) (a .output-below) (g .O) 0 (omega arith) in
       let q : g .I + 1 ≡ g .I + 1 + 0 = omega arith in
       rw q (nodes-number (g .nodes) (g .N) (g .I + 1) (omega (arith, a .few-inputs, a .few-nodes)) (allowed g a) outputs (g .O) (g .N) 0 (omega arith) e)
 
@@ -200,19 +200,19 @@ module _ (g : Graph) (a : Admitted g) (ns os : List ℕ) (long-nodes : 3 * g .N 
       nodes-words (g .nodes) (g .N) (g .I + 1) (omega (arith, a .few-inputs, a .few-nodes)) (allowed g a) outputs (g .N) 0 (omega arith) k l
       ∙ ap (λ (j : ℕ). getD (g .nodes) j 0) (omega arith) ∙ sym (getD-take (3 * g .N) (g .nodes) k 0 l))
 
-  outs-are : outWords (g .O) outputs ≡ take (g .O) (g .outs)
+  outputs-are : outputWords (g .O) outputs ≡ take (g .O) (g .outputs)
   unfolding outputs
-  outs-are =
-      ext-getD 0 _ _ (length-outWords (g .O) outputs ∙ sym (length-take-le (g .O) (g .outs) (a .long-outs)))
+  outputs-are =
+      ext-getD 0 _ _ (length-outWords (g .O) outputs ∙ sym (length-take-le (g .O) (g .outputs) (a .long-outputs)))
       (λ k h.
       let l : k < g .O = rw (length-outWords (g .O) outputs) at h in
-      outputs-words (g .outs) (g .O) (g .I + 1 + g .N) (omega (arith, a .few-inputs, a .few-nodes)) (a .out-below) (g .O) 0 (omega arith) k l
-      ∙ ap (λ (j : ℕ). getD (g .outs) j 0) (omega arith) ∙ sym (getD-take (g .O) (g .outs) k 0 l))
+      outputs-words (g .outputs) (g .O) (g .I + 1 + g .N) (omega (arith, a .few-inputs, a .few-nodes)) (a .output-below) (g .O) 0 (omega arith) k l
+      ∙ ap (λ (j : ℕ). getD (g .outputs) j 0) (omega arith) ∙ sym (getD-take (g .O) (g .outputs) k 0 l))
 
   pub loads-written : loadCall (fileOf g) ns os
       ≡ outcome (accepted (g .I ∷ g .N ∷ g .O ∷ []))
-      (graphOf (g .I) (g .N) (g .O) (take (3 * g .N) (g .nodes) ++ drop (3 * g .N) ns) (take (g .O) (g .outs) ++ drop (g .O) os))
+      (graphOf (g .I) (g .N) (g .O) (take (3 * g .N) (g .nodes) ++ drop (3 * g .N) ns) (take (g .O) (g .outputs) ++ drop (g .O) os))
   loads-written =
       let r = written-read in
       sym (load-accepted (fileOf g) ns os (g .I) (g .N) (g .O) _ _ nodes outputs written-number (sym (r .inputs)) (sym (r .nodes)) (sym (r .outputs)) (sym (r .after))
-      (sym after-is) (ap (λ (l : List ℕ). l ++ drop (3 * g .N) ns) (sym nodes-are)) (ap (λ (l : List ℕ). l ++ drop (g .O) os) (sym outs-are)))
+      (sym after-is) (ap (λ (l : List ℕ). l ++ drop (3 * g .N) ns) (sym nodes-are)) (ap (λ (l : List ℕ). l ++ drop (g .O) os) (sym outputs-are)))

@@ -10,14 +10,14 @@ use Rattle.graph.specs.Admission.{admissionNumber}
 use Rattle.graph.specs.Answer.{accepted, refused}
 use Rattle.graph.proofs.Tests.{both, off}
 use Rattle.graph.proofs.Answers.{ifLess-le, first-le, admission-le}
-use Rattle.tagged_file.specs.Write.{big, fieldOf, headField, endField, nodeFieldAt, outFieldAt, run, fileOf, writeNumber, writeOutcome, writeBy, writeCall}
+use Rattle.tagged_file.specs.Write.{big, fieldOf, headField, endField, nodeFieldAt, outputFieldAt, inOrder, fileOf, writeNumber, writeOutcome, writeBy, writeCall}
 use Rattle.tagged_file.proofs.Stores.{front, then}
 use Rattle.tagged_file.proofs.FieldBytes.{length-output-at, end-is}
-use Rattle.tagged_file.proofs.Emitted.{run-step}
+use Rattle.tagged_file.proofs.Emitted.{inOrder-step}
 
-pub length-outputs : (os : List ℕ) (v n : ℕ) → length (run (outFieldAt os) v n) ≡ 7 * n
+pub length-outputs : (os : List ℕ) (v n : ℕ) → length (inOrder (outputFieldAt os) v n) ≡ 7 * n
 length-outputs os v zero = refl
-length-outputs os v (suc n) = omega (arith, length-append (outFieldAt os v) (run (outFieldAt os) (v + 1) n), length-output-at os v, length-outputs os (v + 1) n)
+length-outputs os v (suc n) = omega (arith, length-append (outputFieldAt os v) (inOrder (outputFieldAt os) (v + 1) n), length-output-at os v, length-outputs os (v + 1) n)
 
 length-head : (i n o : ℕ) → length (headField i n o) ≡ 15
 unfolding headField fieldOf big
@@ -28,11 +28,11 @@ unfolding endField fieldOf big
 length-end = refl
 
 -- the file's length, by its parts
-pub length-file : (g : Graph) → length (fileOf g) ≡ 18 + length (run (nodeFieldAt (g .nodes)) 0 (g .N)) + 7 * g .O
+pub length-file : (g : Graph) → length (fileOf g) ≡ 18 + length (inOrder (nodeFieldAt (g .nodes)) 0 (g .N)) + 7 * g .O
 unfolding fileOf
 length-file g =
-    let ns : List ℕ = run (nodeFieldAt (g .nodes)) 0 (g .N) in
-    let os : List ℕ = run (outFieldAt (g .outs)) 0 (g .O) in
+    let ns : List ℕ = inOrder (nodeFieldAt (g .nodes)) 0 (g .N) in
+    let os : List ℕ = inOrder (outputFieldAt (g .outputs)) 0 (g .O) in
     omega (
       arith,
       length-append (headField (g .I) (g .N) (g .O)) (ns ++ (os ++ endField)),
@@ -40,15 +40,15 @@ length-file g =
       length-append os endField,
       length-head (g .I) (g .N) (g .O),
       length-end,
-      length-outputs (g .outs) 0 (g .O),
+      length-outputs (g .outputs) 0 (g .O),
     )
 
 -- one node further on
-pub size-more : (f : ℕ → List ℕ) (n size size′ v left : ℕ) → 0 < left → size + length (run f v left) ≡ n → size′ ≡ size + length (f v)
-    → size′ + length (run f (v + 1) (left - 1)) ≡ n
-size-more f n size size′ v left h e q = omega (arith, ap length (run-step f v left h), length-append (f v) (run f (v + 1) (left - 1)))
+pub size-more : (f : ℕ → List ℕ) (n size size′ v left : ℕ) → 0 < left → size + length (inOrder f v left) ≡ n → size′ ≡ size + length (f v)
+    → size′ + length (inOrder f (v + 1) (left - 1)) ≡ n
+size-more f n size size′ v left h e q = omega (arith, ap length (inOrder-step f v left h), length-append (f v) (inOrder f (v + 1) (left - 1)))
 
-pub size-none : (f : ℕ → List ℕ) (n size v left : ℕ) → left ≤ 0 → size + length (run f v left) ≡ n → size ≡ n
+pub size-none : (f : ℕ → List ℕ) (n size v left : ℕ) → left ≤ 0 → size + length (inOrder f v left) ≡ n → size ≡ n
 size-none f n size v zero h e = omega arith
 size-none f n size v (suc left) h e = absurd (omega arith)
 
@@ -57,19 +57,19 @@ head-is : (i n o : ℕ) → headField i n o ≡ fieldOf 1 (big 4 i ++ (big 4 n +
 unfolding headField
 head-is i n o = refl
 
-in-a-row : (g : Graph) → ((headField (g .I) (g .N) (g .O) ++ run (nodeFieldAt (g .nodes)) 0 (g .N)) ++ run (outFieldAt (g .outs)) 0 (g .O)) ++ endField ≡ fileOf g
+in-a-row : (g : Graph) → ((headField (g .I) (g .N) (g .O) ++ inOrder (nodeFieldAt (g .nodes)) 0 (g .N)) ++ inOrder (outputFieldAt (g .outputs)) 0 (g .O)) ++ endField ≡ fileOf g
 unfolding fileOf
 in-a-row g = simp append-assoc
 
 pub file-stored : (g : Graph) (t t₁ t₂ t₃ t₄ : List ℕ) (middle end : ℕ)
     → t₁ ≡ sets t 0 (fieldOf 1 (big 4 (g .I) ++ (big 4 (g .N) ++ big 4 (g .O))))
-    → t₂ ≡ sets t₁ 15 (run (nodeFieldAt (g .nodes)) 0 (g .N)) → t₃ ≡ sets t₂ middle (run (outFieldAt (g .outs)) 0 (g .O))
-    → t₄ ≡ sets t₃ end (5 ∷ 0 ∷ 0 ∷ []) → middle ≡ 15 + length (run (nodeFieldAt (g .nodes)) 0 (g .N))
-    → end ≡ middle + length (run (outFieldAt (g .outs)) 0 (g .O)) → (end + 3 ≡ length (fileOf g)) × (t₄ ≡ sets t 0 (fileOf g))
+    → t₂ ≡ sets t₁ 15 (inOrder (nodeFieldAt (g .nodes)) 0 (g .N)) → t₃ ≡ sets t₂ middle (inOrder (outputFieldAt (g .outputs)) 0 (g .O))
+    → t₄ ≡ sets t₃ end (5 ∷ 0 ∷ 0 ∷ []) → middle ≡ 15 + length (inOrder (nodeFieldAt (g .nodes)) 0 (g .N))
+    → end ≡ middle + length (inOrder (outputFieldAt (g .outputs)) 0 (g .O)) → (end + 3 ≡ length (fileOf g)) × (t₄ ≡ sets t 0 (fileOf g))
 file-stored g t t₁ t₂ t₃ t₄ middle end e₁ e₂ e₃ e₄ em ee =
     let h : List ℕ = headField (g .I) (g .N) (g .O) in
-    let ns : List ℕ = run (nodeFieldAt (g .nodes)) 0 (g .N) in
-    let os : List ℕ = run (outFieldAt (g .outs)) 0 (g .O) in
+    let ns : List ℕ = inOrder (nodeFieldAt (g .nodes)) 0 (g .N) in
+    let os : List ℕ = inOrder (outputFieldAt (g .outputs)) 0 (g .O) in
     let lh = length-head (g .I) (g .N) (g .O) in
     let ln = length-append h ns in
     let lo = length-append (h ++ ns) os in
@@ -77,7 +77,7 @@ file-stored g t t₁ t₂ t₃ t₄ middle end e₁ e₂ e₃ e₄ em ee =
     let f₂ = then t t₁ t₂ h ns 0 15 f₁ e₂ (omega arith) in
     let f₃ = then t t₂ t₃ (h ++ ns) os 0 middle f₂ e₃ (omega arith) in
     let f₄ = then t t₃ t₄ ((h ++ ns) ++ os) endField 0 end f₃ (rw end-is e₄) (omega arith) in
-    (omega (arith, length-file g, length-outputs (g .outs) 0 (g .O)), f₄ ∙ ap (sets t 0) (in-a-row g))
+    (omega (arith, length-file g, length-outputs (g .outputs) 0 (g .O)), f₄ ∙ ap (sets t 0) (in-a-row g))
 
 -- a refusal's number
 pub write-fault : (k : ℕ) (g : Graph) (room : ℕ) → k ≡ writeNumber g room → (k ≡ 0 → ⊥) → (1 ≤ k) × (k ≤ 9)

@@ -6,7 +6,7 @@ use Rattle.graph.specs.Graph.{Graph, graphOf}
 use Rattle.graph.specs.Answer.{Answer, accepted, refused, numberOf, Outcome, outcome, guarded}
 use Rattle.tagged_file.specs.declared.Loaded.{Loaded}
 use Rattle.tagged_file.specs.declared.Loaded.the-variants as loaded
-use Rattle.file_checks.specs.File.{be4, fileNumber, nodeWords, outWords, afterNodes}
+use Rattle.file_checks.specs.File.{be4, fileNumber, nodeWords, outputWords, afterNodes}
 
 abbrev pub loadedAnswer : Loaded → Answer
 loadedAnswer (loaded.Graph i n o) = accepted (i ∷ n ∷ o ∷ [])
@@ -26,7 +26,7 @@ unfoldable pub graphRead : List ℕ → List ℕ → List ℕ → Graph
 graphRead s ns os =
     graphOf (be4 s 3) (be4 s 7) (be4 s 11)
     (nodeWords (be4 s 7) (drop 15 s) ++ drop (3 * be4 s 7) ns)
-    (outWords (be4 s 11) (afterNodes (be4 s 7) (drop 15 s)) ++ drop (be4 s 11) os)
+    (outputWords (be4 s 11) (afterNodes (be4 s 7) (drop 15 s)) ++ drop (be4 s 11) os)
 
 -- loading the file s into the tables ns and os
 unfoldable pub loadCall : List ℕ → List ℕ → List ℕ → Outcome

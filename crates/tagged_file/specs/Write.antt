@@ -25,8 +25,8 @@ headField i n o = fieldOf 1 (big 4 i ++ (big 4 n ++ big 4 o))
 unfoldable pub nodeField : ℕ → ℕ → ℕ → List ℕ
 nodeField x y z = ifEqual z mark (fieldOf 3 (big 4 x ++ big 4 y)) (fieldOf 2 (big 4 x ++ (big 4 y ++ big 4 z)))
 
-unfoldable pub outField : ℕ → List ℕ
-outField x = fieldOf 4 (big 4 x)
+unfoldable pub outputField : ℕ → List ℕ
+outputField x = fieldOf 4 (big 4 x)
 
 unfoldable pub endField : List ℕ
 endField = fieldOf 5 []
@@ -35,20 +35,20 @@ endField = fieldOf 5 []
 unfoldable pub nodeFieldAt : List ℕ → ℕ → List ℕ
 nodeFieldAt ns v = nodeField (getD ns (3 * v) 0) (getD ns (3 * v + 1) 0) (getD ns (3 * v + 2) 0)
 
-unfoldable pub outFieldAt : List ℕ → ℕ → List ℕ
-outFieldAt os j = outField (getD os j 0)
+unfoldable pub outputFieldAt : List ℕ → ℕ → List ℕ
+outputFieldAt os j = outputField (getD os j 0)
 
 -- f v, f (v + 1) and so on, n of them in a row
-abbrev pub run : (ℕ → List ℕ) → ℕ → ℕ → List ℕ
-run f v zero = []
-run f v (suc n) = f v ++ run f (v + 1) n
+abbrev pub inOrder : (ℕ → List ℕ) → ℕ → ℕ → List ℕ
+inOrder f v zero = []
+inOrder f v (suc n) = f v ++ inOrder f (v + 1) n
 
 -- the file: one 01, N fields of 02 or 03, O of 04, one 05, nothing more
 unfoldable pub fileOf : Graph → List ℕ
 fileOf g =
     headField (g .I) (g .N) (g .O)
-    ++ (run (nodeFieldAt (g .nodes)) 0 (g .N)
-    ++ (run (outFieldAt (g .outs)) 0 (g .O)
+    ++ (inOrder (nodeFieldAt (g .nodes)) 0 (g .N)
+    ++ (inOrder (outputFieldAt (g .outputs)) 0 (g .O)
     ++ endField))
 
 -- 3, 4 and 5, then 9 where the buffer has too little room

@@ -5,7 +5,7 @@ ghost use Prim.Native.Nat.{_+_, _*_, _≤_};
 ghost use lib.ListN.{length};
 ghost use lib.Seq.{sets};
 ghost use Rattle.graph.specs.Graph.{graphOf};
-ghost use Rattle.tagged_file.specs.Write.{big, fieldOf, nodeField, outField, nodeFieldAt, outFieldAt, run, fileOf};
+ghost use Rattle.tagged_file.specs.Write.{big, fieldOf, nodeField, outputField, nodeFieldAt, outputFieldAt, inOrder, fileOf};
 use graph::literal::MARK;
 
 pub fn put_number(buffer: &mut [u8], at: usize, number: u32)
@@ -50,7 +50,7 @@ pub fn put_xor(buffer: &mut [u8], at: usize, x: u32, y: u32)
 
 pub fn put_output(buffer: &mut [u8], at: usize, x: u32)
     requires { ⌜ at + 7 ≤ length (now buffer) ⌝ }
-    ensures { λ _. ⌜ now (buffer .exit) ≡ sets (now (buffer .entry)) at (outField x) ⌝ }
+    ensures { λ _. ⌜ now (buffer .exit) ≡ sets (now (buffer .entry)) at (outputField x) ⌝ }
 {
     put_head(buffer, at, 4, 4);
     put_number(buffer, at + 3, x);
@@ -72,9 +72,9 @@ pub fn put_node(buffer: &mut [u8], at: usize, x: u32, y: u32, z: u32) -> usize
 
 pub fn put_nodes(buffer: &mut [u8], start: usize, nodes: u32, node_table: &[u32]) -> usize
     requires { ⌜ 3 * nodes ≤ length (now «node_table») ⌝ }
-    requires { ⌜ start + length (run (nodeFieldAt (now «node_table»)) 0 nodes) ≤ length (now buffer) ⌝ }
-    ensures { λ r. ⌜ r ≡ start + length (run (nodeFieldAt (now («node_table» .entry))) 0 nodes) ⌝ }
-    ensures { λ _. ⌜ now (buffer .exit) ≡ sets (now (buffer .entry)) start (run (nodeFieldAt (now («node_table» .entry))) 0 nodes) ⌝ }
+    requires { ⌜ start + length (inOrder (nodeFieldAt (now «node_table»)) 0 nodes) ≤ length (now buffer) ⌝ }
+    ensures { λ r. ⌜ r ≡ start + length (inOrder (nodeFieldAt (now («node_table» .entry))) 0 nodes) ⌝ }
+    ensures { λ _. ⌜ now (buffer .exit) ≡ sets (now (buffer .entry)) start (inOrder (nodeFieldAt (now («node_table» .entry))) 0 nodes) ⌝ }
 {
     let mut at = start;
     let mut v = 0;
@@ -96,9 +96,9 @@ pub fn put_nodes(buffer: &mut [u8], start: usize, nodes: u32, node_table: &[u32]
 
 pub fn put_outputs(buffer: &mut [u8], start: usize, outputs: u32, output_table: &[u32]) -> usize
     requires { ⌜ outputs ≤ length (now «output_table») ⌝ }
-    requires { ⌜ start + length (run (outFieldAt (now «output_table»)) 0 outputs) ≤ length (now buffer) ⌝ }
-    ensures { λ r. ⌜ r ≡ start + length (run (outFieldAt (now («output_table» .entry))) 0 outputs) ⌝ }
-    ensures { λ _. ⌜ now (buffer .exit) ≡ sets (now (buffer .entry)) start (run (outFieldAt (now («output_table» .entry))) 0 outputs) ⌝ }
+    requires { ⌜ start + length (inOrder (outputFieldAt (now «output_table»)) 0 outputs) ≤ length (now buffer) ⌝ }
+    ensures { λ r. ⌜ r ≡ start + length (inOrder (outputFieldAt (now («output_table» .entry))) 0 outputs) ⌝ }
+    ensures { λ _. ⌜ now (buffer .exit) ≡ sets (now (buffer .entry)) start (inOrder (outputFieldAt (now («output_table» .entry))) 0 outputs) ⌝ }
 {
     let mut at = start;
     let mut v = 0;

@@ -3,8 +3,8 @@ ghost use mathlib.Core.Path.{_≡_};
 ghost use mathlib.Core.List.{_++_};
 ghost use Prim.Native.Nat.{_*_, _≤_};
 ghost use lib.ListN.{length, drop};
-ghost use Rattle.file_checks.specs.File.{nodeWords, outWords, afterNodes};
-ghost use Rattle.file_checks.specs.Walk.{Nodes, Outs};
+ghost use Rattle.file_checks.specs.File.{nodeWords, outputWords, afterNodes};
+ghost use Rattle.file_checks.specs.Walk.{Nodes, Outputs};
 use file_checks::bytes;
 use file_checks::fields;
 
@@ -30,9 +30,9 @@ pub fn fill_nodes<'a>(rest: &'a [u8], nodes: u32, node_table: &mut [u32]) -> &'a
 }
 
 pub fn fill_outputs(rest: &[u8], outputs: u32, output_table: &mut [u32])
-    requires { ⌜ Outs outputs (now rest) ⌝ }
+    requires { ⌜ Outputs outputs (now rest) ⌝ }
     requires { ⌜ outputs ≤ length (now «output_table») ⌝ }
-    ensures { λ _. ⌜ now («output_table» .exit) ≡ outWords outputs (now (rest .entry)) ++ drop outputs (now («output_table» .entry)) ⌝ }
+    ensures { λ _. ⌜ now («output_table» .exit) ≡ outputWords outputs (now (rest .entry)) ++ drop outputs (now («output_table» .entry)) ⌝ }
 {
     let mut s = rest;
     let mut at = 0;

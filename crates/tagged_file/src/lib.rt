@@ -7,11 +7,10 @@ ghost use Rattle.tagged_file.specs.Load.{loadedAnswer, loadedGraph, load
 ghost use Rattle.tagged_file.specs.Write.{writtenAnswer, writeOutcome, writeCall};
 
 pub mod emit;
+pub mod faults;
 pub mod fill;
-pub mod sizes;
 
 use file_checks::bytes;
-use file_checks::checks;
 use file_checks::fields;
 
 // What loading answers.
@@ -52,9 +51,9 @@ pub fn field(bytes: &[u8]) -> &[u8]
 pub fn load(file: &[u8], node_table: &mut [u32], output_table: &mut [u32]) -> Loaded
     ensures { λ r. ⌜ outcome (loadedAnswer r) (loadedGraph r (now («node_table» .exit)) (now («output_table» .exit))) ≡ loadCall (now (file .entry)) (now («node_table» .entry)) (now («output_table» .entry)) ⌝ }
 {
-    let refusal = checks::file_number(file, node_table.len(), output_table.len());
+    let refusal = file_checks::faults::file_number(file, node_table.len(), output_table.len());
     if refusal != 0 {
-        return Loaded::Refused(graph::checks::refused_by(refusal));
+        return Loaded::Refused(graph::faults::refused_by(refusal));
     }
     let inputs = bytes::four(file, 3);
     let nodes = bytes::four(file, 7);
@@ -79,7 +78,7 @@ pub fn write(
 ) -> Written
     ensures { λ r. ⌜ writeOutcome (writtenAnswer r) (now (buffer .exit)) ≡ writeCall (graphOf inputs nodes outputs (now («node_table» .entry)) (now («output_table» .entry))) (now (buffer .entry)) ⌝ }
 {
-    let number = sizes::write_number(
+    let number = faults::write_number(
         inputs,
         nodes,
         outputs,
@@ -88,7 +87,7 @@ pub fn write(
         buffer.len(),
     );
     if number != 0 {
-        return Written::Refused(graph::checks::refused_by(number));
+        return Written::Refused(graph::faults::refused_by(number));
     }
     Written::Bytes(emit::put_file(inputs, nodes, outputs, node_table, output_table, buffer))
 }

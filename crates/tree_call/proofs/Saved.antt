@@ -9,8 +9,8 @@ use Rattle.graph.specs.Count.{C}
 use Rattle.graph.specs.Answer.{outcome, accepted}
 use Rattle.moves.specs.Call.{rewrite}
 use Rattle.moves.specs.Tree.{isRoot, IsRoot, tree}
-use Rattle.incremental.specs.State.{stands}
-use Rattle.incremental_trees.specs.Stepping.{treeMoved, TreeMade}
+use Rattle.state.specs.State.{stands}
+use Rattle.trees.specs.Stepping.{treeMoved, TreeMade}
 
 -- the root's own number
 pub root-node : (g : Graph) (r v : ℕ) → IsRoot g r → v ≡ r - (g .I + 1) → (v < g .N) × (isRoot g (node g v) ≡ true)

@@ -5,8 +5,8 @@ ghost use Prim.Native.Nat.{ℕ, _+_, _*_, _≤_, _<_};
 ghost use Rattle.graph.specs.Graph.{graphOf};
 ghost use Rattle.graph.specs.Admission.{Admitted};
 ghost use Rattle.moves.specs.Call.{rootFault, scratchFault, treeNumber};
-use graph::checks::admission_number;
-use graph::checks::first_fault;
+use graph::faults::admission_number;
+use graph::faults::first_fault;
 use moves::faults::node_fault;
 use moves::reading::readers_of;
 

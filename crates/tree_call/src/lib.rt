@@ -5,9 +5,9 @@ ghost use Rattle.graph.specs.Graph.{graphOf};
 ghost use Rattle.moves.specs.Call.{savingAnswer, treeCall};
 
 pub mod faults;
-pub mod rewriting;
+pub mod rewrite;
 
-use graph::checks::refused_by;
+use graph::faults::refused_by;
 use moves::Saving;
 
 // The tree call: of all choices of moves for the tree of a root the first with the least C, by falling index.
@@ -35,7 +35,7 @@ pub fn tree_call(
     if number != 0 {
         return Saving::Refused(refused_by(number));
     }
-    Saving::Saved(rewriting::rewrite_tree(
+    Saving::Saved(rewrite::rewrite_tree(
         inputs,
         nodes,
         outputs,

@@ -8,7 +8,7 @@ use tagged_file::Loaded;
 use tagged_file::Written;
 
 pub fn refused(refusal: Refusal) -> bool {
-    print::put_word(graph::checks::number_of(refusal));
+    print::put_word(graph::faults::number_of(refusal));
     true
 }
 

@@ -2,7 +2,7 @@
 use mathlib.Core.Path.{ap, _∙_}
 use Rattle.graph.specs.Answer.{Outcome}
 use Rattle.answers.proofs.Same.{same-told}
-use Rattle.reducer.proofs.Left.{loaded-nodes, loaded-outs}
+use Rattle.reducer.proofs.Left.{loaded-nodes, loaded-outputs}
 use borrow.Author.Needs.{needs}
 use Rattle.reducer.proofs.reducer_load.Statement.{statement}
 use Rattle.reducer.proofs.reducer_load.Tie as tie
@@ -30,7 +30,7 @@ returns c =
       (
         loaded-nodes (l .result) _ _ ∙ ap (λ (o : Outcome). o .graph .nodes) e,
         (
-          loaded-outs (l .result) _ _ ∙ ap (λ (o : Outcome). o .graph .outs) e,
+          loaded-outputs (l .result) _ _ ∙ ap (λ (o : Outcome). o .graph .outputs) e,
           c .before .loaded-told .ensures ∙ same-told _ (ap (λ (o : Outcome). o .answer) e),
         ),
       ),

@@ -5,7 +5,7 @@ use denote.Ref.{now}
 use borrow.Author.Needs.{needs}
 use Rattle.file_checks.proofs.Bounds.{file-fault}
 use Rattle.file_checks.proofs.Checked.{rest}
-use Rattle.tagged_file.proofs.Whole.{passed, nodes-asked, outs-asked, load-refused, load-accepted}
+use Rattle.tagged_file.proofs.Whole.{passed, nodes-asked, outputs-asked, load-refused, load-accepted}
 use Rattle.tagged_file.proofs.load.Statement.{statement}
 use Rattle.tagged_file.proofs.load.Tie as tie
 
@@ -61,7 +61,7 @@ fill-outputs-requires : tie.Need-fill-outputs-requires
 fill-outputs-requires c κs =
     let e = c .before .before .before .before .before .before .before .before .before in
     let p = passed (now (e .before .before .before .before .before .args .file)) _ _ (sym (e .before .file-number .ensures) ∙ e .if1 .left) in
-    outs-asked _ _ _ _ _ _ _ p (c .before .before .before .before .before .before .before .four2 .ensures) (c .before .before .before .before .before .before .four3 .ensures)
+    outputs-asked _ _ _ _ _ _ _ p (c .before .before .before .before .before .before .before .four2 .ensures) (c .before .before .before .before .before .before .four3 .ensures)
     (rest 15 (now (e .before .before .before .before .before .args .file))) (c .before .before .before .fill-nodes .ensures .0)
 
 same-length : tie.Need-same-length

@@ -22,7 +22,7 @@ put-file-requires c κs =
     let g : Graph = graphOf (a .inputs) (a .nodes) (a .outputs) (a .node-table .now) (a .output-table .now) in
     let p = write-passed g _ (sym (c .before .before .write-number .ensures) ∙ c .before .if1 .left) in
     let m = admitted g (p .0) in
-    (m .long-nodes, (m .long-outs, p .1))
+    (m .long-nodes, (m .long-outputs, p .1))
 
 same-length : tie.Need-same-length
 same-length c = search needs

@@ -34,7 +34,7 @@ fill-results-requires c κs =
     let a = s .args in
     let e : length (take (a .nodes) (f .fill-nodes .last .1 .1 .1 .1 .0)) ≡ a .nodes =
     length-take-le (a .nodes) (f .fill-nodes .last .1 .1 .1 .1 .0) (omega (arith, f .fill-nodes .kept .1 .1 .1 .1 .0)) in
-    (s .pre .1, s .pre .0 .long-outs, s .pre .3, rw e (s .pre .0 .out-below))
+    (s .pre .1, s .pre .0 .long-outputs, s .pre .3, rw e (s .pre .0 .output-below))
 
 same-length : tie.Need-same-length
 same-length c = search needs

@@ -4,7 +4,7 @@ use Prim.Native.Nat.{_-_, _≤_}
 use native.Mathlib.Omega.{arith}
 use lib.ListN.{length, length-set}
 use Rattle.graph.proofs.Sweep.{swept, swept-zero}
-use Rattle.evaluation.specs.Inner.{byIndex, outWord}
+use Rattle.evaluation.specs.Inner.{byIndex, outputWordFrom}
 use Rattle.evaluation.proofs.Outputs.{swept-front, swept-next}
 use Rattle.evaluation.proofs.results.fill_results.Statement.{statement}
 use Rattle.evaluation.proofs.results.fill_results.Tie as tie
@@ -12,7 +12,7 @@ use Rattle.evaluation.proofs.results.fill_results.Tie as tie
 abbrev Inv-loop : tie.InvT-loop
 Inv-loop inputs outputs output-table input-words node-words results₀ o₀ o-end results o =
     (o ≤ outputs) × (o-end ≡ outputs) × (length results ≡ length results₀)
-    × (results ≡ swept (outWord (byIndex inputs input-words node-words) output-table) results₀ o)
+    × (results ≡ swept (outputWordFrom (byIndex inputs input-words node-words) output-table) results₀ o)
 
 abbrev μ-loop : tie.MeasureT-loop
 μ-loop inputs outputs output-table input-words node-words results₀ o₀ o-end results o = outputs - o
@@ -20,7 +20,7 @@ abbrev μ-loop : tie.MeasureT-loop
 loop-holds : tie.Need-loop-holds Inv-loop μ-loop
 loop-holds c =
     let a = c .before .before .before .before .args in
-    (omega arith, refl, refl, swept-zero (outWord (byIndex (a .inputs) (a .input-words .now) (a .node-words .now)) (a .output-table .now)) (a .results .now))
+    (omega arith, refl, refl, swept-zero (outputWordFrom (byIndex (a .inputs) (a .input-words .now) (a .node-words .now)) (a .output-table .now)) (a .results .now))
 
 mul-literal-word : tie.Need-mul-literal-word Inv-loop μ-loop
 mul-literal-word c = omega arith
@@ -66,7 +66,7 @@ returns c =
     let l = c .before in
     let a = l .before .before .before .before .before .args in
     let e : l .loop .o ≡ a .outputs = omega arith in
-    rw e at (l .loop .inv .3) ∙ swept-front (outWord (byIndex (a .inputs) (a .input-words .now) (a .node-words .now)) (a .output-table .now)) (a .results .now) (a .outputs) (omega arith)
+    rw e at (l .loop .inv .3) ∙ swept-front (outputWordFrom (byIndex (a .inputs) (a .input-words .now) (a .node-words .now)) (a .output-table .now)) (a .results .now) (a .outputs) (omega arith)
 
 pub fill-results-spec : {M : Type 1} → statement M
 fill-results-spec =

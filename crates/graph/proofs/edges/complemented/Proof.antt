@@ -10,15 +10,15 @@ use Rattle.graph.proofs.edges.complemented.Tie as tie
 nodes-add-requires : tie.Need-nodes-add-requires
 nodes-add-requires c κs = search needs
 
-outs-add-requires : tie.Need-outs-add-requires
-outs-add-requires c κs = search needs
+outputs-add-requires : tie.Need-outputs-add-requires
+outputs-add-requires c κs = search needs
 
 add-result : tie.Need-add-result
 unfolding C
 add-result c =
     let a = c .before .before .before .before .args in
     let g : Graph = graphOf (a .inputs) (a .nodes) (a .outputs) (a .node-table .now) (a .output-table .now) in
-    omega (arith, C-le g, c .before .nodes-add .ensures (a .inputs) (a .outputs) (a .output-table .now), c .outs-add .ensures (a .inputs) (a .nodes) (a .node-table .now))
+    omega (arith, C-le g, c .before .nodes-add .ensures (a .inputs) (a .outputs) (a .output-table .now), c .outputs-add .ensures (a .inputs) (a .nodes) (a .node-table .now))
 
 returns : tie.Need-returns
 unfolding C
@@ -26,8 +26,8 @@ returns c =
     let a = c .before .before .before .before .args in
     let g : Graph = graphOf (a .inputs) (a .nodes) (a .outputs) (a .node-table .now) (a .output-table .now) in
     let x = c .before .nodes-add .ensures (a .inputs) (a .outputs) (a .output-table .now) in
-    let y = c .outs-add .ensures (a .inputs) (a .nodes) (a .node-table .now) in
+    let y = c .outputs-add .ensures (a .inputs) (a .nodes) (a .node-table .now) in
     (omega arith, omega (arith, C-le g))
 
 pub complemented-spec : {M : Type 1} → statement M
-complemented-spec = tie.close (tie.spec nodes-add-requires outs-add-requires add-result returns)
+complemented-spec = tie.close (tie.spec nodes-add-requires outputs-add-requires add-result returns)

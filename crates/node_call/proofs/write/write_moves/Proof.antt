@@ -50,10 +50,10 @@ write-nodes-requires c κs =
     let d = s .pre .0 in
     (bits-of _ _ _ _ (c .before .before .before .before .move-with .ensures), bits-of _ _ _ _ (c .before .move-with2 .ensures), d .few-inputs, d .few-nodes, d .long-nodes)
 
-write-outs-requires : tie.Need-write-outs-requires
-write-outs-requires c κs =
+write-outputs-requires : tie.Need-write-outputs-requires
+write-outputs-requires c κs =
     let s = c .before .before .before .before .before .before .before .before .before .before .before .before .before in
-    (bits-of _ _ _ _ (c .before .before .before .before .before .before .before .before .move-with .ensures), bits-of _ _ _ _ (c .before .before .before .before .before .move-with2 .ensures), s .pre .0 .long-outs)
+    (bits-of _ _ _ _ (c .before .before .before .before .before .before .before .before .move-with .ensures), bits-of _ _ _ _ (c .before .before .before .before .before .move-with2 .ensures), s .pre .0 .long-outputs)
 
 same-length : tie.Need-same-length
 same-length c = search needs
@@ -68,7 +68,7 @@ returns c =
     let g : Graph = graphOf (a .inputs) (a .nodes) (a .outputs) (a .node-table .now) (a .output-table .now) in
     let p = c .before .before .before .before .before .before .before .before .before .before .before .move-with .ensures ∙ ap (λ (x : Bool). moveWith x (a .inputs + 1 + a .p) (a .k)) (c .before .before .before .before .before .before .before .before .before .before .before .before .is-xor .ensures (a .inputs) (a .nodes) (a .outputs) (a .output-table .now)) in
     let v = c .before .before .before .before .before .before .before .before .move-with2 .ensures ∙ ap (λ (x : Bool). moveWith x (a .inputs + 1 + a .v) (a .m)) (c .before .before .before .before .before .before .before .before .before .is-xor2 .ensures (a .inputs) (a .nodes) (a .outputs) (a .output-table .now)) in
-    both-written g (a .p) (a .k) (a .v) (a .m) (s .pre .1) (s .pre .2) _ _ (rw (p, v) at (c .before .before .before .before .before .before .write-nodes .ensures)) (rw (p, v) at (c .before .before .write-outs .ensures))
+    both-written g (a .p) (a .k) (a .v) (a .m) (s .pre .1) (s .pre .2) _ _ (rw (p, v) at (c .before .before .before .before .before .before .write-nodes .ensures)) (rw (p, v) at (c .before .before .write-outputs .ensures))
 
 pub write-moves-spec : {M : Type 1} → statement M
 write-moves-spec =
@@ -83,7 +83,7 @@ write-moves-spec =
     add-move-with-4
     move-with-requires-2
     write-nodes-requires
-    write-outs-requires
+    write-outputs-requires
     same-length
     same-length-2
     returns)

@@ -3,7 +3,7 @@ use native.Mathlib.Omega.{arith}
 use borrow.Author.Needs.{needs}
 use mathlib.Core.Path.{refl}
 use Rattle.report.specs.Text.{outText, line1}
-use Rattle.report.specs.Report.{outLine}
+use Rattle.report.specs.Report.{outputLine}
 use Rattle.report.proofs.Put.{put-as}
 use Rattle.report.proofs.LineLaws.{length-out}
 use Rattle.report.proofs.lines.put_output.Statement.{statement}
@@ -20,11 +20,11 @@ same-length : tie.Need-same-length
 same-length c = search needs
 
 returns : tie.Need-returns
-unfolding outText outLine
+unfolding outText outputLine
 returns c =
     let a = c .before .before .before .before .before .before .args in
     let l = length-out (a .x) (omega arith) in
-    put-as (a .buffer .now) _ (line1 outText (a .x)) (outLine (a .x)) _ _ 15 refl (omega arith) (c .before .before .put-line1 .ensures)
+    put-as (a .buffer .now) _ (line1 outText (a .x)) (outputLine (a .x)) _ _ 15 refl (omega arith) (c .before .before .put-line1 .ensures)
 
 pub put-output-spec : {M : Type 1} → statement M
 put-output-spec = tie.close (tie.spec slice-aggregate-put-line1 put-line1-requires same-length returns)

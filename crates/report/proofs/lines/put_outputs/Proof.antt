@@ -3,13 +3,13 @@ use native.Mathlib.Omega.{arith}
 use mathlib.Core.Path.{refl}
 use Prim.Native.Nat.{_+_, _*_, _≤_}
 use Rattle.tagged_file.proofs.Emitted.{Left, left-more, left-none}
-use Rattle.report.specs.Report.{outLineAt}
+use Rattle.report.specs.Report.{outputLineAt}
 use Rattle.report.proofs.lines.put_outputs.Statement.{statement}
 use Rattle.report.proofs.lines.put_outputs.Tie as tie
 
 abbrev Inv-loop : tie.InvT-loop
 Inv-loop buffer₀ start outputs output-table at₀ v₀ left₀ buffer at v left =
-    Left (outLineAt output-table) outputs start buffer₀ buffer at v left × (at + 15 * left ≤ start + 15 * outputs)
+    Left (outputLineAt output-table) outputs start buffer₀ buffer at v left × (at + 15 * left ≤ start + 15 * outputs)
 
 abbrev μ-loop : tie.MeasureT-loop
 μ-loop buffer₀ start outputs output-table at₀ v₀ left₀ buffer at v left = left
@@ -36,12 +36,12 @@ loop-less : tie.Need-loop-less Inv-loop μ-loop
 loop-less c = omega arith
 
 loop-again : tie.Need-loop-again Inv-loop μ-loop
-unfolding outLineAt
+unfolding outputLineAt
 loop-again c =
     let l = c .before .before .before .before .before .before .loop in
     let a = c .before .before .before .before .before .before .before .before .before .args in
     let p = c .before .before .put-output .ensures in
-    (left-more (outLineAt (a .output-table .now)) _ _ _ (l .buffer) (l .at) (l .v) (l .left) (l .inv .0) (omega arith) _ _ (p .2) (p .0), omega arith)
+    (left-more (outputLineAt (a .output-table .now)) _ _ _ (l .buffer) (l .at) (l .v) (l .left) (l .inv .0) (omega arith) _ _ (p .2) (p .0), omega arith)
 
 same-length : tie.Need-same-length Inv-loop μ-loop
 same-length c = c .before .loop .inv .0 .same
@@ -50,7 +50,7 @@ returns : tie.Need-returns Inv-loop μ-loop
 returns c =
     let l = c .before .loop in
     let a = c .before .before .before .before .args in
-    let e = left-none (outLineAt (a .output-table .now)) _ _ _ (l .buffer) (l .at) (l .v) (l .left) (l .inv .0) (omega arith) in
+    let e = left-none (outputLineAt (a .output-table .now)) _ _ _ (l .buffer) (l .at) (l .v) (l .left) (l .inv .0) (omega arith) in
     (e .0, omega arith, e .1)
 
 pub put-outputs-spec : {M : Type 1} → statement M

@@ -3,8 +3,8 @@ use native.Mathlib.Omega.{arith}
 use borrow.Author.Needs.{needs}
 use mathlib.Core.List.{List, _++_}
 use Prim.Native.Nat.{ℕ}
-use Rattle.tagged_file.specs.Write.{run}
-use Rattle.report.specs.Report.{sizesLine, countsLine, nodeLineAt, outLineAt, settledText}
+use Rattle.tagged_file.specs.Write.{inOrder}
+use Rattle.report.specs.Report.{sizesLine, countsLine, nodeLineAt, outputLineAt, settledText}
 use Rattle.report.proofs.Put.{three-parts}
 use Rattle.report.proofs.lines.put_settled.Statement.{statement}
 use Rattle.report.proofs.lines.put_settled.Tie as tie
@@ -26,8 +26,8 @@ unfolding settledText
 returns c =
     let a = c .before .before .before .before .before .before .before .before .before .before .before .before .before .before .before .args in
     let h : List ℕ = sizesLine (a .inputs) (a .nodes) (a .outputs) ++ countsLine (a .before) (a .after) (a .rounds) in
-    let ns : List ℕ = run (nodeLineAt (a .inputs) (a .node-table .now)) 0 (a .nodes) in
-    let os : List ℕ = run (outLineAt (a .output-table .now)) 0 (a .outputs) in
+    let ns : List ℕ = inOrder (nodeLineAt (a .inputs) (a .node-table .now)) 0 (a .nodes) in
+    let os : List ℕ = inOrder (outputLineAt (a .output-table .now)) 0 (a .outputs) in
     let p = c .before .before .before .before .before .before .before .before .before .before .put-head .ensures in
     let q = c .before .before .before .before .before .before .put-nodes .ensures in
     let u = c .before .before .put-outputs .ensures in

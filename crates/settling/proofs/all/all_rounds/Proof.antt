@@ -5,8 +5,8 @@ use native.Mathlib.Omega.{arith}
 use lib.ListN.{length}
 use Rattle.graph.specs.Graph.{Graph, graphOf}
 use Rattle.graph.proofs.Adds.{C-le}
-use Rattle.incremental.specs.State.{stands}
-use Rattle.incremental.proofs.Stands.{stands-admitted}
+use Rattle.state.specs.State.{stands}
+use Rattle.state.proofs.Stands.{stands-admitted}
 use Rattle.settling.proofs.Repeating.{Going, count-few, going-first, going-last, going-few, going-more}
 use Rattle.settling.proofs.all.all_rounds.Statement.{statement}
 use Rattle.settling.proofs.all.all_rounds.Tie as tie

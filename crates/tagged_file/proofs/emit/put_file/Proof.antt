@@ -22,19 +22,19 @@ put-outputs-requires : tie.Need-put-outputs-requires
 put-outputs-requires c κs =
     let a = c .before .before .before .before .before .before .before .before .before .before .before .before .args in
     let g : Graph = graphOf (a .inputs) (a .nodes) (a .outputs) (a .node-table .now) (a .output-table .now) in
-    (c .before .before .before .before .before .before .before .before .before .before .before .before .pre .1 .0, omega (arith, length-file g, length-outputs (g .outs) 0 (g .O)))
+    (c .before .before .before .before .before .before .before .before .before .before .before .before .pre .1 .0, omega (arith, length-file g, length-outputs (g .outputs) 0 (g .O)))
 
 put-head-requires : tie.Need-put-head-requires
 put-head-requires c κs =
     let a = c .before .before .before .before .before .before .before .before .before .before .before .before .before .before .before .before .args in
     let g : Graph = graphOf (a .inputs) (a .nodes) (a .outputs) (a .node-table .now) (a .output-table .now) in
-    omega (arith, length-file g, length-outputs (g .outs) 0 (g .O))
+    omega (arith, length-file g, length-outputs (g .outputs) 0 (g .O))
 
 add-result : tie.Need-add-result
 add-result c =
     let a = c .before .before .before .before .before .before .before .before .before .before .before .before .before .before .before .before .before .before .before .args in
     let g : Graph = graphOf (a .inputs) (a .nodes) (a .outputs) (a .node-table .now) (a .output-table .now) in
-    omega (arith, length-file g, length-outputs (g .outs) 0 (g .O))
+    omega (arith, length-file g, length-outputs (g .outputs) 0 (g .O))
 
 same-length : tie.Need-same-length
 same-length c = search needs

@@ -2,13 +2,13 @@
 use native.Mathlib.Omega.{arith}
 use mathlib.Core.Path.{refl}
 use Rattle.tagged_file.proofs.Emitted.{Left, left-room, left-more, left-none}
-use Rattle.tagged_file.specs.Write.{outFieldAt}
+use Rattle.tagged_file.specs.Write.{outputFieldAt}
 use Rattle.tagged_file.proofs.FieldBytes.{length-output-at}
 use Rattle.tagged_file.proofs.emit.put_outputs.Statement.{statement}
 use Rattle.tagged_file.proofs.emit.put_outputs.Tie as tie
 
 abbrev Inv-loop : tie.InvT-loop
-Inv-loop buffer₀ start outputs output-table at₀ v₀ left₀ buffer at v left = Left (outFieldAt output-table) outputs start buffer₀ buffer at v left
+Inv-loop buffer₀ start outputs output-table at₀ v₀ left₀ buffer at v left = Left (outputFieldAt output-table) outputs start buffer₀ buffer at v left
 
 abbrev μ-loop : tie.MeasureT-loop
 μ-loop buffer₀ start outputs output-table at₀ v₀ left₀ buffer at v left = left
@@ -23,7 +23,7 @@ shared-slice-read-put-output : tie.Need-shared-slice-read-put-output Inv-loop μ
 shared-slice-read-put-output c = omega arith
 
 put-output-requires : tie.Need-put-output-requires Inv-loop μ-loop
-unfolding outFieldAt
+unfolding outputFieldAt
 put-output-requires c κs = let l = c .before .before .before .loop in let r = left-room _ _ _ _ (l .buffer) (l .at) (l .v) (l .left) (l .inv) (omega arith) (c .before .before .before .before .before .before .pre .1) in omega (arith, length-output-at (c .before .before .before .before .before .before .args .output-table .now) (l .v))
 
 add-at : tie.Need-add-at Inv-loop μ-loop
@@ -39,7 +39,7 @@ loop-less : tie.Need-loop-less Inv-loop μ-loop
 loop-less c = omega arith
 
 loop-again : tie.Need-loop-again Inv-loop μ-loop
-unfolding outFieldAt
+unfolding outputFieldAt
 loop-again c = let l = c .before .before .before .before .before .before .loop in left-more _ _ _ _ (l .buffer) (l .at) (l .v) (l .left) (l .inv) (omega arith) _ _ (c .before .before .put-output .ensures) (omega (arith, length-output-at (c .before .before .before .before .before .before .before .before .before .args .output-table .now) (l .v)))
 
 same-length : tie.Need-same-length Inv-loop μ-loop

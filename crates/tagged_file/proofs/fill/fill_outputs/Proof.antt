@@ -3,21 +3,21 @@ use native.Mathlib.Omega.{arith}
 use mathlib.Core.Path.{refl}
 use denote.Ref.{now}
 use Rattle.file_checks.proofs.Checked.{rest}
-use Rattle.tagged_file.proofs.Filled.{OutsLeft, outs-left-room, outs-left-more, outs-left-none}
+use Rattle.tagged_file.proofs.Filled.{OutputsLeft, outputs-left-room, outputs-left-more, outputs-left-none}
 use Rattle.tagged_file.proofs.fill.fill_outputs.Statement.{statement}
 use Rattle.tagged_file.proofs.fill.fill_outputs.Tie as tie
 
 abbrev Inv-loop : tie.InvT-loop
-Inv-loop bytes o outs₀ s₀ at₀ left₀ outs s at left = OutsLeft o bytes outs₀ outs s at left
+Inv-loop bytes o outputs₀ s₀ at₀ left₀ outputs s at left = OutputsLeft o bytes outputs₀ outputs s at left
 
 abbrev μ-loop : tie.MeasureT-loop
-μ-loop bytes o outs₀ s₀ at₀ left₀ outs s at left = left
+μ-loop bytes o outputs₀ s₀ at₀ left₀ outputs s at left = left
 
 loop-holds : tie.Need-loop-holds Inv-loop μ-loop
 loop-holds c = record { room = c .before .before .pre .0; fits = omega arith; same = refl; words = refl }
 
 four-requires : tie.Need-four-requires Inv-loop μ-loop
-four-requires c κs = let l = c .before .loop in omega (arith, outs-left-room _ _ _ (l .output-table) (now (l .s)) (l .at) (l .left) (omega arith) (l .inv))
+four-requires c κs = let l = c .before .loop in omega (arith, outputs-left-room _ _ _ (l .output-table) (now (l .s)) (l .at) (l .left) (omega arith) (l .inv))
 
 mul-output-table : tie.Need-mul-output-table Inv-loop μ-loop
 mul-output-table c = omega arith
@@ -26,10 +26,10 @@ slice-write-output-table : tie.Need-slice-write-output-table Inv-loop μ-loop
 slice-write-output-table c = omega arith
 
 sub-s : tie.Need-sub-s Inv-loop μ-loop
-sub-s c = let l = c .before .before .loop in omega (arith, outs-left-room _ _ _ (l .output-table) (now (l .s)) (l .at) (l .left) (omega arith) (l .inv))
+sub-s c = let l = c .before .before .loop in omega (arith, outputs-left-room _ _ _ (l .output-table) (now (l .s)) (l .at) (l .left) (omega arith) (l .inv))
 
 part-s-start : tie.Need-part-s-start Inv-loop μ-loop
-part-s-start c = let l = c .before .before .loop in omega (arith, outs-left-room _ _ _ (l .output-table) (now (l .s)) (l .at) (l .left) (omega arith) (l .inv))
+part-s-start c = let l = c .before .before .loop in omega (arith, outputs-left-room _ _ _ (l .output-table) (now (l .s)) (l .at) (l .left) (omega arith) (l .inv))
 
 part-s-end : tie.Need-part-s-end Inv-loop μ-loop
 part-s-end c = omega arith
@@ -44,13 +44,13 @@ loop-less : tie.Need-loop-less Inv-loop μ-loop
 loop-less c = omega arith
 
 loop-again : tie.Need-loop-again Inv-loop μ-loop
-loop-again c = let l = c .before .before .before .loop in outs-left-more _ _ _ (l .output-table) (now (l .s)) (l .at) (l .left) (omega arith) (l .inv) _ _ (rest 7 (now (l .s))) (c .before .four .ensures)
+loop-again c = let l = c .before .before .before .loop in outputs-left-more _ _ _ (l .output-table) (now (l .s)) (l .at) (l .left) (omega arith) (l .inv) _ _ (rest 7 (now (l .s))) (c .before .four .ensures)
 
 same-length : tie.Need-same-length Inv-loop μ-loop
 same-length c = c .before .loop .inv .same
 
 returns : tie.Need-returns Inv-loop μ-loop
-returns c = let l = c .before .loop in outs-left-none _ _ _ (l .output-table) (now (l .s)) (l .at) (l .left) (omega arith) (c .before .before .before .before .pre .1) (l .inv)
+returns c = let l = c .before .loop in outputs-left-none _ _ _ (l .output-table) (now (l .s)) (l .at) (l .left) (omega arith) (c .before .before .before .before .pre .1) (l .inv)
 
 pub fill-outputs-spec : {M : Type 1} → statement M
 fill-outputs-spec =

@@ -1,0 +1,22 @@
+-- `values::literal_word` meets its contract: the word of its index, turned. From the laws on words by index.
+use Rattle.evaluation.specs.Inner.{byIndex}
+use Rattle.evaluation.proofs.Index.{literal-is}
+use borrow.Author.Needs.{needs}
+use Rattle.evaluation.proofs.values.literal_word.Statement.{statement}
+use Rattle.evaluation.proofs.values.literal_word.Tie as tie
+
+index-word-requires : tie.Need-index-word-requires
+index-word-requires c κs = search needs
+
+turned-requires : tie.Need-turned-requires
+turned-requires c κs = search needs
+
+returns : tie.Need-returns
+returns c =
+    let i = c .before in
+    let a = i .before .before .before .args in
+    literal-is (byIndex (a .inputs) (a .input-words .now) (a .node-words .now)) (a .literal) (i .index-word .result) (c .turned .result)
+    (i .index-word .ensures) (c .turned .ensures)
+
+pub literal-word-spec : {M : Type 1} → statement M
+literal-word-spec = tie.close (tie.spec index-word-requires turned-requires returns)

@@ -1,0 +1,45 @@
+ghost use mathlib.Core.Path.{_≡_};
+ghost use Rattle.graph.specs.Finite.{ifLess};
+ghost use Rattle.graph.specs.Graph.{graphOf};
+ghost use Rattle.evaluation.specs.Evaluation.{evaluateNumber};
+use graph::faults::first_fault;
+
+// The number that refuses an evaluation, by the lengths of the input words, scratch and results; 0 is none.
+pub fn evaluate_number(
+    inputs: u32,
+    nodes: u32,
+    outputs: u32,
+    node_table: &[u32],
+    output_table: &[u32],
+    words: usize,
+    scratch: usize,
+    results: usize,
+) -> u32
+    ensures { λ r. ⌜ r ≡ evaluateNumber (graphOf inputs nodes outputs (now («node_table» .entry)) (now («output_table» .entry))) words scratch results ⌝ }
+{
+    let limit = graph::faults::limit_number(inputs, nodes, outputs);
+    if limit != 0 {
+        return limit;
+    }
+    let table = graph::faults::table_number(inputs, nodes, outputs, node_table, output_table);
+    if table != 0 {
+        return table;
+    }
+    if words < inputs as usize {
+        return 4;
+    }
+    if results < outputs as usize {
+        return 4;
+    }
+    let literal = graph::faults::literal_number(inputs, nodes, outputs, node_table, output_table);
+    first_fault(literal, scratch_number(nodes, scratch))
+}
+
+fn scratch_number(nodes: u32, scratch: usize) -> u32
+    ensures { λ r. ⌜ r ≡ ifLess scratch nodes 8 0 ⌝ }
+{
+    if scratch < nodes as usize {
+        return 8;
+    }
+    0
+}

@@ -1,0 +1,31 @@
+-- `output_number` tests what `outputFieldNumber` does, in its order. From the laws on tests.
+use native.Mathlib.Omega.{arith}
+use Rattle.file_checks.specs.File.{outputFieldNumber}
+use Rattle.file_checks.proofs.Checked.{out-room}
+use Rattle.graph.proofs.Tests.{less, no-less, fault, none}
+use mathlib.Core.Path.{refl}
+use denote.Ref.{now}
+use borrow.Author.Needs.{needs}
+use Rattle.file_checks.proofs.faults.output_number.Statement.{statement}
+use Rattle.file_checks.proofs.faults.output_number.Tie as tie
+
+due-requires : tie.Need-due-requires
+due-requires c κs = search needs
+
+returns : tie.Need-returns
+unfolding outputFieldNumber
+returns c = fault _ _ (omega arith) (λ e. omega arith)
+
+four-requires : tie.Need-four-requires
+four-requires c κs = omega (arith, out-room (now (c .before .before .before .args .s)) (omega arith))
+
+returns-2 : tie.Need-returns-2
+unfolding outputFieldNumber
+returns-2 c = none _ _ (omega arith) (no-less _ _ _ _ (omega arith) (refl))
+
+returns-3 : tie.Need-returns-3
+unfolding outputFieldNumber
+returns-3 c = none _ _ (omega arith) (less _ _ _ _ (omega arith) (refl))
+
+pub output-number-spec : {M : Type 1} → statement M
+output-number-spec = tie.close (tie.spec due-requires returns four-requires returns-2 returns-3)

@@ -1,0 +1,37 @@
+-- `literal_number` meets its contract: the node table's first fault, else the output table's. From its callees' contracts.
+use mathlib.Core.Path.{sym, _∙_}
+use Rattle.graph.specs.Admission.{literalNumber}
+use Rattle.graph.proofs.Tests.{fault, none}
+use Rattle.graph.proofs.Admit.{limits-are, tables-are}
+use Rattle.graph.proofs.faults.literal_number.Statement.{statement}
+use Rattle.graph.proofs.faults.literal_number.Tie as tie
+
+nodes-number-requires : tie.Need-nodes-number-requires
+nodes-number-requires c κs =
+    let s = c .before .before in
+    let l = limits-are _ (s .pre .0) in
+    (l .0, l .1, tables-are _ (s .pre .1) .0)
+
+returns : tie.Need-returns
+unfolding literalNumber
+returns c =
+    let a = c .before .before .before .before .args in
+    let e = c .before .nodes-number .ensures (a .outputs) (a .output-table .now) in
+    fault _ _ e (λ z. c .if1 .taken (e ∙ z))
+
+outputs-number-requires : tie.Need-outputs-number-requires
+outputs-number-requires c κs =
+    let s = c .before .before .before .before in
+    let l = limits-are _ (s .pre .0) in
+    (l .0, l .1, tables-are _ (s .pre .1) .1)
+
+returns-2 : tie.Need-returns-2
+unfolding literalNumber
+returns-2 c =
+    let a = c .before .before .before .before .before .args in
+    let e = c .before .before .nodes-number .ensures (a .outputs) (a .output-table .now) in
+    none _ _ (sym e ∙ c .before .if1 .left) (c .outputs-number .ensures (a .node-table .now))
+
+pub literal-number-spec : {M : Type 1} → statement M
+literal-number-spec =
+    tie.close (tie.spec nodes-number-requires returns outputs-number-requires returns-2)

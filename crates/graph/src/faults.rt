@@ -1,0 +1,191 @@
+// Which of document 01's numbers 3, 4 and 5 refuses a graph, 0 being none; the refusal of each number, and its number.
+ghost use mathlib.Core.Path.{_≡_};
+ghost use mathlib.Core.List.{List};
+ghost use Prim.Native.Nat.{ℕ, _*_, _/_, _≤_};
+ghost use lib.ListN.{length};
+ghost use Rattle.graph.specs.Finite.{first, firstOf, ifLess, ifEqual};
+ghost use Rattle.graph.specs.Graph.{graphOf, mark};
+ghost use Rattle.graph.specs.Admission.{limitNumber, tableNumber, wordNumber, outputNumber, literalNumber, admissionNumber};
+ghost use Rattle.graph.specs.Answer.{numberOf};
+use crate::Refusal;
+use crate::literal::MARK;
+
+pub fn limit_number(inputs: u32, nodes: u32, outputs: u32) -> u32
+    ensures { λ r. ⌜ ((ns os : List ℕ) → r ≡ limitNumber (graphOf inputs nodes outputs ns os)) ⌝ }
+{
+    if 4096 < inputs {
+        return 3;
+    }
+    if 100000 < nodes {
+        return 3;
+    }
+    if 4096 < outputs {
+        return 3;
+    }
+    0
+}
+
+pub fn table_number(
+    inputs: u32,
+    nodes: u32,
+    outputs: u32,
+    node_table: &[u32],
+    output_table: &[u32],
+) -> u32
+    requires { ⌜ nodes ≤ 100000 ⌝ }
+    ensures { λ r. ⌜ r ≡ tableNumber (graphOf inputs nodes outputs (now («node_table» .entry)) (now («output_table» .entry))) ⌝ }
+{
+    if node_table.len() < 3 * nodes as usize {
+        return 4;
+    }
+    if output_table.len() < outputs as usize {
+        return 4;
+    }
+    0
+}
+
+// A literal has to name an index below `end`.
+pub fn below_number(end: u32, x: u32) -> u32
+    ensures { λ r. ⌜ r ≡ ifLess (x / 2) end 0 5 ⌝ }
+{
+    if x / 2 < end {
+        return 0;
+    }
+    5
+}
+
+// The three words of the node that has this index.
+pub fn node_number(index: u32, x: u32, y: u32, z: u32) -> u32
+    ensures { λ r. ⌜ r ≡ first (ifLess (x / 2) index 0 5) (first (ifLess (y / 2) index 0 5) (ifEqual z mark 0 (ifLess (z / 2) index 0 5))) ⌝ }
+{
+    let a = below_number(index, x);
+    if a != 0 {
+        return a;
+    }
+    let b = below_number(index, y);
+    if b != 0 {
+        return b;
+    }
+    if z == MARK {
+        return 0;
+    }
+    below_number(index, z)
+}
+
+pub fn nodes_number(inputs: u32, nodes: u32, node_table: &[u32]) -> u32
+    requires { ⌜ (inputs ≤ 4096) × (nodes ≤ 100000) × (3 * nodes ≤ length (now «node_table»)) ⌝ }
+    ensures { λ r. ⌜ ((o : ℕ) (os : List ℕ) → r ≡ firstOf (3 * nodes) (wordNumber (graphOf inputs nodes o (now («node_table» .entry)) os))) ⌝ }
+{
+    let mut v: u32 = 0;
+    while v < nodes {
+        let at = 3 * v as usize;
+        let k = node_number(
+            inputs + 1 + v,
+            node_table[at],
+            node_table[at + 1],
+            node_table[at + 2],
+        );
+        if k != 0 {
+            return k;
+        }
+        v += 1;
+    }
+    0
+}
+
+pub fn outputs_number(inputs: u32, nodes: u32, outputs: u32, output_table: &[u32]) -> u32
+    requires { ⌜ (inputs ≤ 4096) × (nodes ≤ 100000) × (outputs ≤ length (now «output_table»)) ⌝ }
+    ensures { λ r. ⌜ ((ns : List ℕ) → r ≡ firstOf outputs (outputNumber (graphOf inputs nodes outputs ns (now («output_table» .entry))))) ⌝ }
+{
+    let end = inputs + 1 + nodes;
+    let mut j: usize = 0;
+    while j < outputs as usize {
+        let k = below_number(end, output_table[j]);
+        if k != 0 {
+            return k;
+        }
+        j += 1;
+    }
+    0
+}
+
+pub fn literal_number(
+    inputs: u32,
+    nodes: u32,
+    outputs: u32,
+    node_table: &[u32],
+    output_table: &[u32],
+) -> u32
+    requires { ⌜ (limitNumber (graphOf inputs nodes outputs (now «node_table») (now «output_table»)) ≡ 0) × (tableNumber (graphOf inputs nodes outputs (now «node_table») (now «output_table»)) ≡ 0) ⌝ }
+    ensures { λ r. ⌜ r ≡ literalNumber (graphOf inputs nodes outputs (now («node_table» .entry)) (now («output_table» .entry))) ⌝ }
+{
+    let k = nodes_number(inputs, nodes, node_table);
+    if k != 0 {
+        return k;
+    }
+    outputs_number(inputs, nodes, outputs, output_table)
+}
+
+pub fn admission_number(
+    inputs: u32,
+    nodes: u32,
+    outputs: u32,
+    node_table: &[u32],
+    output_table: &[u32],
+) -> u32
+    ensures { λ r. ⌜ r ≡ admissionNumber (graphOf inputs nodes outputs (now («node_table» .entry)) (now («output_table» .entry))) ⌝ }
+{
+    let limit = limit_number(inputs, nodes, outputs);
+    if limit != 0 {
+        return limit;
+    }
+    let table = table_number(inputs, nodes, outputs, node_table, output_table);
+    if table != 0 {
+        return table;
+    }
+    literal_number(inputs, nodes, outputs, node_table, output_table)
+}
+
+// The first of two faults; 0 is none.
+pub fn first_fault(a: u32, b: u32) -> u32
+    ensures { λ r. ⌜ r ≡ first a b ⌝ }
+{
+    if a != 0 {
+        return a;
+    }
+    b
+}
+
+// The refusal of a number that is not 0.
+pub fn refused_by(number: u32) -> Refusal
+    requires { ⌜ (1 ≤ number) × (number ≤ 9) ⌝ }
+    ensures { λ r. ⌜ numberOf r ≡ number ⌝ }
+{
+    match number {
+        1 => Refusal::MissingBytes,
+        2 => Refusal::WrongField,
+        3 => Refusal::OverLimit,
+        4 => Refusal::ShortSlice,
+        5 => Refusal::BadLiteral,
+        6 => Refusal::ExtraBytes,
+        7 => Refusal::NoSuchNode,
+        8 => Refusal::ShortScratch,
+        _ => Refusal::ShortBuffer,
+    }
+}
+
+pub fn number_of(refusal: Refusal) -> u32
+    ensures { λ r. ⌜ r ≡ numberOf refusal ⌝ }
+{
+    match refusal {
+        Refusal::MissingBytes => 1,
+        Refusal::WrongField => 2,
+        Refusal::OverLimit => 3,
+        Refusal::ShortSlice => 4,
+        Refusal::BadLiteral => 5,
+        Refusal::ExtraBytes => 6,
+        Refusal::NoSuchNode => 7,
+        Refusal::ShortScratch => 8,
+        Refusal::ShortBuffer => 9,
+    }
+}

@@ -1,4 +1,0 @@
-pub mod moving;
-pub mod state;
-pub mod turning;
-pub mod writing;

@@ -1,7 +1,0 @@
-pub mod costs;
-pub mod deciding;
-pub mod fields;
-pub mod fill;
-pub mod links;
-pub mod start;
-pub mod trees;

@@ -1,0 +1,25 @@
+// Which of document 01's numbers 3, 4, 5 and 8 refuses a settling; 0 is none.
+ghost use mathlib.Core.Path.{_≡_};
+ghost use Prim.Native.Nat.{_≤_};
+ghost use Rattle.graph.specs.Graph.{graphOf};
+ghost use Rattle.settling.specs.Settle.{settleNumber};
+
+pub fn settle_number(
+    inputs: u32,
+    nodes: u32,
+    outputs: u32,
+    node_table: &[u32],
+    output_table: &[u32],
+    words: usize,
+) -> u32
+    ensures { λ r. ⌜ (r ≡ settleNumber (graphOf inputs nodes outputs (now («node_table» .entry)) (now («output_table» .entry))) words) × (r ≤ 9) ⌝ }
+{
+    let k = graph::faults::admission_number(inputs, nodes, outputs, node_table, output_table);
+    if k != 0 {
+        return k;
+    }
+    if words < 8 * nodes as usize {
+        return 8;
+    }
+    0
+}

@@ -1,0 +1,216 @@
+-- Two moves at different nodes, made one after the other, are the pair's choice made at once; and the first least pair by both
+-- nodes' numbers is the best of the pair. From the law of composition and the pair's decision.
+use mathlib.Core.Path.{_≡_, refl, sym, ap, _∙_, subst, fun-ext}
+use mathlib.Core.Bool.{Bool, true, false, cond, _&&_, and-false}
+use mathlib.Core.List.{List, [], _∷_}
+use mathlib.Core.Logic.{⊎-elim, _≢_}
+use Prim.Native.Nat.{ℕ, _+_, _-_, _*_, _/_, _%_, _≤_, _<_}
+use native.Mathlib.Omega.{arith}
+use borrow.Author.Tests.{lt-ltb, le-ltb, leb-true, ne-eqb}
+use lib.Dec.{leb}
+use Rattle.graph.specs.Admission.{Admitted}
+use Rattle.graph.specs.Count.{C}
+use Rattle.graph.specs.Graph.{Graph, node, word, isEdge, isXor}
+use Rattle.graph.proofs.Cases.{lt-or-le, eq-or-ne, true-or-false}
+use Rattle.moves.specs.Apply.{Choice, none, at, put, turns, outputTurns, apply, compose, Permitted}
+use Rattle.moves.specs.Call.{moved, bestAt, isNode, namedBy, pairRewrite, wordFault}
+use Rattle.moves.specs.Decide.{numbersOf, naming, pairCost, FirstPair}
+use Rattle.moves.specs.Rows.{arity, combined}
+use Rattle.moves.specs.declared.decide.NodeNumbers.{NodeNumbers}
+use Rattle.moves.proofs.Apply as applied
+use Rattle.moves.proofs.Changed.{at-same, at-other}
+use Rattle.moves.proofs.Compose.{apply-apply}
+use Rattle.moves.proofs.Kept.{rewrite-graph}
+use Rattle.moves.proofs.NodeBest.{pair-best}
+use Rattle.moves.proofs.Readers.{both-true}
+use Rattle.moves.proofs.TreeBest.{arity-pos}
+use Rattle.state.specs.State.{stands, Ordered}
+use Rattle.state.specs.Step.{Made}
+use Rattle.state.proofs.Alike.{Alike, alike-xor, alike-isNode}
+use Rattle.state.proofs.Turned.{apply-alike}
+use Rattle.state.proofs.Stands.{stands-alike, stands-admitted}
+use Rattle.state.proofs.Stores.{kept-same, kept-then}
+use Rattle.state.proofs.Made.{became-alike}
+use Rattle.state.proofs.Counting.{kind-now, node-now, within-now}
+
+combined-left : (x : Bool) (m : ℕ) → m < arity x → combined x m 0 ≡ m
+unfolding combined arity
+combined-left true m h = omega arith
+combined-left false m h = omega arith
+
+combined-right : (x : Bool) (m : ℕ) → m < arity x → combined x 0 m ≡ m
+unfolding combined arity
+combined-right true m h = omega arith
+combined-right false m h = omega arith
+
+combined-none : (x : Bool) → combined x 0 0 ≡ 0
+combined-none x = combined-left x 0 (arity-pos x)
+
+module _ (h : Graph) where
+  permitted-at : (v m : ℕ) → m < arity (isXor h v) → Permitted h (at none (node h v) m)
+  permitted-at v m l w i =
+      ⊎-elim
+      (λ (e : w ≡ v). rw (e, at-same none (node h v) m) l)
+      (λ (e : w ≢ v). rw (at-other none (node h v) m (node h w) (λ z. e (omega arith))) (arity-pos _))
+      (eq-or-ne w v)
+
+  module _ (adm : Admitted h) (p v a k : ℕ) (d : p ≢ v) (pa : a < arity (isXor h p)) (pk : k < arity (isXor h v)) where
+    kind-of : (w : ℕ) → isXor h (node h w - (h .I + 1)) ≡ isXor h w
+    kind-of w = let e : node h w - (h .I + 1) ≡ w = omega arith in rw e
+
+    both : (u : ℕ) → compose h (at none (node h p) a) (at none (node h v) k) u ≡ at (at none (node h p) a) (node h v) k u
+    unfolding compose
+    both u =
+        ⊎-elim
+        (λ (e : u ≡ node h v).
+        rw (e, at-same none (node h v) k, at-same (at none (node h p) a) (node h v) k, at-other none (node h p) a (node h v) (λ z. d (omega arith)), kind-of v)
+        (combined-right (isXor h v) k pk))
+        (λ (e : u ≢ node h v).
+        rw (at-other none (node h v) k u e, at-other (at none (node h p) a) (node h v) k u e)
+        (⊎-elim
+        (λ (q : u ≡ node h p). rw (q, at-same none (node h p) a, kind-of p) (combined-left (isXor h p) a pa))
+        (λ (q : u ≢ node h p). rw (at-other none (node h p) a u q) (combined-none (isXor h (u - (h .I + 1)))))
+        (eq-or-ne u (node h p))))
+        (eq-or-ne u (node h v))
+
+    pub pair-apply : apply (apply h (at none (node h p) a)) (at none (node h v) k) ≡ apply h (at (at none (node h p) a) (node h v) k)
+    pair-apply = apply-apply h (at none (node h p) a) (at none (node h v) k) (permitted-at p a pa) (permitted-at v k pk) adm ∙ ap (apply h) (fun-ext both)
+
+module _ (g : Graph) (sc : List ℕ) (o : Ordered g sc) (p v : ℕ) (d : p < v) (l : v < g .N) where
+  abbrev h : Graph
+  h = stands g sc
+
+  abbrev pair : List ℕ
+  pair = node g p ∷ node g v ∷ []
+
+  naming-now : naming h v (node h p) ≡ naming g v (node g p)
+  unfolding naming
+  naming-now =
+      let a = stands-alike g sc (o .admitted) in
+      rw (a .wired (3 * v + 0), a .wired (3 * v + 1), a .wired (3 * v + 2), node-now g sc o p (omega arith))
+
+  -- the decision
+  module _ (n m : NodeNumbers) (w : List ℕ) (en : n ≡ numbersOf h p) (em : m ≡ numbersOf h v) (ew : w ≡ naming g v (node g p)) (a k : ℕ)
+      (f : FirstPair (pairCost n m w) (arity (n .xor)) (arity (m .xor)) a k) where
+    pub pair-fits : (a < arity (isXor g p)) × (k < arity (isXor g v))
+    pair-fits = omega (arith, f .below, f .fits, ap arity (kind-now g sc o p (omega arith) n en), ap arity (kind-now g sc o v l m em))
+
+    first-now : FirstPair (pairCost (numbersOf h p) (numbersOf h v) (naming h v (node h p))) (arity (isXor h p)) (arity (isXor h v)) a k
+    unfolding numbersOf
+    first-now = subst (λ x. FirstPair (pairCost (numbersOf h p) (numbersOf h v) x) (arity (isXor h p)) (arity (isXor h v)) a k) (ew ∙ sym naming-now) (subst (λ x. FirstPair (pairCost x (numbersOf h v) w) (arity (x .xor)) (arity (isXor h v)) a k) en (subst (λ x. FirstPair (pairCost n x w) (arity (n .xor)) (arity (x .xor)) a k) em f))
+
+    pub best-pair : a ∷ k ∷ [] ≡ bestAt h pair
+    best-pair =
+        subst (λ u. a ∷ k ∷ [] ≡ bestAt h (u ∷ node g v ∷ [])) (node-now g sc o p (omega arith))
+        (subst (λ u. a ∷ k ∷ [] ≡ bestAt h (node h p ∷ u ∷ [])) (node-now g sc o v l)
+        (pair-best h (stands-admitted g sc (o .admitted)) p v d (within-now g sc o v l) a k first-now))
+
+  -- both moves
+  module _ (a k : ℕ) (pa : a < arity (isXor g p)) (pk : k < arity (isXor g v)) (g₁ : Graph) (s₁ : List ℕ) (c₁ : ℕ) (m₁ : Made sc g₁ s₁ (apply h (at none (node g p) a)) c₁) where
+    pub still-fits : k < arity (isXor g₁ v)
+    still-fits =
+        let al = became-alike g sc g₁ s₁ (apply h (at none (node g p) a)) (o .admitted) (apply-alike h (at none (node g p) a) (stands-admitted g sc (o .admitted))) (m₁ .became) in
+        rw (alike-xor g g₁ al v) pk
+
+    pub still-counts : c₁ ≡ C (stands g₁ s₁)
+    still-counts = m₁ .count ∙ ap C (sym (m₁ .became .stands-for))
+
+    module _ (b : a ∷ k ∷ [] ≡ bestAt h pair) (g₂ : Graph) (s₂ : List ℕ) (c₂ : ℕ) (m₂ : Made s₁ g₂ s₂ (apply (stands g₁ s₁) (at none (node g v) k)) c₂) where
+      both-moved : apply (stands g₁ s₁) (at none (node g v) k) ≡ moved h pair (bestAt h pair)
+      unfolding moved put
+      both-moved =
+          let x : (w m : ℕ) → m < arity (isXor g w) → m < arity (isXor h w) = λ w m q. rw (alike-xor g h (stands-alike g sc (o .admitted)) w) q in
+          ap (λ y. apply y (at none (node g v) k)) (m₁ .became .stands-for) ∙
+          ((λ i. apply (apply h (at none (sym (node-now g sc o p (omega arith)) i) a)) (at none (sym (node-now g sc o v l) i) k)) ∙
+          pair-apply h (stands-admitted g sc (o .admitted)) p v a k (omega arith) (x p a pa) (x v k pk) ∙
+          (λ i. apply h (at (at none (node-now g sc o p (omega arith) i) a) (node-now g sc o v l i) k))) ∙
+          ap (λ ms. apply h (put none pair ms)) b
+
+      pub pair-made : Made sc g₂ s₂ (moved h pair (bestAt h pair)) c₂
+      pair-made =
+          record {
+            became = record { ordered = m₂ .became .ordered; stands-for = m₂ .became .stands-for ∙ both-moved; kept = kept-then sc s₁ s₂ (m₁ .became .kept) (m₂ .became .kept) };
+            count = m₂ .count ∙ ap C both-moved;
+          }
+
+no-fault : (b : Bool) → _≡_ {A = ℕ} (cond b 0 7) 0 → b ≡ true
+no-fault true e = refl
+no-fault false e = absurd (omega arith)
+
+early-edge : (g : Graph) (j : ℕ) → j % 3 < 2 → isEdge g j ≡ true
+unfolding isEdge
+early-edge g j h = rw (ne-eqb (j % 3) 2 (omega arith))
+
+third-edge : (g : Graph) (v : ℕ) → isXor g v ≡ false → isEdge g (3 * v + 2) ≡ true
+unfolding isEdge isXor
+third-edge g v e = rw (e, and-false)
+
+-- the pair call at a word: it names a node, or none
+module _ (g : Graph) (sc : List ℕ) (o : Ordered g sc) (v k : ℕ) (l : v < g .N) where
+  abbrev named : ℕ
+  named = word g (3 * v + (k - 1)) / 2
+
+  named-now : namedBy (stands g sc) (node g v) k ≡ named
+  unfolding namedBy
+  named-now =
+      let a = stands-alike g sc (o .admitted) in
+      let e : node g v - (g .I + 1) ≡ v = omega arith in
+      a .wired (3 * (node g v - (stands g sc .I + 1)) + (k - 1)) ∙ ap (λ i. word g (3 * (node g v - (i + 1)) + (k - 1)) / 2) (a .same-I) ∙ ap (λ i. word g (3 * i + (k - 1)) / 2) e
+
+  is-node : (u : ℕ) → isNode (stands g sc) u ≡ isNode g u
+  is-node = alike-isNode g (stands g sc) (stands-alike g sc (o .admitted))
+
+  low-none : named ≤ g .I → isNode g named ≡ false
+  unfolding isNode
+  low-none q = rw (le-ltb (g .I) named q)
+
+  high-node : g .I < named → named < node g (g .N) → isNode g named ≡ true
+  unfolding isNode
+  high-node q r = rw (lt-ltb (g .I) named q, lt-ltb named (node g (g .N)) r)
+
+  none-graph : named ≤ g .I → pairRewrite (stands g sc) (node g v) k .graph ≡ stands g sc
+  unfolding pairRewrite
+  none-graph q = rw (named-now, is-node named, low-none q)
+
+  pair-graph : (p : ℕ) → p < g .N → named ≡ node g p
+      → pairRewrite (stands g sc) (node g v) k .graph ≡ moved (stands g sc) (node g p ∷ node g v ∷ []) (bestAt (stands g sc) (node g p ∷ node g v ∷ []))
+  unfolding pairRewrite
+  pair-graph p q e =
+      rw (named-now, is-node named, high-node (omega arith) (omega arith), e)
+      (rewrite-graph (stands g sc) (stands-admitted g sc (o .admitted)) (node g p ∷ node g v ∷ []))
+
+  -- it names none: nothing changes
+  pub pair-none : named ≤ g .I → (c : ℕ) → c ≡ C (stands g sc) → Made sc g sc (pairRewrite (stands g sc) (node g v) k .graph) c
+  pair-none q c e =
+      subst (λ x. Made sc g sc x c) (sym (none-graph q)) (record { became = record { ordered = o; stands-for = refl; kept = kept-same sc }; count = e })
+
+  -- it names node p: the pair's best
+  pub pair-is : (p : ℕ) → p < g .N → named ≡ node g p → (g′ : Graph) (sc′ : List ℕ) (c : ℕ)
+      → Made sc g′ sc′ (moved (stands g sc) (node g p ∷ node g v ∷ []) (bestAt (stands g sc) (node g p ∷ node g v ∷ []))) c
+      → Made sc g′ sc′ (pairRewrite (stands g sc) (node g v) k .graph) c
+  pair-is p q e g′ sc′ c m = subst (λ x. Made sc g′ sc′ x c) (sym (pair-graph p q e)) m
+
+  test : wordFault g (node g v) k ≡ 0 → leb 1 k && leb k (cond (isXor g v) 2 3) ≡ true
+  unfolding wordFault
+  test w = no-fault (leb 1 k && leb k (cond (isXor g v) 2 3)) (subst (λ i. _≡_ {A = ℕ} (cond (leb 1 k && leb k (cond (isXor g i) 2 3)) 0 7) 0) (omega arith) w)
+
+  -- a word that the node has is an edge, so it names a lower index
+  module _ (w : wordFault g (node g v) k ≡ 0) where
+    pub has-word : (1 ≤ k) × (k ≤ 3) × (isEdge g (3 * v + (k - 1)) ≡ true)
+    has-word =
+        let b = both-true (leb 1 k) (leb k (cond (isXor g v) 2 3)) (test w) in
+        let lo : 1 ≤ k = leb-true 1 k (b .0) in
+        let hi : k ≤ cond (isXor g v) 2 3 = leb-true k (cond (isXor g v) 2 3) (b .1) in
+        ⊎-elim
+        (λ (x : isXor g v ≡ true). let z : k ≤ 2 = rw x at hi in (lo, omega arith, early-edge g (3 * v + (k - 1)) (omega arith)))
+        (λ (x : isXor g v ≡ false).
+        let z : k ≤ 3 = rw x at hi in
+        ⊎-elim
+        (λ (q : k < 3). (lo, z, early-edge g (3 * v + (k - 1)) (omega arith)))
+        (λ (q : 3 ≤ k). (lo, z, ap (isEdge g) (omega arith) ∙ third-edge g v x))
+        (lt-or-le k 3))
+        (true-or-false (isXor g v))
+
+    -- the node that it names
+    pub named-below : named < node g v
+    named-below = let t = has-word in omega (arith, o .admitted .below (3 * v + (k - 1)) (omega arith) (t .2))

@@ -1,0 +1,63 @@
+-- `move_pair` makes both moves of a pair: one after the other they are the pair's choice.
+use Rattle.graph.specs.Graph.{Graph, graphOf}
+use Rattle.state.proofs.Pairs.{still-fits, still-counts, pair-made}
+use borrow.Author.Needs.{needs}
+use Rattle.state.proofs.moving.move_pair.Statement.{statement}
+use Rattle.state.proofs.moving.move_pair.Tie as tie
+
+pair-moves-requires : tie.Need-pair-moves-requires
+pair-moves-requires c κs = search needs
+
+make-move-requires : tie.Need-make-move-requires
+make-move-requires c κs = search needs
+
+abbrev graph-of : tie.Start → Graph
+graph-of s = graphOf (s .args .inputs) (s .args .nodes) (s .args .outputs) (s .args .node-table .now) (s .args .output-table .now)
+
+make-move-requires-2 : tie.Need-make-move-requires-2
+make-move-requires-2 c κs =
+    let f = c .before .before .before .before .before .before in
+    let b = f .before .before .before in
+    let s = b .before .before .before .before .before .before in
+    let a = s .args in
+    let m = b .pair-moves in
+    let r = f .make-move in
+    let g₁ = graphOf (a .inputs) (a .nodes) (a .outputs) (r .last .1 .1 .1 .0) (a .output-table .now) in
+    let s₁ = r .last .1 .1 .1 .1 .1 .1 .1 .1 .0 in (
+      r .ensures .became .ordered,
+      s .pre .2,
+      still-fits (graph-of s) (a .scratch .now) (s .pre .0) (a .p) (a .v) (s .pre .1) (s .pre .2) (m .result .named) (m .result .node) (m .ensures .0) (m .ensures .1) g₁ s₁ (r .result) (r .ensures),
+      still-counts (graph-of s) (a .scratch .now) (s .pre .0) (a .p) (a .v) (s .pre .1) (s .pre .2) (m .result .named) (m .result .node) (m .ensures .0) (m .ensures .1) g₁ s₁ (r .result) (r .ensures),
+    )
+
+same-length : tie.Need-same-length
+same-length c = search needs
+
+same-length-2 : tie.Need-same-length-2
+same-length-2 c = search needs
+
+returns : tie.Need-returns
+returns c =
+    let t = c .before .before .before .before in
+    let f = t .before .before .before .before .before .before .before in
+    let b = f .before .before .before in
+    let s = b .before .before .before .before .before .before in
+    let a = s .args in
+    let m = b .pair-moves in
+    let r = f .make-move in
+    let q = t .make-move2 in
+    let g₁ = graphOf (a .inputs) (a .nodes) (a .outputs) (r .last .1 .1 .1 .0) (a .output-table .now) in
+    let g₂ = graphOf (a .inputs) (a .nodes) (a .outputs) (q .last .1 .1 .1 .0) (a .output-table .now) in
+    pair-made (graph-of s) (a .scratch .now) (s .pre .0) (a .p) (a .v) (s .pre .1) (s .pre .2) (m .result .named) (m .result .node) (m .ensures .0) (m .ensures .1)
+    g₁ (r .last .1 .1 .1 .1 .1 .1 .1 .1 .0) (r .result) (r .ensures) (m .ensures .2) g₂ (q .last .1 .1 .1 .1 .1 .1 .1 .1 .0) (q .result) (q .ensures)
+
+pub move-pair-spec : {M : Type 1} → statement M
+move-pair-spec =
+    tie.close
+    (tie.spec
+    pair-moves-requires
+    make-move-requires
+    make-move-requires-2
+    same-length
+    same-length-2
+    returns)

@@ -1,0 +1,78 @@
+-- `pair_moves` decides a pair by the numbers of both nodes: its answer is the best of the pair.
+use mathlib.Core.Path.{_≡_, sym, subst}
+use Prim.Native.Nat.{_≤_}
+use native.Mathlib.Omega.{arith}
+use lib.ListN.{getD}
+use Rattle.graph.specs.Graph.{Graph, graphOf, node}
+use Rattle.moves.specs.Decide.{naming}
+use Rattle.moves.proofs.Deciding.{naming-le}
+use Rattle.state.proofs.Counting.{counted-now}
+use Rattle.state.proofs.Pairs.{pair-fits, best-pair}
+use borrow.Author.Needs.{needs}
+use Rattle.state.proofs.moving.pair_moves.Statement.{statement}
+use Rattle.state.proofs.moving.pair_moves.Tie as tie
+
+numbers-now-requires : tie.Need-numbers-now-requires
+numbers-now-requires c κs = search needs
+
+numbers-now-requires-2 : tie.Need-numbers-now-requires-2
+numbers-now-requires-2 c κs = search needs
+
+add-which-name : tie.Need-add-which-name
+add-which-name c = search needs
+
+cast-which-name : tie.Need-cast-which-name
+cast-which-name c = search needs
+
+add-which-name-2 : tie.Need-add-which-name-2
+add-which-name-2 c = search needs
+
+which-name-requires : tie.Need-which-name-requires
+which-name-requires c κs = search needs
+
+abbrev graph-of : tie.Start → Graph
+graph-of s = graphOf (s .args .inputs) (s .args .nodes) (s .args .outputs) (s .args .node-table .now) (s .args .output-table .now)
+
+which-are : (c : tie.After-which-name) → c .which-name .result ≡ naming (graph-of (c .before .before .before .before .before .before)) (c .before .before .before .before .before .before .args .v) (node (graph-of (c .before .before .before .before .before .before)) (c .before .before .before .before .before .before .args .p))
+which-are c = let a = c .before .before .before .before .before .before .args in c .which-name .ensures (a .inputs) (a .nodes) (a .outputs) (a .output-table .now)
+
+first-pair-requires : tie.Need-first-pair-requires
+first-pair-requires c κs =
+    let m = c .before in
+    let n = m .before in
+    let s = n .before .before .before .before in
+    let a = s .args in
+    let g = graph-of s in (
+      counted-now g (a .scratch .now) (s .pre .0) (a .p) (omega (arith, s .pre .1, s .pre .2)) (n .numbers-now .result) (n .numbers-now .ensures),
+      counted-now g (a .scratch .now) (s .pre .0) (a .v) (s .pre .2) (m .numbers-now2 .result) (m .numbers-now2 .ensures),
+      λ i. subst (λ w. getD w i 0 ≤ 1) (sym (which-are c)) (naming-le g (a .v) (node g (a .p)) i),
+    )
+
+returns : tie.Need-returns
+returns c =
+    let w = c .before in
+    let m = w .before in
+    let n = m .before in
+    let s = n .before .before .before .before in
+    let a = s .args in
+    let fits =
+    pair-fits (graph-of s) (a .scratch .now) (s .pre .0) (a .p) (a .v) (s .pre .1) (s .pre .2) (n .numbers-now .result) (m .numbers-now2 .result) (w .which-name .result)
+    (n .numbers-now .ensures) (m .numbers-now2 .ensures) (which-are w) (c .first-pair .result .named) (c .first-pair .result .node) (c .first-pair .ensures) in (
+      fits .0,
+      fits .1,
+      best-pair (graph-of s) (a .scratch .now) (s .pre .0) (a .p) (a .v) (s .pre .1) (s .pre .2) (n .numbers-now .result) (m .numbers-now2 .result) (w .which-name .result)
+          (n .numbers-now .ensures) (m .numbers-now2 .ensures) (which-are w) (c .first-pair .result .named) (c .first-pair .result .node) (c .first-pair .ensures),
+    )
+
+pub pair-moves-spec : {M : Type 1} → statement M
+pair-moves-spec =
+    tie.close
+    (tie.spec
+    numbers-now-requires
+    numbers-now-requires-2
+    add-which-name
+    cast-which-name
+    add-which-name-2
+    which-name-requires
+    first-pair-requires
+    returns)

@@ -1,0 +1,148 @@
+-- `turn_word` keeps the state in order and turns one word of the graph that it stands for. From what its two stores make of
+-- a state; the word's bit before says which way the count goes.
+use mathlib.Core.Path.{_≡_}
+use Prim.Native.Nat.{ℕ, _+_, _-_, _*_, _/_, _≤_, _<_}
+use native.Mathlib.Omega.{arith}
+use lib.ListN.{length, getD}
+use Rattle.graph.specs.Graph.{Graph, graphOf, word, node}
+use Rattle.state.specs.State.{stands}
+use Rattle.state.proofs.Order.{odd-le}
+use Rattle.state.proofs.Stores.{names-low, bit-counted, word-low-stored, word-high-stored}
+use borrow.Author.Needs.{needs}
+use Rattle.state.proofs.turning.turn_word.Statement.{statement}
+use Rattle.state.proofs.turning.turn_word.Tie as tie
+
+word-now-requires : tie.Need-word-now-requires
+word-now-requires c κs = search needs
+
+mul-x : tie.Need-mul-x
+mul-x c = search needs
+
+slice-read-x : tie.Need-slice-read-x
+slice-read-x c = search needs
+
+turned-requires : tie.Need-turned-requires
+turned-requires c κs = search needs
+
+mul-node-table : tie.Need-mul-node-table
+mul-node-table c = search needs
+
+slice-write-node-table : tie.Need-slice-write-node-table
+slice-write-node-table c = search needs
+
+same-length : tie.Need-same-length
+same-length c = search needs
+
+same-length-2 : tie.Need-same-length-2
+same-length-2 c = search needs
+
+abbrev graph-of : tie.Start → Graph
+graph-of s = graphOf (s .args .inputs) (s .args .nodes) (s .args .outputs) (s .args .node-table .now) (s .args .output-table .now)
+
+returns : tie.Need-returns
+returns c =
+    let s = c .before .before .before .before .before .before .before .before .before in
+    word-low-stored (graph-of s) (s .args .scratch .now) (s .pre .0) (s .args .j) (s .pre .1) (s .pre .2) (c .before .turned .result) (c .before .turned .ensures) (c .if1 .taken)
+
+-- the node that the word names
+abbrev start : tie.Else1 → tie.Start
+start c = c .before .before .before .before .before .before .before .before .before
+
+abbrev named : tie.Else1 → ℕ
+named c = getD (start c .args .node-table .now) (start c .args .j) 0 / 2 - (start c .args .inputs + 1)
+
+record Named (c : tie.Else1) : Type 0 where
+  few : start c .args .nodes ≤ 100000
+  below : named c < start c .args .nodes
+  is : getD (start c .args .node-table .now) (start c .args .j) 0 / 2 ≡ node (graph-of (start c)) (named c)
+  long : 8 * start c .args .nodes ≤ length (start c .args .scratch .now)
+
+names : (c : tie.Else1) → Named c
+names c =
+    let s = start c in
+    let o = s .pre .0 in
+    let n = names-low (graph-of s) (s .args .scratch .now) o (s .args .j) (s .pre .1) (s .pre .2) in
+    record { few = o .admitted .few-nodes; below = omega (arith, n, c .if1 .left); is = omega (arith, n, c .if1 .left); long = o .long }
+
+add-v : tie.Need-add-v
+add-v c = search needs
+
+sub-v : tie.Need-sub-v
+sub-v c = search needs
+
+cast-at : tie.Need-cast-at
+cast-at c = let n = names c in omega (arith, n .few, n .below)
+
+mul-at : tie.Need-mul-at
+mul-at c = let n = names c in omega (arith, n .few, n .below)
+
+add-at : tie.Need-add-at
+add-at c = let n = names c in omega (arith, n .few, n .below)
+
+mul-d : tie.Need-mul-d
+mul-d c = let n = names c in omega (arith, n .few, n .below)
+
+slice-read-d : tie.Need-slice-read-d
+slice-read-d c = let n = names (c .before) in omega (arith, n .below, n .long)
+
+-- its bit before
+was : (c : tie.Else1) → c .before .before .before .word-now .result ≡ word (stands (graph-of (start c)) (start c .args .scratch .now)) (start c .args .j)
+was c = c .before .before .before .word-now .ensures
+
+adjusted-requires : tie.Need-adjusted-requires
+adjusted-requires c κs =
+    let s = start (c .before) in
+    let n = names (c .before) in
+    omega (
+      arith,
+      was (c .before),
+      bit-counted (graph-of s) (s .args .scratch .now) (s .pre .0) (s .args .j) (s .pre .1) (s .pre .2) (named (c .before)) (n .below) (n .is),
+      odd-le (graph-of s) (s .args .scratch .now) (s .pre .0) (named (c .before)) (n .below),
+    )
+
+mul-scratch : tie.Need-mul-scratch
+mul-scratch c = let n = names (c .before .before) in omega (arith, n .few, n .below)
+
+slice-write-scratch : tie.Need-slice-write-scratch
+slice-write-scratch c = let n = names (c .before .before) in omega (arith, n .below, n .long)
+
+same-length-3 : tie.Need-same-length-3
+same-length-3 c = search needs
+
+same-length-4 : tie.Need-same-length-4
+same-length-4 c = search needs
+
+returns-2 : tie.Need-returns-2
+returns-2 c =
+    let e = c .before .before in
+    let s = start e in
+    let n = names e in
+    word-high-stored (graph-of s) (s .args .scratch .now) (s .pre .0) (s .args .j) (s .pre .1) (s .pre .2) (named e) (c .adjusted .result) (n .below) (n .is)
+    (rw (was e) at (c .adjusted .ensures)) (e .before .turned .result) (e .before .turned .ensures)
+
+pub turn-word-spec : {M : Type 1} → statement M
+turn-word-spec =
+    tie.close
+    (tie.spec
+    word-now-requires
+    mul-x
+    slice-read-x
+    turned-requires
+    mul-node-table
+    slice-write-node-table
+    same-length
+    same-length-2
+    returns
+    add-v
+    sub-v
+    cast-at
+    mul-at
+    add-at
+    mul-d
+    slice-read-d
+    adjusted-requires
+    mul-scratch
+    slice-write-scratch
+    same-length-3
+    same-length-4
+    returns-2)

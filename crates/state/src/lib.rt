@@ -1,0 +1,4 @@
+pub mod moving;
+pub mod now;
+pub mod turning;
+pub mod writing;

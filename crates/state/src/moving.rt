@@ -1,0 +1,196 @@
+// Moves at one node and at a pair, each decided by the numbers at hand and made in constant time.
+ghost use mathlib.Core.Path.{_≡_};
+ghost use mathlib.Core.List.{[], _∷_};
+ghost use Prim.Native.Nat.{_+_, _≤_, _<_};
+ghost use Rattle.graph.specs.Graph.{graphOf, isXor};
+ghost use Rattle.graph.specs.Count.{C};
+ghost use Rattle.moves.specs.Rows.{arity};
+ghost use Rattle.moves.specs.Apply.{none, at, apply};
+ghost use Rattle.moves.specs.Call.{moved, bestAt, wordFault, pairRewrite};
+ghost use Rattle.moves.specs.Decide.{costOf, Counted};
+ghost use Rattle.state.specs.State.{stands, Ordered};
+ghost use Rattle.state.specs.Step.{Made};
+use crate::now;
+use crate::turning;
+use moves::decide;
+use moves::decide::NodeNumbers;
+use moves::decide::PairMoves;
+use moves::words;
+
+// C after the move m of a node, from C before it.
+pub fn count_after(node: NodeNumbers, m: u32, count: u32) -> u32
+    requires { ⌜ Counted node × (m < arity (node .xor)) × (costOf node 0 ≤ count) × (count ≤ 304096) ⌝ }
+    ensures { λ r. ⌜ r + costOf node 0 ≡ count + costOf node m ⌝ }
+{
+    let z = node.costs;
+    let before = decide::move_cost(node.xor, z, node.readers, node.odd, 0);
+    let z = node.costs;
+    let after = decide::move_cost(node.xor, z, node.readers, node.odd, m);
+    count + after - before
+}
+
+// Makes the move m at node v; count is C before it, and C after it is returned.
+pub fn make_move(
+    inputs: u32,
+    nodes: u32,
+    outputs: u32,
+    node_table: &mut [u32],
+    output_table: &[u32],
+    v: usize,
+    m: u32,
+    count: u32,
+    scratch: &mut [u32],
+) -> u32
+    requires { ⌜ Ordered (graphOf inputs nodes outputs (now «node_table») (now «output_table»)) (now scratch) × (v < nodes) × (m < arity (isXor (graphOf inputs nodes outputs (now «node_table») (now «output_table»)) v)) × (count ≡ C (stands (graphOf inputs nodes outputs (now «node_table») (now «output_table»)) (now scratch))) ⌝ }
+    ensures { λ r. ⌜ Made (now (scratch .entry)) (graphOf inputs nodes outputs (now («node_table» .exit)) (now («output_table» .entry))) (now (scratch .exit)) (apply (stands (graphOf inputs nodes outputs (now («node_table» .entry)) (now («output_table» .entry))) (now (scratch .entry))) (at none (inputs + 1 + v) m)) r ⌝ }
+{
+    if m == 0 {
+        return count;
+    }
+    let node = now::numbers_now(inputs, nodes, outputs, node_table, output_table, v, scratch);
+    let after = count_after(node, m, count);
+    turning::turn_node(
+        inputs,
+        nodes,
+        outputs,
+        node_table,
+        output_table,
+        v,
+        m,
+        scratch,
+    );
+    after
+}
+
+// The node call at node v.
+pub fn node_step(
+    inputs: u32,
+    nodes: u32,
+    outputs: u32,
+    node_table: &mut [u32],
+    output_table: &[u32],
+    v: usize,
+    count: u32,
+    scratch: &mut [u32],
+) -> u32
+    requires { ⌜ Ordered (graphOf inputs nodes outputs (now «node_table») (now «output_table»)) (now scratch) × (v < nodes) × (count ≡ C (stands (graphOf inputs nodes outputs (now «node_table») (now «output_table»)) (now scratch))) ⌝ }
+    ensures { λ r. ⌜ Made (now (scratch .entry)) (graphOf inputs nodes outputs (now («node_table» .exit)) (now («output_table» .entry))) (now (scratch .exit)) (moved (stands (graphOf inputs nodes outputs (now («node_table» .entry)) (now («output_table» .entry))) (now (scratch .entry))) ((inputs + 1 + v) ∷ []) (bestAt (stands (graphOf inputs nodes outputs (now («node_table» .entry)) (now («output_table» .entry))) (now (scratch .entry))) ((inputs + 1 + v) ∷ []))) r ⌝ }
+{
+    let node = now::numbers_now(inputs, nodes, outputs, node_table, output_table, v, scratch);
+    let z = node.costs;
+    let m = decide::first_least(node.xor, z, node.readers, node.odd);
+    make_move(
+        inputs,
+        nodes,
+        outputs,
+        node_table,
+        output_table,
+        v,
+        m,
+        count,
+        scratch,
+    )
+}
+
+// The moves that the pair of node p and a higher node v is best with.
+pub fn pair_moves(
+    inputs: u32,
+    nodes: u32,
+    outputs: u32,
+    node_table: &[u32],
+    output_table: &[u32],
+    p: usize,
+    v: usize,
+    scratch: &[u32],
+) -> PairMoves
+    requires { ⌜ Ordered (graphOf inputs nodes outputs (now «node_table») (now «output_table»)) (now scratch) × (p < v) × (v < nodes) ⌝ }
+    ensures { λ r. ⌜ (r .named < arity (isXor (graphOf inputs nodes outputs (now («node_table» .entry)) (now («output_table» .entry))) p)) × (r .node < arity (isXor (graphOf inputs nodes outputs (now («node_table» .entry)) (now («output_table» .entry))) v)) × (r .named ∷ r .node ∷ [] ≡ bestAt (stands (graphOf inputs nodes outputs (now («node_table» .entry)) (now («output_table» .entry))) (now (scratch .entry))) ((inputs + 1 + p) ∷ (inputs + 1 + v) ∷ [])) ⌝ }
+{
+    let named = now::numbers_now(inputs, nodes, outputs, node_table, output_table, p, scratch);
+    let node = now::numbers_now(inputs, nodes, outputs, node_table, output_table, v, scratch);
+    let which = words::which_name(node_table, v, inputs + 1 + p as u32);
+    decide::first_pair(named, node, which)
+}
+
+// The best moves of the pair of node p and a higher node v, made.
+pub fn move_pair(
+    inputs: u32,
+    nodes: u32,
+    outputs: u32,
+    node_table: &mut [u32],
+    output_table: &[u32],
+    p: usize,
+    v: usize,
+    count: u32,
+    scratch: &mut [u32],
+) -> u32
+    requires { ⌜ Ordered (graphOf inputs nodes outputs (now «node_table») (now «output_table»)) (now scratch) × (p < v) × (v < nodes) × (count ≡ C (stands (graphOf inputs nodes outputs (now «node_table») (now «output_table»)) (now scratch))) ⌝ }
+    ensures { λ r. ⌜ Made (now (scratch .entry)) (graphOf inputs nodes outputs (now («node_table» .exit)) (now («output_table» .entry))) (now (scratch .exit)) (moved (stands (graphOf inputs nodes outputs (now («node_table» .entry)) (now («output_table» .entry))) (now (scratch .entry))) ((inputs + 1 + p) ∷ (inputs + 1 + v) ∷ []) (bestAt (stands (graphOf inputs nodes outputs (now («node_table» .entry)) (now («output_table» .entry))) (now (scratch .entry))) ((inputs + 1 + p) ∷ (inputs + 1 + v) ∷ []))) r ⌝ }
+{
+    let both = pair_moves(
+        inputs,
+        nodes,
+        outputs,
+        node_table,
+        output_table,
+        p,
+        v,
+        scratch,
+    );
+    let after = make_move(
+        inputs,
+        nodes,
+        outputs,
+        node_table,
+        output_table,
+        p,
+        both.named,
+        count,
+        scratch,
+    );
+    make_move(
+        inputs,
+        nodes,
+        outputs,
+        node_table,
+        output_table,
+        v,
+        both.node,
+        after,
+        scratch,
+    )
+}
+
+// The pair call at word k (1 to 3) of node v.
+pub fn pair_step(
+    inputs: u32,
+    nodes: u32,
+    outputs: u32,
+    node_table: &mut [u32],
+    output_table: &[u32],
+    v: usize,
+    k: usize,
+    count: u32,
+    scratch: &mut [u32],
+) -> u32
+    requires { ⌜ Ordered (graphOf inputs nodes outputs (now «node_table») (now «output_table»)) (now scratch) × (v < nodes) × (wordFault (graphOf inputs nodes outputs (now «node_table») (now «output_table»)) (inputs + 1 + v) k ≡ 0) × (count ≡ C (stands (graphOf inputs nodes outputs (now «node_table») (now «output_table»)) (now scratch))) ⌝ }
+    ensures { λ r. ⌜ Made (now (scratch .entry)) (graphOf inputs nodes outputs (now («node_table» .exit)) (now («output_table» .entry))) (now (scratch .exit)) (pairRewrite (stands (graphOf inputs nodes outputs (now («node_table» .entry)) (now («output_table» .entry))) (now (scratch .entry))) (inputs + 1 + v) k .graph) r ⌝ }
+{
+    let at = 3 * v + (k - 1);
+    let u = node_table[at] / 2;
+    if u <= inputs {
+        return count;
+    }
+    let p = (u - (inputs + 1)) as usize;
+    move_pair(
+        inputs,
+        nodes,
+        outputs,
+        node_table,
+        output_table,
+        p,
+        v,
+        count,
+        scratch,
+    )
+}

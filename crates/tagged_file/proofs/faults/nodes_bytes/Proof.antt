@@ -1,0 +1,73 @@
+-- `nodes_bytes` adds up the lengths of the nodes' fields. From the laws on fields in a row.
+use native.Mathlib.Omega.{arith}
+use native.Mathlib.Nat.{zero-add}
+use mathlib.Core.Path.{_≡_}
+use Prim.Native.Nat.{_+_, _*_, _≤_}
+use lib.ListN.{length, getD}
+use borrow.Author.Needs.{needs}
+use Rattle.tagged_file.proofs.WholeWrite.{size-more, size-none}
+use Rattle.tagged_file.specs.Write.{nodeFieldAt, inOrder}
+use Rattle.tagged_file.proofs.faults.nodes_bytes.Statement.{statement}
+use Rattle.tagged_file.proofs.faults.nodes_bytes.Tie as tie
+
+abbrev Inv-loop : tie.InvT-loop
+Inv-loop nodes node-table size₀ v₀ left₀ size v left = (v + left ≡ nodes) × (size + length (inOrder (nodeFieldAt node-table) v left) ≡ length (inOrder (nodeFieldAt node-table) 0 nodes)) × (size ≤ 15 * v)
+
+abbrev μ-loop : tie.MeasureT-loop
+μ-loop nodes node-table size₀ v₀ left₀ size v left = left
+
+loop-holds : tie.Need-loop-holds Inv-loop μ-loop
+loop-holds c = (omega arith, zero-add _, omega arith)
+
+mul-third : tie.Need-mul-third Inv-loop μ-loop
+mul-third c = omega arith
+
+add-third : tie.Need-add-third Inv-loop μ-loop
+add-third c = omega arith
+
+mul-node-bytes : tie.Need-mul-node-bytes Inv-loop μ-loop
+mul-node-bytes c = omega arith
+
+shared-slice-read-node-bytes : tie.Need-shared-slice-read-node-bytes Inv-loop μ-loop
+shared-slice-read-node-bytes c = omega arith
+
+node-bytes-requires : tie.Need-node-bytes-requires Inv-loop μ-loop
+node-bytes-requires c κs = search needs
+
+add-size : tie.Need-add-size Inv-loop μ-loop
+add-size c = omega arith
+
+add-v : tie.Need-add-v Inv-loop μ-loop
+add-v c = omega arith
+
+sub-left : tie.Need-sub-left Inv-loop μ-loop
+sub-left c = omega arith
+
+loop-less : tie.Need-loop-less Inv-loop μ-loop
+loop-less c = omega arith
+
+loop-again : tie.Need-loop-again Inv-loop μ-loop
+unfolding nodeFieldAt
+loop-again c = let l = c .before .before .before .loop in (omega arith, size-more _ _ (l .size) _ (l .v) (l .left) (omega arith) (l .inv .1) (omega (arith, c .node-bytes .ensures .0 (getD (c .before .before .before .before .before .args .node-table .now) (3 * l .v) 0) (getD (c .before .before .before .before .before .args .node-table .now) (3 * l .v + 1) 0))), omega arith)
+
+returns : tie.Need-returns Inv-loop μ-loop
+returns c = let l = c .before .loop in (size-none _ _ (l .size) (l .v) (l .left) (omega arith) (l .inv .1), omega arith)
+
+pub nodes-bytes-spec : {M : Type 1} → statement M
+nodes-bytes-spec =
+    tie.close
+    (tie.spec
+    Inv-loop
+    μ-loop
+    loop-holds
+    mul-third
+    add-third
+    mul-node-bytes
+    shared-slice-read-node-bytes
+    node-bytes-requires
+    add-size
+    add-v
+    sub-left
+    loop-less
+    loop-again
+    returns)

@@ -1,0 +1,102 @@
+-- What an edge, a word and a node cost, as the code finds it in scratch. From the laws on tests and on a node's numbers.
+use mathlib.Core.Path.{_≡_, refl, sym, ap, _∙_}
+use mathlib.Core.Bool.{Bool, true, false, not, cond, _&&_}
+use mathlib.Core.List.{List}
+use mathlib.Core.Logic.{_≢_}
+use Prim.Native.Nat.{ℕ, _+_, _-_, _*_, _/_, _%_, _≤_, _<_}
+use native.Mathlib.Omega.{arith}
+use borrow.Author.Tests.{eq-eqb, ne-eqb, lt-ltb, le-ltb}
+use lib.Dec.{eqb}
+use Rattle.graph.specs.Finite.{ifEqual}
+use Rattle.graph.specs.Graph.{Graph, mark, node, word, isEdge, isXor}
+use Rattle.moves.specs.Cost.{edgeCost, turnedCost, wordCosts, bitCost}
+use Rattle.choice.specs.Choice.{FirstBelow}
+use Rattle.moves.specs.Rows.{arity}
+use Rattle.moves.specs.Decide.{Numbers, numbersOf, costWith}
+use Rattle.moves.proofs.Deciding as deciding
+use Rattle.moves.proofs.Shown.{shown-both}
+use Rattle.state.specs.State.{field, stands, Ordered}
+use Rattle.state.proofs.Alike.{alike-xor, alike-readers}
+use Rattle.state.proofs.Stands.{stands-alike, stands-admitted}
+use Rattle.trees.specs.Costing.{innerAt, costAt, CostBits}
+use Rattle.moves.proofs.NodeCosts.{numbers-low}
+use Rattle.trees.proofs.TreeNumbers.{bits-are}
+
+module _ (i : ℕ) (sc : List ℕ) (u b : ℕ) where
+  pub edge-constant : u ≡ 0 → 0 ≡ edgeCost (innerAt i sc) (costAt i sc) u b
+  unfolding edgeCost
+  edge-constant e = rw (eq-eqb u 0 e)
+
+  pub edge-input : u ≢ 0 → u ≤ i → b ≡ edgeCost (innerAt i sc) (costAt i sc) u b
+  unfolding edgeCost innerAt
+  edge-input d l = rw (ne-eqb u 0 d, le-ltb i u l)
+
+  pub edge-root : (v : ℕ) → i < u → v ≡ u - (i + 1) → field sc v 3 ≡ mark → b ≡ edgeCost (innerAt i sc) (costAt i sc) u b
+  unfolding edgeCost innerAt
+  edge-root v l e m = rw (ne-eqb u 0 (omega arith), lt-ltb i u l, ← e, eq-eqb (field sc v 3) mark m)
+
+  pub edge-inner : (v x : ℕ) → i < u → v ≡ u - (i + 1) → field sc v 3 ≢ mark → x ≡ field sc v 4
+      → {r : ℕ} → r ≡ ifEqual b 0 (x % 2) (x / 2 % 2) → r ≡ edgeCost (innerAt i sc) (costAt i sc) u b
+  unfolding edgeCost innerAt costAt
+  edge-inner v x l e m q s = rw (ne-eqb u 0 (omega arith), lt-ltb i u l, ← e, ne-eqb (field sc v 3) mark m, ← q) s
+
+pub costs-low : (i : ℕ) (sc : List ℕ) (u s : ℕ) → costAt i sc u s ≤ 1
+unfolding costAt ifEqual
+costs-low i sc u s = go (eqb s 0)
+  where
+    go : (b : Bool) → cond b (field sc (u - (i + 1)) 4 % 2) (field sc (u - (i + 1)) 4 / 2 % 2) ≤ 1
+    go true = omega arith
+    go false = omega arith
+
+bit-sum : (x f : ℕ) → (x % 2 + f) % 2 ≡ (x + f) % 2
+bit-sum x f = omega arith
+
+module _ (t : ℕ → Bool) (c : ℕ → ℕ → ℕ) (j x f : ℕ) where
+  pub as-edge : (p r : ℕ) → p ≡ (x % 2 + f) % 2 → not (eqb (j % 3) 2 && eqb x mark) ≡ true → r ≡ edgeCost t c (x / 2) p
+      → r ≡ cond (not (eqb (j % 3) 2 && eqb x mark)) (edgeCost t c (x / 2) ((x + f) % 2)) 0
+  as-edge p r q e s = rw (e, ← bit-sum x f, ← q) s
+
+  pub as-none : not (eqb (j % 3) 2 && eqb x mark) ≡ false → 0 ≡ cond (not (eqb (j % 3) 2 && eqb x mark)) (edgeCost t c (x / 2) ((x + f) % 2)) 0
+  as-none e = rw e
+
+-- a word of the graph that the state stands for
+pub number-fits : (g : Graph) (sc : List ℕ) → Ordered g sc → (j x : ℕ) → j < 3 * g .N → x ≡ word (stands g sc) j
+    → not (eqb (j % 3) 2 && eqb x mark) ≡ true → x / 2 < g .I + 1 + g .N
+unfolding isEdge stands
+number-fits g sc o j x h e t =
+    let a = stands-admitted g sc (o .admitted) in
+    let b = a .below j h (rw (← e) t) in
+    omega (arith, ap (λ z. z / 2) e)
+
+pub number-is : (h : Graph) (t : ℕ → Bool) (c : ℕ → ℕ → ℕ) (v i f j x r : ℕ) → j ≡ 3 * v + i → x ≡ word h j
+    → r ≡ cond (not (eqb (j % 3) 2 && eqb x mark)) (edgeCost t c (x / 2) ((x + f) % 2)) 0 → r ≡ turnedCost h t c v i f
+unfolding turnedCost isEdge
+number-is h t c v i f j x r e q s = rw (← e, ← q) s
+
+pub numbers-of : (h : Graph) (i : ℕ) (sc : List ℕ) (v : ℕ) (z : List ℕ) (s : ℕ) → z ≡ wordCosts h (innerAt i sc) (costAt i sc) v → s ≤ 1 → Numbers z 1 s
+numbers-of h i sc v z s e l = numbers-low h (innerAt i sc) (costAt i sc) v (costs-low i sc) z 1 s e l (omega arith)
+
+-- with the readers that scratch has
+pub numbers-now : (g : Graph) (sc : List ℕ) → Ordered g sc → (v : ℕ) → v < g .N → (z : List ℕ) (a b : ℕ) → z ≡ wordCosts (stands g sc) (innerAt (g .I) sc) (costAt (g .I) sc) v
+    → a ≡ field sc v 0 → b ≡ field sc v 1 → Numbers z a b
+unfolding numbersOf
+numbers-now g sc o v l z a b e ea eb =
+    let h : Graph = stands g sc in
+    let q = alike-readers g h (stands-alike g sc (o .admitted)) (node g v) in
+    let n = deciding.numbers-low g v (o .admitted) in
+    numbers-low h (innerAt (g .I) sc) (costAt (g .I) sc) v (costs-low (g .I) sc) z a b e
+    (omega (arith, o .reads v l, o .odd v l, shown-both h (node g v)))
+    (omega (arith, o .reads v l, n .few))
+
+pub decided-by : (x y : Bool) (z w : List ℕ) (a b c d m : ℕ) → x ≡ y → z ≡ w → a ≡ c → b ≡ d → FirstBelow (costWith x z a b) (arity x) m → FirstBelow (costWith y w c d) (arity y) m
+decided-by x y z w a b c d m p q s t f = rw (← p, ← q, ← s, ← t) f
+
+-- the stored bits of a node
+pub bits-of : (g : Graph) (sc : List ℕ) → Ordered g sc → (v : ℕ) (x : Bool) (z : List ℕ) (r : ℕ) → z ≡ wordCosts (stands g sc) (innerAt (g .I) sc) (costAt (g .I) sc) v
+    → x ≡ isXor g v → CostBits x z r
+    → (r % 2 ≡ bitCost (stands g sc) (innerAt (g .I) sc) (costAt (g .I) sc) v 0) × (r / 2 % 2 ≡ bitCost (stands g sc) (innerAt (g .I) sc) (costAt (g .I) sc) v 1)
+bits-of g sc o v x z r e k cb =
+    let q : x ≡ isXor (stands g sc) v = k ∙ sym (alike-xor g (stands g sc) (stands-alike g sc (o .admitted)) v) in
+    let c : CostBits (isXor (stands g sc) v) (wordCosts (stands g sc) (innerAt (g .I) sc) (costAt (g .I) sc) v) r = rw (← q, ← e) cb in
+    bits-are (stands g sc) (innerAt (g .I) sc) (costAt (g .I) sc) v (c .zero-least .move) (c .one-least .move) (c .zero-cost) (c .one-cost)
+    (c .zero-least .least) (c .one-least .least) (c .zero-least .cost) (c .one-least .cost) r _ _ refl refl (c .bits)

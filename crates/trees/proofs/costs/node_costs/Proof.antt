@@ -1,0 +1,22 @@
+-- `node_costs` meets its contract. From the laws on a node's numbers.
+use Rattle.trees.proofs.EdgeCosts.{numbers-of, bits-of}
+use native.Mathlib.Omega.{arith}
+use borrow.Author.Needs.{needs}
+use Rattle.trees.proofs.costs.node_costs.Statement.{statement}
+use Rattle.trees.proofs.costs.node_costs.Tie as tie
+
+tree-numbers-requires : tie.Need-tree-numbers-requires
+tree-numbers-requires c κs = search needs
+
+is-xor-requires : tie.Need-is-xor-requires
+is-xor-requires c κs = search needs
+
+cost-bits-requires : tie.Need-cost-bits-requires
+cost-bits-requires c κs = (numbers-of _ _ _ _ _ 0 (c .before .tree-numbers .ensures) (omega arith), numbers-of _ _ _ _ _ 1 (c .before .tree-numbers .ensures) (omega arith))
+
+returns : tie.Need-returns
+returns c = bits-of _ _ (c .before .before .before .before .before .before .pre .0) _ _ _ _ (c .before .before .tree-numbers .ensures) (c .before .is-xor .ensures _ _ _ _) (c .cost-bits .ensures)
+
+pub node-costs-spec : {M : Type 1} → statement M
+node-costs-spec =
+    tie.close (tie.spec tree-numbers-requires is-xor-requires cost-bits-requires returns)

@@ -1,0 +1,35 @@
+-- `decide_at` meets its contract. From the laws on a node's numbers.
+use Rattle.trees.proofs.EdgeCosts.{decided-by}
+use Rattle.trees.proofs.Shown.{numbers-decided}
+use borrow.Author.Needs.{needs}
+use Rattle.trees.proofs.deciding.decide_at.Statement.{statement}
+use Rattle.trees.proofs.deciding.decide_at.Tie as tie
+
+tree-numbers-requires : tie.Need-tree-numbers-requires
+tree-numbers-requires c κs = search needs
+
+read-requires : tie.Need-read-requires
+read-requires c κs = search needs
+
+odd-at-requires : tie.Need-odd-at-requires
+odd-at-requires c κs = search needs
+
+is-xor-requires : tie.Need-is-xor-requires
+is-xor-requires c κs = search needs
+
+first-least-requires : tie.Need-first-least-requires
+first-least-requires c κs = let p = c .before .before .before .before .before .before .before .pre in numbers-decided _ _ (p .0) _ (p .1) _ _ _ (c .before .before .before .tree-numbers .ensures) (c .before .before .read .ensures) (c .before .odd-at .ensures)
+
+returns : tie.Need-returns
+returns c = decided-by _ _ _ _ _ _ _ _ _ (c .before .is-xor .ensures _ _ _ _) (c .before .before .before .before .tree-numbers .ensures) (c .before .before .before .read .ensures) (c .before .before .odd-at .ensures) (c .first-least .ensures)
+
+pub decide-at-spec : {M : Type 1} → statement M
+decide-at-spec =
+    tie.close
+    (tie.spec
+    tree-numbers-requires
+    read-requires
+    odd-at-requires
+    is-xor-requires
+    first-least-requires
+    returns)

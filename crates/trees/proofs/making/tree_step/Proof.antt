@@ -1,0 +1,58 @@
+-- `tree_step` meets its contract: deciding changes nothing of what the state stands for. From the laws on states.
+use mathlib.Core.Path.{_≡_, sym, ap, _∙_}
+use mathlib.Core.List.{List}
+use Prim.Native.Nat.{ℕ}
+use Rattle.graph.specs.Graph.{Graph}
+use Rattle.graph.specs.Count.{C}
+use Rattle.moves.specs.Tree.{tree}
+use Rattle.moves.specs.Call.{moved, bestAt}
+use Rattle.state.specs.State.{stands}
+use Rattle.state.specs.Step.{Made}
+use Rattle.trees.specs.Costing.{CostsOnly}
+use Rattle.trees.specs.Deciding.{TreeDecided}
+use Rattle.trees.specs.Stepping.{TreeMade}
+use Rattle.trees.proofs.Ready.{ordered-costs, stands-costs, field-kept}
+use borrow.Author.Needs.{needs}
+use Rattle.trees.proofs.making.tree_step.Statement.{statement}
+use Rattle.trees.proofs.making.tree_step.Tie as tie
+
+module _ (g : Graph) (sc sc₁ : List ℕ) (co : CostsOnly sc sc₁) where
+  same-count : (c : ℕ) → c ≡ C (stands g sc) → c ≡ C (stands g sc₁)
+  same-count c e = e ∙ ap C (sym (stands-costs g sc sc₁ co))
+
+  same-decided : (u : ℕ) → TreeDecided (stands g sc) u sc₁ → TreeDecided (stands g sc₁) u sc₁
+  same-decided u t = rw (← stands-costs g sc sc₁ co) at t
+
+  after : (u : ℕ) (g′ : Graph) (sc′ : List ℕ) (c : ℕ) → Made sc₁ g′ sc′ (moved (stands g sc₁) (tree (stands g sc₁) u) (bestAt (stands g sc₁) (tree (stands g sc₁) u))) c
+      → TreeMade sc g′ sc′ (moved (stands g sc) (tree (stands g sc) u) (bestAt (stands g sc) (tree (stands g sc) u))) c
+  after u g′ sc′ c mk =
+      let e = ap (λ h. moved h (tree h u) (bestAt h (tree h u))) (stands-costs g sc sc₁ co) in
+      record {
+        ordered = mk .became .ordered;
+        stands-for = mk .became .stands-for ∙ e;
+        long = mk .became .kept .long ∙ co .same;
+        kept = λ v f l p q d. mk .became .kept .others v f l p q ∙ field-kept g sc sc₁ co v f l d;
+        count = mk .count ∙ ap C e;
+      }
+
+decide-tree-requires : tie.Need-decide-tree-requires
+decide-tree-requires c κs = search needs
+
+make-moves-requires : tie.Need-make-moves-requires
+make-moves-requires c κs =
+    let p = c .before .before .before .before .before .before .before .before .before .before .pre in
+    let f = c .before .before .before .before .decide-tree .ensures in
+    (ordered-costs _ _ _ (f .1) (p .0), p .1, p .2, same-count _ _ _ (f .1) _ (p .3), same-decided _ _ _ (f .1) _ (f .0))
+
+same-length : tie.Need-same-length
+same-length c = search needs
+
+same-length-2 : tie.Need-same-length-2
+same-length-2 c = search needs
+
+returns : tie.Need-returns
+returns c = after _ _ _ (c .before .before .before .before .before .before .before .before .before .decide-tree .ensures .1) _ _ _ _ (c .before .before .before .before .make-moves .ensures)
+
+pub tree-step-spec : {M : Type 1} → statement M
+tree-step-spec =
+    tie.close (tie.spec decide-tree-requires make-moves-requires same-length same-length-2 returns)

@@ -1,0 +1,34 @@
+-- A tree decided: the move of each of its nodes stands in field 4, where its costs stood. What inner functions ask of each other,
+-- and no promise to a caller.
+use mathlib.Core.Path.{_≡_}
+use mathlib.Core.List.{List, map}
+use mathlib.Core.Logic.{_≢_}
+use Prim.Native.Nat.{ℕ, _+_, _-_, _/_, _%_, _<_}
+use Rattle.graph.specs.Finite.{ifEqual}
+use Rattle.graph.specs.Graph.{Graph, mark, node, word, isXor}
+use Rattle.moves.specs.Rows.{arity, flag}
+use Rattle.moves.specs.Apply.{Choice}
+use Rattle.moves.specs.Tree.{rootOf, tree}
+use Rattle.moves.specs.Call.{bestAt}
+use Rattle.state.specs.State.{field, stands}
+
+-- the moves that stand in scratch
+unfoldable pub movesIn : ℕ → List ℕ → Choice
+movesIn i sc u = field sc (u - (i + 1)) 4
+
+-- the bit that the word at place p shows the node that it names, once the move stored at its own node is made
+unfoldable pub showsAt : Graph → List ℕ → ℕ → ℕ
+showsAt g sc p = (word (stands g sc) p + flag (isXor g (p / 3)) (field sc (p / 3) 4) (p % 3)) % 2
+
+-- how many of node v's readers are complemented once the nodes above it are decided
+unfoldable pub oddAt : Graph → List ℕ → ℕ → ℕ
+oddAt g sc v = ifEqual (field sc v 3) mark (field sc v 1) (showsAt g sc (field sc v 3))
+
+-- the node of v's only reading word, if v has one, has a move stored
+abbrev pub ReaderDecided : Graph → List ℕ → ℕ → Type 0
+ReaderDecided g sc v = field sc v 3 ≢ mark → field sc (field sc v 3 / 3) 4 < arity (isXor g (field sc v 3 / 3))
+
+-- the nodes of the tree of r in h have moves stored that they have, and these are the best
+pub record TreeDecided (h : Graph) (r : ℕ) (sc : List ℕ) : Type 0 where
+  pub permitted : (v : ℕ) → v < h .N → rootOf h (node h v) ≡ r → field sc v 4 < arity (isXor h v)
+  pub best : map (movesIn (h .I) sc) (tree h r) ≡ bestAt h (tree h r)

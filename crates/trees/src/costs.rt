@@ -1,0 +1,169 @@
+// What the words of a node cost with the costs stored below it, and the costs of a tree's nodes by rising index.
+ghost use mathlib.Core.Path.{_≡_};
+ghost use mathlib.Core.Bool.{true, not, cond, _&&_};
+ghost use Prim.Native.Nat.{_+_, _-_, _*_, _/_, _%_, _≤_, _<_};
+ghost use lib.Dec.{eqb};
+ghost use lib.ListN.{length};
+ghost use Rattle.graph.specs.Finite.{ifEqual};
+ghost use Rattle.graph.specs.Graph.{graphOf, mark};
+ghost use Rattle.moves.specs.Decide.{Numbers};
+ghost use Rattle.moves.specs.Tree.{isRoot};
+ghost use Rattle.moves.specs.Cost.{edgeCost, turnedCost, wordCosts, bitCost};
+ghost use Rattle.state.specs.State.{stands, Ordered};
+ghost use Rattle.trees.specs.Costing.{innerAt, costAt, LeastCost, CostBits, CostedBelow, CostsOnly};
+use crate::fields::read;
+use crate::fields::store;
+use graph::literal;
+use graph::literal::MARK;
+use moves::decide;
+use moves::rows;
+use moves::words::over;
+use moves::words::wide;
+use state::now;
+
+// One of two stored bits.
+pub fn stored_bit(x: u32, b: u32) -> u32
+    ensures { λ r. ⌜ r ≡ ifEqual b 0 (x % 2) (x / 2 % 2) ⌝ }
+{
+    if b == 0 {
+        return x % 2;
+    }
+    x / 2 % 2
+}
+
+// What an edge costs that names index u, its bit being b after its own node's move.
+pub fn edge_cost(inputs: u32, nodes: u32, u: u32, b: u32, scratch: &[u32]) -> u32
+    requires { ⌜ (inputs ≤ 4096) × (nodes ≤ 100000) × (u < inputs + 1 + nodes) × (8 * nodes ≤ length (now scratch)) ⌝ }
+    ensures { λ r. ⌜ r ≡ edgeCost (innerAt inputs (now (scratch .entry))) (costAt inputs (now (scratch .entry))) u b ⌝ }
+{
+    if u == 0 {
+        return 0;
+    }
+    if u <= inputs {
+        return b;
+    }
+    let v = wide(u - (inputs + 1));
+    if read(scratch, v, 3) == MARK {
+        return b;
+    }
+    stored_bit(read(scratch, v, 4), b)
+}
+
+// What the word x at place j costs, turned f times.
+pub fn word_number(inputs: u32, nodes: u32, j: usize, x: u32, f: u32, scratch: &[u32]) -> u32
+    requires { ⌜ (inputs ≤ 4096) × (nodes ≤ 100000) × (8 * nodes ≤ length (now scratch)) × (f ≤ 1) × (not (eqb (j % 3) 2 && eqb x mark) ≡ true → x / 2 < inputs + 1 + nodes) ⌝ }
+    ensures { λ r. ⌜ r ≡ cond (not (eqb (j % 3) 2 && eqb x mark)) (edgeCost (innerAt inputs (now (scratch .entry))) (costAt inputs (now (scratch .entry))) (x / 2) ((x + f) % 2)) 0 ⌝ }
+{
+    if literal::is_edge(j, x) {
+        return edge_cost(inputs, nodes, x / 2, (x % 2 + f) % 2, scratch);
+    }
+    0
+}
+
+// What each word of node v costs, as it stands and turned.
+pub fn tree_numbers(
+    inputs: u32,
+    nodes: u32,
+    outputs: u32,
+    node_table: &[u32],
+    output_table: &[u32],
+    v: usize,
+    scratch: &[u32],
+) -> [u32; 6]
+    requires { ⌜ Ordered (graphOf inputs nodes outputs (now «node_table») (now «output_table»)) (now scratch) × (v < nodes) ⌝ }
+    ensures { λ r. ⌜ r ≡ wordCosts (stands (graphOf inputs nodes outputs (now («node_table» .entry)) (now («output_table» .entry))) (now (scratch .entry))) (innerAt inputs (now (scratch .entry))) (costAt inputs (now (scratch .entry))) v ⌝ }
+{
+    let at = 3 * v;
+    let x = now::word_now(
+        inputs,
+        nodes,
+        outputs,
+        node_table,
+        output_table,
+        at,
+        scratch,
+    );
+    let y = now::word_now(
+        inputs,
+        nodes,
+        outputs,
+        node_table,
+        output_table,
+        at + 1,
+        scratch,
+    );
+    let z = now::word_now(
+        inputs,
+        nodes,
+        outputs,
+        node_table,
+        output_table,
+        at + 2,
+        scratch,
+    );
+    [
+        word_number(inputs, nodes, at, x, 0, scratch),
+        word_number(inputs, nodes, at, x, 1, scratch),
+        word_number(inputs, nodes, at + 1, y, 0, scratch),
+        word_number(inputs, nodes, at + 1, y, 1, scratch),
+        word_number(inputs, nodes, at + 2, z, 0, scratch),
+        word_number(inputs, nodes, at + 2, z, 1, scratch),
+    ]
+}
+
+// What a node with these numbers and one reader costs at least, shown the bit s.
+pub fn least_cost(xor: bool, z: [u32; 6], s: u32) -> u32
+    requires { ⌜ Numbers z 1 s ⌝ }
+    ensures { λ r. ⌜ LeastCost xor z s r ⌝ }
+{
+    let least = decide::least_move(xor, z, 1, s);
+    least.cost
+}
+
+// The two bits of a node's costs: how much each exceeds the other.
+pub fn cost_bits(xor: bool, z: [u32; 6]) -> u32
+    requires { ⌜ Numbers z 1 0 × Numbers z 1 1 ⌝ }
+    ensures { λ r. ⌜ CostBits xor z r ⌝ }
+{
+    let a = least_cost(xor, z, 0);
+    let b = least_cost(xor, z, 1);
+    over(a, b) + 2 * over(b, a)
+}
+
+// The two cost bits of node v, from those below it.
+pub fn node_costs(
+    inputs: u32,
+    nodes: u32,
+    outputs: u32,
+    node_table: &[u32],
+    output_table: &[u32],
+    v: usize,
+    scratch: &[u32],
+) -> u32
+    requires { ⌜ Ordered (graphOf inputs nodes outputs (now «node_table») (now «output_table»)) (now scratch) × (v < nodes) ⌝ }
+    ensures { λ r. ⌜ (r % 2 ≡ bitCost (stands (graphOf inputs nodes outputs (now («node_table» .entry)) (now («output_table» .entry))) (now (scratch .entry))) (innerAt inputs (now (scratch .entry))) (costAt inputs (now (scratch .entry))) v 0) × (r / 2 % 2 ≡ bitCost (stands (graphOf inputs nodes outputs (now («node_table» .entry)) (now («output_table» .entry))) (now (scratch .entry))) (innerAt inputs (now (scratch .entry))) (costAt inputs (now (scratch .entry))) v 1) ⌝ }
+{
+    let z = tree_numbers(inputs, nodes, outputs, node_table, output_table, v, scratch);
+    cost_bits(rows::is_xor(node_table, v), z)
+}
+
+// The costs of the tree of node `root`, by rising index: all its nodes but the root.
+pub fn fill_costs(
+    inputs: u32,
+    nodes: u32,
+    outputs: u32,
+    node_table: &[u32],
+    output_table: &[u32],
+    root: usize,
+    scratch: &mut [u32],
+)
+    requires { ⌜ Ordered (graphOf inputs nodes outputs (now «node_table») (now «output_table»)) (now scratch) × (root < nodes) × (isRoot (graphOf inputs nodes outputs (now «node_table») (now «output_table»)) (inputs + 1 + root) ≡ true) ⌝ }
+    ensures { λ _. ⌜ CostedBelow (stands (graphOf inputs nodes outputs (now («node_table» .entry)) (now («output_table» .entry))) (now (scratch .entry))) (now (scratch .exit)) (inputs + 1 + root) root × CostsOnly (now (scratch .entry)) (now (scratch .exit)) ⌝ }
+{
+    let mut v = wide(read(scratch, root, 7));
+    while v != root {
+        let bits = node_costs(inputs, nodes, outputs, node_table, output_table, v, scratch);
+        store(scratch, v, 4, bits);
+        v = wide(read(scratch, v, 6));
+    }
+}

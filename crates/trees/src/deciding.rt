@@ -1,0 +1,144 @@
+// A tree decided: the costs of its nodes by rising index, their moves by falling index. Only scratch is written.
+ghost use mathlib.Core.Path.{_≡_};
+ghost use mathlib.Core.Bool.{true};
+ghost use Prim.Native.Nat.{_+_, _*_, _/_, _<_};
+ghost use Rattle.graph.specs.Graph.{graphOf, isXor};
+ghost use Rattle.choice.specs.Choice.{FirstBelow};
+ghost use Rattle.moves.specs.Rows.{arity};
+ghost use Rattle.moves.specs.Tree.{isRoot};
+ghost use Rattle.moves.specs.Cost.{wordCosts};
+ghost use Rattle.moves.specs.Decide.{costWith};
+ghost use Rattle.state.specs.State.{field, stands, Ordered};
+ghost use Rattle.trees.specs.Costing.{innerAt, costAt, CostedBelow, CostsOnly};
+ghost use Rattle.trees.specs.Deciding.{showsAt, oddAt, ReaderDecided, TreeDecided};
+use crate::costs;
+use crate::fields::read;
+use crate::fields::store;
+use graph::literal::MARK;
+use moves::decide;
+use moves::rows;
+use moves::words::narrow;
+use moves::words::wide;
+use state::now;
+
+// The bit that the word at place p shows the node that it names, once the move stored at its own node is made.
+pub fn shown_bit(
+    inputs: u32,
+    nodes: u32,
+    outputs: u32,
+    node_table: &[u32],
+    output_table: &[u32],
+    p: usize,
+    scratch: &[u32],
+) -> u32
+    requires { ⌜ Ordered (graphOf inputs nodes outputs (now «node_table») (now «output_table»)) (now scratch) × (p < 3 * nodes) × (field (now scratch) (p / 3) 4 < arity (isXor (graphOf inputs nodes outputs (now «node_table») (now «output_table»)) (p / 3))) ⌝ }
+    ensures { λ r. ⌜ r ≡ showsAt (graphOf inputs nodes outputs (now («node_table» .entry)) (now («output_table» .entry))) (now (scratch .entry)) p ⌝ }
+{
+    let w = p / 3;
+    let xor = rows::is_xor(node_table, w);
+    let f = rows::flag_of(xor, read(scratch, w, 4), p % 3);
+    let x = now::word_now(inputs, nodes, outputs, node_table, output_table, p, scratch);
+    (x % 2 + f) % 2
+}
+
+// How many readers of node v are complemented once the nodes above it are decided.
+pub fn odd_at(
+    inputs: u32,
+    nodes: u32,
+    outputs: u32,
+    node_table: &[u32],
+    output_table: &[u32],
+    v: usize,
+    scratch: &[u32],
+) -> u32
+    requires { ⌜ Ordered (graphOf inputs nodes outputs (now «node_table») (now «output_table»)) (now scratch) × (v < nodes) × ReaderDecided (graphOf inputs nodes outputs (now «node_table») (now «output_table»)) (now scratch) v ⌝ }
+    ensures { λ r. ⌜ r ≡ oddAt (graphOf inputs nodes outputs (now («node_table» .entry)) (now («output_table» .entry))) (now (scratch .entry)) v ⌝ }
+{
+    let place = read(scratch, v, 3);
+    if place == MARK {
+        return read(scratch, v, 1);
+    }
+    shown_bit(
+        inputs,
+        nodes,
+        outputs,
+        node_table,
+        output_table,
+        wide(place),
+        scratch,
+    )
+}
+
+// The first least move of node v, with the costs stored below it and the moves stored above it.
+pub fn decide_at(
+    inputs: u32,
+    nodes: u32,
+    outputs: u32,
+    node_table: &[u32],
+    output_table: &[u32],
+    v: usize,
+    scratch: &[u32],
+) -> u32
+    requires { ⌜ Ordered (graphOf inputs nodes outputs (now «node_table») (now «output_table»)) (now scratch) × (v < nodes) × ReaderDecided (graphOf inputs nodes outputs (now «node_table») (now «output_table»)) (now scratch) v ⌝ }
+    ensures { λ r. ⌜ FirstBelow (costWith (isXor (graphOf inputs nodes outputs (now («node_table» .entry)) (now («output_table» .entry))) v) (wordCosts (stands (graphOf inputs nodes outputs (now («node_table» .entry)) (now («output_table» .entry))) (now (scratch .entry))) (innerAt inputs (now (scratch .entry))) (costAt inputs (now (scratch .entry))) v) (field (now (scratch .entry)) v 0) (oddAt (graphOf inputs nodes outputs (now («node_table» .entry)) (now («output_table» .entry))) (now (scratch .entry)) v)) (arity (isXor (graphOf inputs nodes outputs (now («node_table» .entry)) (now («output_table» .entry))) v)) r ⌝ }
+{
+    let z = costs::tree_numbers(inputs, nodes, outputs, node_table, output_table, v, scratch);
+    let readers = read(scratch, v, 0);
+    let odd = odd_at(inputs, nodes, outputs, node_table, output_table, v, scratch);
+    decide::first_least(rows::is_xor(node_table, v), z, readers, odd)
+}
+
+// The moves of the tree of node `root`, whose costs are stored, by falling index: each in the place of the node's costs.
+pub fn fill_moves(
+    inputs: u32,
+    nodes: u32,
+    outputs: u32,
+    node_table: &[u32],
+    output_table: &[u32],
+    root: usize,
+    scratch: &mut [u32],
+)
+    requires { ⌜ Ordered (graphOf inputs nodes outputs (now «node_table») (now «output_table»)) (now scratch) × (root < nodes) × (isRoot (graphOf inputs nodes outputs (now «node_table») (now «output_table»)) (inputs + 1 + root) ≡ true) × CostedBelow (stands (graphOf inputs nodes outputs (now «node_table») (now «output_table»)) (now scratch)) (now scratch) (inputs + 1 + root) root ⌝ }
+    ensures { λ _. ⌜ TreeDecided (stands (graphOf inputs nodes outputs (now («node_table» .entry)) (now («output_table» .entry))) (now (scratch .entry))) (inputs + 1 + root) (now (scratch .exit)) × CostsOnly (now (scratch .entry)) (now (scratch .exit)) ⌝ }
+{
+    let mut v = narrow(root);
+    while v != MARK {
+        let w = wide(v);
+        let m = decide_at(inputs, nodes, outputs, node_table, output_table, w, scratch);
+        store(scratch, w, 4, m);
+        v = read(scratch, w, 5);
+    }
+}
+
+// The best moves of the tree of node `root`, in scratch.
+pub fn decide_tree(
+    inputs: u32,
+    nodes: u32,
+    outputs: u32,
+    node_table: &[u32],
+    output_table: &[u32],
+    root: usize,
+    scratch: &mut [u32],
+)
+    requires { ⌜ Ordered (graphOf inputs nodes outputs (now «node_table») (now «output_table»)) (now scratch) × (root < nodes) × (isRoot (graphOf inputs nodes outputs (now «node_table») (now «output_table»)) (inputs + 1 + root) ≡ true) ⌝ }
+    ensures { λ _. ⌜ TreeDecided (stands (graphOf inputs nodes outputs (now («node_table» .entry)) (now («output_table» .entry))) (now (scratch .entry))) (inputs + 1 + root) (now (scratch .exit)) × CostsOnly (now (scratch .entry)) (now (scratch .exit)) ⌝ }
+{
+    costs::fill_costs(
+        inputs,
+        nodes,
+        outputs,
+        node_table,
+        output_table,
+        root,
+        scratch,
+    );
+    fill_moves(
+        inputs,
+        nodes,
+        outputs,
+        node_table,
+        output_table,
+        root,
+        scratch,
+    );
+}

@@ -1,0 +1,97 @@
+// Readers, odd readers and the places of only readers: one sweep over each table, and one over the nodes.
+ghost use mathlib.Core.Path.{_≡_};
+ghost use Prim.Native.Nat.{ℕ, _+_, _*_, _≤_, _<_};
+ghost use lib.ListN.{length};
+ghost use Rattle.state.specs.State.{field};
+ghost use Rattle.trees.specs.Filling.{Cleared, Counting, Noted, Noting, Notes, onlyPlace, Gathered, GatheredTo};
+use crate::fields::read;
+use crate::fields::store;
+use graph::literal::MARK;
+use moves::words::narrow;
+use moves::words::wide;
+
+pub fn clear(nodes: usize, scratch: &mut [u32])
+    requires { ⌜ (nodes ≤ 100000) × (8 * nodes ≤ length (now scratch)) ⌝ }
+    ensures { λ _. ⌜ Cleared nodes (now (scratch .exit)) ⌝ }
+{
+    let mut k: usize = 0;
+    while k < 8 * nodes {
+        scratch[k] = 0;
+        k += 1;
+    }
+}
+
+// The literal x at place p, noted at the node that it names: counted in field f, its bit added in field 1, its place kept in
+// field f + 1. The mark names none.
+pub fn note(inputs: usize, nodes: usize, x: u32, p: u32, f: usize, scratch: &mut [u32])
+    requires { ⌜ Counting inputs nodes f (now scratch) 999999 ⌝ }
+    ensures { λ _. ⌜ Noted inputs nodes f x p (now (scratch .entry)) (now (scratch .exit)) ⌝ }
+{
+    let u = wide(x / 2);
+    if u <= inputs {
+        return;
+    }
+    let v = u - (inputs + 1);
+    if nodes <= v {
+        return;
+    }
+    let count = read(scratch, v, f);
+    store(scratch, v, f, count + 1);
+    let odd = read(scratch, v, 1);
+    store(scratch, v, 1, odd + x % 2);
+    store(scratch, v, f + 1, p);
+}
+
+pub fn note_all(
+    inputs: usize,
+    nodes: usize,
+    table: &[u32],
+    words: usize,
+    f: usize,
+    scratch: &mut [u32],
+)
+    requires { ⌜ Noting inputs nodes f (now scratch) × (words ≤ 300000) × (words ≤ length (now table)) ⌝ }
+    ensures { λ _. ⌜ Notes inputs nodes f (now (table .entry)) (now (scratch .entry)) (now (scratch .exit)) words ⌝ }
+{
+    let mut p: usize = 0;
+    while p < words {
+        note(inputs, nodes, table[p], narrow(p), f, scratch);
+        p += 1;
+    }
+}
+
+// The place of the only reader, if that is in the node table.
+pub fn only_place(in_nodes: u32, in_outputs: u32, place: u32) -> u32
+    ensures { λ r. ⌜ r ≡ onlyPlace «in_nodes» «in_outputs» place ⌝ }
+{
+    if in_nodes != 1 {
+        return MARK;
+    }
+    if in_outputs != 0 {
+        return MARK;
+    }
+    place
+}
+
+// All readers of node v, and the place of an only one.
+pub fn gather(scratch: &mut [u32], v: usize)
+    requires { ⌜ (v < 100000) × (8 * v + 8 ≤ length (now scratch)) × (field (now scratch) v 4 ≤ 1000000) × (field (now scratch) v 6 ≤ 1000000) ⌝ }
+    ensures { λ _. ⌜ Gathered v (now (scratch .entry)) (now (scratch .exit)) ⌝ }
+{
+    let a = read(scratch, v, 4);
+    let b = read(scratch, v, 6);
+    let p = read(scratch, v, 5);
+    store(scratch, v, 0, a + b);
+    store(scratch, v, 3, only_place(a, b, p));
+}
+
+pub fn gather_all(nodes: usize, scratch: &mut [u32])
+    requires { ⌜ (nodes ≤ 100000) × (8 * nodes ≤ length (now scratch)) × ((v : ℕ) → v < nodes → (field (now scratch) v 4 ≤ 1000000) × (field (now scratch) v 6 ≤ 1000000)) ⌝ }
+    ensures { λ _. ⌜ GatheredTo nodes (now (scratch .entry)) (now (scratch .exit)) nodes ⌝ }
+{
+    let mut v: usize = 0;
+    while v < nodes {
+        gather(scratch, v);
+        v += 1;
+    }
+}
