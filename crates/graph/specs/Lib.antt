@@ -1,5 +1,6 @@
 pub mod Finite
 pub mod Graph
+pub mod Turned
 pub mod Value
 pub mod Count
 pub mod Admission

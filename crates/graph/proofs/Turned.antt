@@ -1,0 +1,114 @@
+-- Laws of a turned table and a turned graph, and of a sweep half done. From the laws of one turned literal.
+use mathlib.Core.Path.{_≡_, refl, sym, ap, _∙_}
+use mathlib.Core.Logic.{⊎-elim, _≢_}
+use mathlib.Core.List.{List}
+use Prim.Native.Nat.{ℕ, suc, _+_, _≤_, _<_}
+use native.Mathlib.Omega.{arith}
+use lib.Seq.{ext-getD, getD-set-same, getD-set-other}
+use lib.ListN.{length, getD, set, length-set}
+use Rattle.graph.specs.Finite.{tab, ifLess, ifEqual}
+use Rattle.graph.specs.Graph.{Graph, graphOf, turn}
+use Rattle.graph.proofs.Cases.{lt-or-le, eq-or-ne}
+use Rattle.graph.proofs.Finite.{length-tab, getD-tab, tab-same}
+use Rattle.graph.proofs.Tests.{less, no-less, equal, unequal}
+use Rattle.graph.proofs.Turn.{turn-zero, turn-turn}
+use Rattle.graph.specs.Turned.{turnedTable, turnedBy, only, upTo}
+
+pub same-graph : (i n o : ℕ) {ns ns′ os os′ : List ℕ} → ns ≡ ns′ → os ≡ os′ → graphOf i n o ns os ≡ graphOf i n o ns′ os′
+same-graph i n o p q = λ k. record { I = i; N = n; O = o; nodes = p k; outputs = q k }
+
+-- a graph is turned where both tables are
+pub turned-both : (g : Graph) (t o : ℕ → ℕ) (ns os : List ℕ) → ns ≡ turnedTable (g .nodes) t → os ≡ turnedTable (g .outputs) o → graphOf (g .I) (g .N) (g .O) ns os ≡ turnedBy g t o
+unfolding turnedBy
+turned-both g t o ns os p q = same-graph (g .I) (g .N) (g .O) p q
+
+pub only-at : (j t : ℕ) → only j t j ≡ t
+unfolding only
+only-at j t = sym (equal j j t 0 refl refl)
+
+pub only-off : (j t i : ℕ) → i ≢ j → only j t i ≡ 0
+unfolding only
+only-off j t i n = sym (unequal i j t 0 n refl)
+
+pub upTo-past : (j : ℕ) (t : ℕ → ℕ) (i : ℕ) → j ≤ i → upTo j t i ≡ 0
+unfolding upTo
+upTo-past j t i h = sym (no-less i j (t i) 0 h refl)
+
+pub upTo-in : (j : ℕ) (t : ℕ → ℕ) (i : ℕ) → i < j → upTo j t i ≡ t i
+unfolding upTo
+upTo-in j t i h = sym (less i j (t i) 0 h refl)
+
+upTo-next : (j : ℕ) (t : ℕ → ℕ) (i : ℕ) → upTo j t i + only j (t j) i ≡ upTo (j + 1) t i
+upTo-next j t i =
+    ⊎-elim
+    (λ (l : i < j). omega (arith, upTo-in j t i l, upTo-in (j + 1) t i (omega arith), only-off j (t j) i (omega arith)))
+    (λ (l : j ≤ i).
+    ⊎-elim
+    (λ (e : i ≡ j). rw e (omega (arith, upTo-past j t j (omega arith), upTo-in (j + 1) t j (omega arith), only-at j (t j))))
+    (λ (n : i ≢ j). omega (arith, upTo-past j t i l, upTo-past (j + 1) t i (omega arith), only-off j (t j) i n))
+    (eq-or-ne i j))
+    (lt-or-le i j)
+
+module _ (l : List ℕ) where
+  pub turned-length : (t : ℕ → ℕ) → length (turnedTable l t) ≡ length l
+  unfolding turnedTable
+  turned-length t = length-tab _ _
+
+  pub turned-at : (t : ℕ → ℕ) (j : ℕ) → j < length l → getD (turnedTable l t) j 0 ≡ turn (t j) (getD l j 0)
+  unfolding turnedTable
+  turned-at t j h = getD-tab _ _ j h
+
+  -- a table is the turned one where its words are
+  pub turned-by : (t : ℕ → ℕ) (m : List ℕ) → length m ≡ length l → ((j : ℕ) → j < length l → getD m j 0 ≡ turn (t j) (getD l j 0)) → m ≡ turnedTable l t
+  turned-by t m e f = ext-getD 0 _ _ (e ∙ sym (turned-length t)) (λ j h. let k : j < length l = omega arith in f j k ∙ sym (turned-at t j k))
+
+  pub turned-same : (t s : ℕ → ℕ) → ((j : ℕ) → j < length l → t j ≡ s j) → turnedTable l t ≡ turnedTable l s
+  unfolding turnedTable
+  turned-same t s e = tab-same _ _ _ (λ j h. ap (λ (x : ℕ). turn x (getD l j 0)) (e j h))
+
+-- turns one after the other
+pub turned-turned : (l : List ℕ) (t s : ℕ → ℕ) → turnedTable (turnedTable l t) s ≡ turnedTable l (λ j. t j + s j)
+turned-turned l t s =
+    turned-by l (λ j. t j + s j) (turnedTable (turnedTable l t) s)
+    (turned-length (turnedTable l t) s ∙ turned-length l t)
+    (λ j h. turned-at (turnedTable l t) s j (rw (turned-length l t) h) ∙ ap (λ (x : ℕ). turn (s j) x) (turned-at l t j h) ∙ turn-turn (s j) (t j) (getD l j 0))
+
+-- a sweep: the words of l below j are turned, each as often as a function of its place and the word says
+abbrev pub SweptTo : (ℕ → ℕ → ℕ) → List ℕ → ℕ → List ℕ → Type 0
+SweptTo τ l j m = m ≡ turnedTable l (upTo j (λ i. τ i (getD l i 0)))
+
+module _ (τ : ℕ → ℕ → ℕ) (l : List ℕ) where
+  abbrev often : ℕ → ℕ
+  often i = τ i (getD l i 0)
+
+  pub swept-none : SweptTo τ l 0 l
+  swept-none = turned-by l (upTo 0 often) l refl (λ j h. rw (upTo-past 0 often j (omega arith)) (sym (turn-zero (getD l j 0))))
+
+  pub swept-length : (j : ℕ) (m : List ℕ) → SweptTo τ l j m → length m ≡ length l
+  swept-length j m e = ap length e ∙ turned-length l (upTo j often)
+
+  pub swept-left : (j : ℕ) (m : List ℕ) → SweptTo τ l j m → j < length l → getD m j 0 ≡ getD l j 0
+  swept-left j m e h =
+      ap (λ (r : List ℕ). getD r j 0) e ∙ turned-at l (upTo j often) j h
+      ∙ rw (upTo-past j often j (omega arith)) (turn-zero (getD l j 0))
+
+  -- what the leaves say of place j: the sweep is one place further
+  pub swept-next : (j x t : ℕ) (m k : List ℕ) → j < length l → SweptTo τ l j m → x ≡ getD m j 0 → t ≡ τ j x → k ≡ turnedTable m (only j t) → SweptTo τ l (j + 1) k
+  swept-next j x t m k h e r q f =
+      f ∙ ap (λ (y : ℕ). turnedTable m (only j y)) (q ∙ ap (λ (y : ℕ). τ j y) (r ∙ swept-left j m e h))
+      ∙ ap (λ (y : List ℕ). turnedTable y (only j (often j))) e
+      ∙ turned-turned l (upTo j often) (only j (often j))
+      ∙ turned-same l _ _ (λ i p. upTo-next j often i)
+
+  pub swept-all : (e j : ℕ) (m : List ℕ) → j ≡ e → SweptTo τ l j m → SweptTo τ l e m
+  swept-all e j m q s = rw q at s
+
+-- a table with one word stored that is a turned one
+pub table-set : (l : List ℕ) (j t x : ℕ) → j < length l → x ≡ turn t (getD l j 0) → set l j x ≡ turnedTable l (only j t)
+table-set l j t x h e =
+    turned-by l (only j t) (set l j x) (length-set l j x)
+    (λ i k.
+    ⊎-elim
+    (λ (q : i ≡ j). rw (q, only-at j t) (getD-set-same l j x 0 h ∙ e))
+    (λ (q : i ≢ j). rw (only-off j t i q) (getD-set-other l j i x 0 q ∙ sym (turn-zero (getD l i 0))))
+    (eq-or-ne i j))
