@@ -177,7 +177,7 @@ mod plain {
 
     pub fn tree(s: &mut Sample, l: &mut Lent) -> u64 {
         let mut t = tables(&mut s.g);
-        s.roots.iter().map(|&v| calls::tree_call(&mut t, v, l.scratch.len()).unwrap() as u64).sum()
+        s.roots.iter().map(|&v| settle::tree_call(&mut t, v, l.scratch.len()).unwrap() as u64).sum()
     }
 
     pub fn settle(s: &mut Sample, l: &mut Lent) -> u64 {

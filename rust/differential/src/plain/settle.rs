@@ -1,9 +1,9 @@
-//! Settling in linear time a round. Words stay where they are; a node's readers are turned by one pending bit, which a last
+//! The tree call, and settling in linear time a round. Words stay where they are; a node's readers are turned by one pending bit, which a last
 //! sweep writes out. Readers, roots and trees are found once, since no move changes the wiring.
 
-use super::calls::Tables;
+use super::calls::{is_node, readers_of, Tables};
 use super::decide::{best_pair, flags, least_of, Costs, Numbers};
-use super::{admit, complemented, Number};
+use super::{admit, complemented, Number, View};
 use reducer::{Settled, MARK};
 
 #[derive(Clone, Copy, Default)]
@@ -253,4 +253,27 @@ pub fn settle(t: &mut Tables, scratch: usize) -> Result<Settled, Number> {
     let after = s.count;
     s.write_out();
     Ok(Settled { rounds, before, after })
+}
+
+/// A root is found by a scan, before scratch is looked at.
+fn is_root(g: &View, root: u32) -> bool {
+    readers_of(g, root).0 != 1 || g.outs().iter().any(|&word| word / 2 == root)
+}
+
+pub fn tree_call(t: &mut Tables, root: u32, scratch: usize) -> Result<u32, Number> {
+    let g = t.view();
+    admit(&g)?;
+    if !is_node(&g, root) || !is_root(&g, root) {
+        return Err(7);
+    }
+    if scratch < 8 * g.nodes as usize {
+        return Err(8);
+    }
+    let v = (root - g.inputs - 1) as usize;
+    let mut s = Settling::new(t);
+    let before = s.count;
+    s.tree_step(v);
+    let saved = before - s.count;
+    s.write_out();
+    Ok(saved)
 }
