@@ -1,16 +1,28 @@
 -- What a word adds to C is at most 1, and C at most the number of words. Assumes nothing.
+use mathlib.Core.Path.{_≡_}
 use mathlib.Core.Bool.{_&&_}
+use mathlib.Core.Logic.{_≢_}
 use Prim.Native.Nat.{ℕ, _+_, _*_, _/_, _%_, _≤_}
 use native.Mathlib.Omega.{arith}
+use borrow.Author.Tests.{ne-eqb}
 use lib.Dec.{eqb}
 use Rattle.graph.specs.Graph.{Graph, mark}
-use Rattle.graph.specs.Count.{C, adds, nodeAdds, outputAdds, wordAdds}
+use Rattle.graph.specs.Count.{C, edgeAdds, adds, nodeAdds, outputAdds, wordAdds}
 use Rattle.graph.proofs.Cases.{cond-le}
 use Rattle.graph.proofs.Finite.{sum-le}
 
+pub edgeAdds-le : (u b : ℕ) → b ≤ 1 → edgeAdds u b ≤ 1
+unfolding edgeAdds
+edgeAdds-le u b l = cond-le (eqb u 0) 0 b 1 (omega arith) l
+
+-- an edge that names a node adds its bit
+pub edgeAdds-bit : (u b : ℕ) → u ≢ 0 → edgeAdds u b ≡ b
+unfolding edgeAdds
+edgeAdds-bit u b d = rw (ne-eqb u 0 d)
+
 pub adds-le : (x : ℕ) → adds x ≤ 1
 unfolding adds
-adds-le x = cond-le (eqb (x / 2) 0) 0 (x % 2) 1 (omega arith) (omega arith)
+adds-le x = edgeAdds-le (x / 2) (x % 2) (omega arith)
 
 pub wordAdds-le : (j x : ℕ) → wordAdds j x ≤ 1
 unfolding wordAdds

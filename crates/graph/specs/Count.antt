@@ -5,9 +5,13 @@ use lib.Dec.{eqb}
 use Rattle.graph.specs.Finite.{sum, count}
 use Rattle.graph.specs.Graph.{Graph, mark, word, output, index, complement, isEdge}
 
--- what a literal adds to C: an edge counts if its index is not 0
+-- what an edge with index u and bit b adds to C: it counts if its index is not 0
+unfoldable pub edgeAdds : ℕ → ℕ → ℕ
+edgeAdds u b = cond (eqb u 0) 0 b
+
+-- what a literal adds to C
 unfoldable pub adds : ℕ → ℕ
-adds x = cond (eqb (index x) 0) 0 (complement x)
+adds x = edgeAdds (index x) (complement x)
 
 -- what the word x at place j of a node table adds to C: the mark is no edge, though it is odd
 unfoldable pub wordAdds : ℕ → ℕ → ℕ

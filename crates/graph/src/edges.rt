@@ -5,18 +5,25 @@ ghost use Prim.Native.Nat.{ℕ, _*_, _≤_};
 ghost use lib.ListN.{length};
 ghost use Rattle.graph.specs.Finite.{sum};
 ghost use Rattle.graph.specs.Graph.{graphOf};
-ghost use Rattle.graph.specs.Count.{adds, wordAdds, nodeAdds, outputAdds, C};
+ghost use Rattle.graph.specs.Count.{edgeAdds, adds, wordAdds, nodeAdds, outputAdds, C};
 ghost use Rattle.graph.specs.Admission.{Admitted};
 use crate::literal::MARK;
+
+// What an edge with index u and bit b adds to C.
+pub fn edge_adds(u: u32, b: u32) -> u32
+    ensures { λ r. ⌜ r ≡ edgeAdds u b ⌝ }
+{
+    if u == 0 {
+        return 0;
+    }
+    b
+}
 
 // What a literal adds to C.
 pub fn literal_adds(x: u32) -> u32
     ensures { λ r. ⌜ r ≡ adds x ⌝ }
 {
-    if x / 2 == 0 {
-        return 0;
-    }
-    x % 2
+    edge_adds(x / 2, x % 2)
 }
 
 // What the word at place j of a node table adds to C.

@@ -9,7 +9,7 @@ use borrow.Author.Tests.{eqb-true, eqb-false, eq-eqb, ne-eqb, not-false, not-tru
 use lib.Dec.{eqb, ltb}
 use lib.ListN.{getD}
 use Rattle.graph.specs.Admission.{Admitted}
-use Rattle.graph.specs.Count.{adds, wordAdds, nodeAdds, outputAdds}
+use Rattle.graph.specs.Count.{edgeAdds, adds, wordAdds, nodeAdds, outputAdds}
 use Rattle.graph.specs.Finite.{ifLess, sum}
 use Rattle.graph.specs.Graph.{Graph, mark, isEdge, isXor, turn, node, word, output}
 use Rattle.moves.specs.Apply.{Choice, own, seen, turns, outputTurns, apply, at}
@@ -72,7 +72,7 @@ module _ (g : Graph) (d : Choice) where
   plain u b = cond (eqb u 0) 0 ((b + seen g d u) % 2)
 
   adds-turn : (x t b : ℕ) → x + t ≡ b + seen g d (x / 2) → adds (turn t x) ≡ plain (x / 2) b
-  unfolding adds
+  unfolding adds edgeAdds
   adds-turn x t b e = rw (turn-half t x, turn-bit t x, e)
 
   module _ (adm : Admitted g) where
