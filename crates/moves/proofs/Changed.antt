@@ -15,6 +15,7 @@ use Rattle.graph.specs.Graph.{Graph, mark, isEdge, isXor, turn, node, word, out
 use Rattle.moves.specs.Apply.{Choice, own, seen, turns, outputTurns, apply, at}
 use Rattle.moves.specs.Rows.{firstRow, arity, flag, rows}
 use Rattle.graph.proofs.Cases.{true-or-false, cond-same}
+use Rattle.graph.proofs.Adds.{edgeAdds-bit}
 use Rattle.graph.proofs.Turn.{turn-half, turn-bit}
 use Rattle.moves.proofs.Apply.{node-at, out-at, same-mark, turns-edge, turns-mark, outputTurns-at}
 use Rattle.moves.proofs.Compose.{seen-node}
@@ -69,10 +70,13 @@ module _ (g : Graph) (d : Choice) where
 
   -- what an edge adds that names u, its bit being b after its own node's move
   abbrev pub plain : ℕ → ℕ → ℕ
-  plain u b = cond (eqb u 0) 0 ((b + seen g d u) % 2)
+  plain u b = edgeAdds u ((b + seen g d u) % 2)
+
+  pub plain-node : (v b : ℕ) → v < g .N → plain (node g v) b ≡ (b + flag (isXor g v) (d (node g v)) 3) % 2
+  plain-node v b h = edgeAdds-bit (node g v) ((b + seen g d (node g v)) % 2) (λ z. omega arith) ∙ ap (λ x. (b + x) % 2) (seen-node g d v h)
 
   adds-turn : (x t b : ℕ) → x + t ≡ b + seen g d (x / 2) → adds (turn t x) ≡ plain (x / 2) b
-  unfolding adds edgeAdds
+  unfolding adds
   adds-turn x t b e = rw (turn-half t x, turn-bit t x, e)
 
   module _ (adm : Admitted g) where

@@ -10,7 +10,7 @@ use borrow.Author.Tests.{eq-eqb, ne-eqb}
 use lib.Dec.{eqb}
 use lib.ListN.{getD}
 use Rattle.graph.specs.Admission.{Admitted}
-use Rattle.graph.specs.Count.{C, edgeAdds, adds, readers}
+use Rattle.graph.specs.Count.{C, adds, readers}
 use Rattle.graph.specs.Finite.{ifEqual}
 use Rattle.graph.specs.Graph.{Graph, isXor, node, word}
 use Rattle.choice.specs.Choice.{Fits, _≺_, FirstBelow}
@@ -32,7 +32,7 @@ use Rattle.moves.proofs.TreeBest.{movesAt-node}
 -- a word's cost after a choice: the choice turns it where it turns the readers of what the word names
 module _ (g : Graph) (d : Choice) (v i t : ℕ) where
   after-is : afterMove g d v i t ≡ wordAfter g v i ((t + seen g d (word g (3 * v + i) / 2)) % 2)
-  unfolding afterMove wordAfter adds edgeAdds
+  unfolding afterMove wordAfter adds
   after-is =
       let x : ℕ = word g (3 * v + i) in
       let s : ℕ = seen g d (x / 2) in

@@ -5,15 +5,16 @@ use mathlib.Core.Bool.{Bool, true, false, cond}
 use mathlib.Core.List.{List, [], _∷_}
 use Prim.Native.Nat.{ℕ, zero, suc, _+_, _-_, _*_, _/_, _%_, _≤_, _<_}
 use native.Mathlib.Omega.{arith}
-use lib.Dec.{eqb}
 use lib.ListN.{getD}
 use Rattle.graph.specs.Finite.{ifEqual}
 use Rattle.graph.specs.Graph.{Graph, node, word, isEdge, isXor}
-use Rattle.graph.specs.Count.{readers}
+use Rattle.graph.specs.Count.{edgeAdds, readers}
 use Rattle.choice.specs.Choice.{FirstBelow}
 use Rattle.moves.specs.Rows.{flag, arity}
 use Rattle.moves.specs.Cost.{edgeCost, turnedCost, wordCosts, wordCost, ownCost, moveCost, nodeCost, pick, rootCost, shown}
 use Rattle.moves.specs.Decide.{costBy, costWith, Numbers}
+use Rattle.graph.proofs.Adds.{edgeAdds-le}
+use Rattle.graph.proofs.Cases.{cond-le}
 use Rattle.moves.proofs.Flags.{flag-bit}
 use Rattle.moves.proofs.Shown.{all-readers, one-reader}
 use Rattle.moves.proofs.TreeBest.{least-moves}
@@ -73,12 +74,7 @@ module _ (g : Graph) (t : ℕ → Bool) (c : ℕ → ℕ → ℕ) (v : ℕ) wher
 module _ (g : Graph) (t : ℕ → Bool) (c : ℕ → ℕ → ℕ) (v : ℕ) (low : (u s : ℕ) → c u s ≤ 1) where
   edge-le : (u b : ℕ) → b ≤ 1 → edgeCost t c u b ≤ 1
   unfolding edgeCost
-  edge-le u b l = go (eqb u 0) (t u)
-    where
-      go : (x y : Bool) → cond x 0 (cond y (c u b) b) ≤ 1
-      go true y = omega arith
-      go false true = low u b
-      go false false = l
+  edge-le u b l = cond-le (t u) (c u b) (edgeAdds u b) 1 (low u b) (edgeAdds-le u b l)
 
   turned-le : (i f : ℕ) → turnedCost g t c v i f ≤ 1
   unfolding turnedCost

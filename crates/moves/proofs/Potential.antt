@@ -4,7 +4,7 @@ use mathlib.Core.Bool.{Bool, true, false, not, cond, _&&_, and-false}
 use mathlib.Core.Logic.{_⊎_, inl, inr, ⊎-elim, _≢_}
 use Prim.Native.Nat.{ℕ, zero, suc, _+_, _-_, _*_, _/_, _%_, _≤_, _<_}
 use native.Mathlib.Omega.{arith}
-use borrow.Author.Tests.{ltb-true, ltb-false, eqb-true, eqb-false, eq-eqb, ne-eqb, not-false, not-true, lt-ltb, le-ltb}
+use borrow.Author.Tests.{ltb-true, ltb-false, eqb-true, eqb-false, eq-eqb, not-false, not-true, lt-ltb, le-ltb}
 use lib.Dec.{eqb, ltb}
 use lib.ListN.{getD}
 use Rattle.graph.specs.Admission.{Admitted}
@@ -17,10 +17,10 @@ use Rattle.moves.specs.Rows.{flag}
 use Rattle.moves.specs.Tree.{isRoot, place, reader, rootOf}
 use Rattle.graph.proofs.Cases.{true-or-false, cond-same, lt-or-le}
 use Rattle.graph.proofs.Finite.{sum-same}
-use Rattle.moves.proofs.Compose.{seen-node, seen-low}
+use Rattle.moves.proofs.Compose.{seen-low}
 use Rattle.moves.proofs.Count.{clash, sum-but-node, sum-but-node-and-one}
 use Rattle.moves.proofs.Readers.{both-true, names, named-by, single, reader-above, reader-is, rootOf-root, rootOf-inner, rootOf-above, not-root}
-use Rattle.moves.proofs.Changed.{at-same, at-other, seen-other, own-other, own-at, seen-none, own-none, plain, node-adds, out-adds}
+use Rattle.moves.proofs.Changed.{at-same, at-other, seen-other, own-other, own-at, seen-none, own-none, plain, plain-node, node-adds, out-adds}
 
 -- one of the first n nodes, and in the tree of r
 unfoldable pub undecided : Graph → ℕ → ℕ → ℕ → Bool
@@ -135,7 +135,7 @@ module _ (g : Graph) (c : ℕ → ℕ → ℕ) (r : ℕ) (adm : Admitted g) wher
           let u : ℕ = word g (3 * n + i) / 2 in
           let q : inner g u ≡ undecided g r n u = sym (inner-is i l e) in
           ⊎-elim
-          (λ (y : undecided g r n u ≡ true). let x = undecided-is g r n u y in rw (q, y, ne-eqb u 0 (λ z. omega (arith, x .high))))
+          (λ (y : undecided g r n u ≡ true). rw (q, y))
           (λ (y : undecided g r n u ≡ false).
           let z : seen g (at d (node g n) k) u ≡ 0 =
           seen-other d (node g n) k g u (λ z. omega (arith, lower i l e)) ∙
@@ -196,9 +196,8 @@ module _ (g : Graph) (c : ℕ → ℕ → ℕ) (r : ℕ) (adm : Admitted g) wher
               a .0,
               a .1,
               undecided-past g r n (node g n) (omega arith),
-              ne-eqb (node g n) 0 (λ z. omega arith),
               own-other d (node g n) k g (place g (node g n)) (λ z. omega arith),
-              seen-node g (at d (node g n) k) n h,
+              plain-node g (at d (node g n) k) n (word g (place g (node g n)) + own g d (place g (node g n))) h,
               at-same d (node g n) k,
             )
             (omega arith)

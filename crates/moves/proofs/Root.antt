@@ -17,10 +17,9 @@ use Rattle.moves.specs.Rows.{flag}
 use Rattle.moves.specs.Tree.{isRoot, place, reader, rootOf}
 use Rattle.graph.proofs.Cases.{true-or-false, cond-same, lt-or-le}
 use Rattle.graph.proofs.Finite.{sum-same}
-use Rattle.moves.proofs.Compose.{seen-node, seen-low}
 use Rattle.moves.proofs.Count.{clash, sum-add, sum-but-node}
 use Rattle.moves.proofs.Readers.{both-true, names, named-by, rootOf-root}
-use Rattle.moves.proofs.Changed.{at-same, at-other, seen-other, own-other, own-at, seen-none, own-none, plain, node-adds, out-adds}
+use Rattle.moves.proofs.Changed.{at-same, at-other, seen-other, own-other, own-at, seen-none, own-none, plain, plain-node, node-adds, out-adds}
 use Rattle.moves.proofs.Potential.{undecided, part, term, Φ, Off, undecided-past, own-word, away-word, away-out}
 
 -- what no move of the root changes
@@ -48,10 +47,9 @@ module _ (g : Graph) (c : ℕ → ℕ → ℕ) (adm : Admitted g) (n : ℕ) (h :
         m .0,
         m .1,
         undecided-past g (node g n) n (node g n) (omega arith),
-        ne-eqb (node g n) 0 (λ z. omega arith),
         own-other none (node g n) k g j (λ z. omega arith),
         own-none g none j refl,
-        seen-node g (at none (node g n) k) n h,
+        plain-node g (at none (node g n) k) n (word g j + 0) h,
         at-same none (node g n) k,
       )
       (omega arith)
@@ -86,7 +84,7 @@ module _ (g : Graph) (c : ℕ → ℕ → ℕ) (adm : Admitted g) (n : ℕ) (h :
   out-apart j l =
       ⊎-elim
       (λ (e : eqb (output g j / 2) (node g n) ≡ true).
-      rw (e, out-adds g (at none (node g n) k) adm j l, eqb-true (output g j / 2) (node g n) e, ne-eqb (node g n) 0 (λ z. omega arith), seen-node g (at none (node g n) k) n h, at-same none (node g n) k)
+      rw (e, out-adds g (at none (node g n) k) adm j l, eqb-true (output g j / 2) (node g n) e, plain-node g (at none (node g n) k) n (output g j) h, at-same none (node g n) k)
       (omega arith))
       (λ (e : eqb (output g j / 2) (node g n) ≡ false).
       rw e (omega (arith, away-out g c (node g n) adm n h own-root none (λ u q. refl) k j l (eqb-false _ _ e))))

@@ -19,12 +19,11 @@ use Rattle.moves.specs.Decide.{costBy, costWith}
 use Rattle.moves.specs.Rows.{flag}
 use Rattle.graph.proofs.Cases.{true-or-false, eq-or-ne}
 use Rattle.graph.proofs.Finite.{sum-same}
-use Rattle.moves.proofs.Compose.{seen-node}
 use Rattle.moves.proofs.Count.{clash, sum-add, sum-but-node}
 use Rattle.moves.proofs.Flags.{flag-bit}
 use Rattle.moves.proofs.Readers.{names, named-by}
 use Rattle.moves.proofs.Shown.{all-readers}
-use Rattle.moves.proofs.Changed.{at-same, at-other, seen-other, own-other, own-at, own-none, plain, node-adds, out-adds}
+use Rattle.moves.proofs.Changed.{at-same, at-other, seen-other, own-other, own-at, own-none, plain, plain-node, node-adds, out-adds}
 
 -- what word i + 1 of node v adds after d, turned t times more
 unfoldable pub afterMove : Graph → Choice → ℕ → ℕ → ℕ → ℕ
@@ -66,10 +65,9 @@ module _ (g : Graph) (adm : Admitted g) (d : Choice) (v : ℕ) (h : v < g .N) (q
         node-adds g (at d (node g v) k) adm j l,
         m .0,
         m .1,
-        ne-eqb (node g v) 0 (λ z. omega arith),
         own-other d (node g v) k g j (λ z. omega arith),
         own-none g d j (quiet (node g (j / 3)) (omega arith)),
-        seen-node g (at d (node g v) k) v h,
+        plain-node g (at d (node g v) k) v (word g j + 0) h,
         at-same d (node g v) k,
       )
       (omega arith)
@@ -108,7 +106,7 @@ module _ (g : Graph) (adm : Admitted g) (d : Choice) (v : ℕ) (h : v < g .N) (q
   out-apart j l =
       ⊎-elim
       (λ (e : eqb (output g j / 2) (node g v) ≡ true).
-      rw (e, out-adds g (at d (node g v) k) adm j l, eqb-true (output g j / 2) (node g v) e, ne-eqb (node g v) 0 (λ z. omega arith), seen-node g (at d (node g v) k) v h, at-same d (node g v) k)
+      rw (e, out-adds g (at d (node g v) k) adm j l, eqb-true (output g j / 2) (node g v) e, plain-node g (at d (node g v) k) v (output g j) h, at-same d (node g v) k)
       (omega arith))
       (λ (e : eqb (output g j / 2) (node g v) ≡ false).
       rw (e, out-adds g (at d (node g v) k) adm j l, seen-other d (node g v) k g (output g j / 2) (eqb-false _ _ e)) (omega (arith, out-adds g d adm j l)))

@@ -7,6 +7,7 @@ use Prim.Native.Nat.{ℕ, _+_, _-_, _*_, _/_, _%_, _≤_, _<_}
 use native.Mathlib.Omega.{arith}
 use borrow.Author.Tests.{eq-eqb, ne-eqb, lt-ltb, le-ltb}
 use lib.Dec.{eqb}
+use Rattle.graph.specs.Count.{edgeAdds}
 use Rattle.graph.specs.Finite.{ifEqual}
 use Rattle.graph.specs.Graph.{Graph, mark, node, word, isEdge, isXor}
 use Rattle.moves.specs.Cost.{edgeCost, turnedCost, wordCosts, bitCost}
@@ -23,22 +24,18 @@ use Rattle.moves.proofs.NodeCosts.{numbers-low}
 use Rattle.trees.proofs.TreeNumbers.{bits-are}
 
 module _ (i : ℕ) (sc : List ℕ) (u b : ℕ) where
-  pub edge-constant : u ≡ 0 → 0 ≡ edgeCost (innerAt i sc) (costAt i sc) u b
-  unfolding edgeCost
-  edge-constant e = rw (eq-eqb u 0 e)
-
-  pub edge-input : u ≢ 0 → u ≤ i → b ≡ edgeCost (innerAt i sc) (costAt i sc) u b
+  pub edge-input : u ≤ i → {r : ℕ} → r ≡ edgeAdds u b → r ≡ edgeCost (innerAt i sc) (costAt i sc) u b
   unfolding edgeCost innerAt
-  edge-input d l = rw (ne-eqb u 0 d, le-ltb i u l)
+  edge-input l s = rw (le-ltb i u l) s
 
-  pub edge-root : (v : ℕ) → i < u → v ≡ u - (i + 1) → field sc v 3 ≡ mark → b ≡ edgeCost (innerAt i sc) (costAt i sc) u b
+  pub edge-root : (v : ℕ) → i < u → v ≡ u - (i + 1) → field sc v 3 ≡ mark → {r : ℕ} → r ≡ edgeAdds u b → r ≡ edgeCost (innerAt i sc) (costAt i sc) u b
   unfolding edgeCost innerAt
-  edge-root v l e m = rw (ne-eqb u 0 (omega arith), lt-ltb i u l, ← e, eq-eqb (field sc v 3) mark m)
+  edge-root v l e m s = rw (lt-ltb i u l, ← e, eq-eqb (field sc v 3) mark m) s
 
   pub edge-inner : (v x : ℕ) → i < u → v ≡ u - (i + 1) → field sc v 3 ≢ mark → x ≡ field sc v 4
       → {r : ℕ} → r ≡ ifEqual b 0 (x % 2) (x / 2 % 2) → r ≡ edgeCost (innerAt i sc) (costAt i sc) u b
   unfolding edgeCost innerAt costAt
-  edge-inner v x l e m q s = rw (ne-eqb u 0 (omega arith), lt-ltb i u l, ← e, ne-eqb (field sc v 3) mark m, ← q) s
+  edge-inner v x l e m q s = rw (lt-ltb i u l, ← e, ne-eqb (field sc v 3) mark m, ← q) s
 
 pub costs-low : (i : ℕ) (sc : List ℕ) (u s : ℕ) → costAt i sc u s ≤ 1
 unfolding costAt ifEqual

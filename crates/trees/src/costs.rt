@@ -13,6 +13,7 @@ ghost use Rattle.state.specs.State.{stands, Ordered};
 ghost use Rattle.trees.specs.Costing.{innerAt, costAt, LeastCost, CostBits, CostedBelow, CostsOnly};
 use crate::fields::read;
 use crate::fields::store;
+use graph::edges::edge_adds;
 use graph::literal;
 use graph::literal::MARK;
 use moves::decide;
@@ -36,15 +37,12 @@ pub fn edge_cost(inputs: u32, nodes: u32, u: u32, b: u32, scratch: &[u32]) -> u3
     requires { ⌜ (inputs ≤ 4096) × (nodes ≤ 100000) × (u < inputs + 1 + nodes) × (8 * nodes ≤ length (now scratch)) ⌝ }
     ensures { λ r. ⌜ r ≡ edgeCost (innerAt inputs (now (scratch .entry))) (costAt inputs (now (scratch .entry))) u b ⌝ }
 {
-    if u == 0 {
-        return 0;
-    }
     if u <= inputs {
-        return b;
+        return edge_adds(u, b);
     }
     let v = wide(u - (inputs + 1));
     if read(scratch, v, 3) == MARK {
-        return b;
+        return edge_adds(u, b);
     }
     stored_bit(read(scratch, v, 4), b)
 }
