@@ -12,9 +12,10 @@ use lib.ListN.{length, getD}
 use Rattle.graph.specs.Admission.{Admitted}
 use Rattle.graph.specs.Graph.{Graph, turn, isEdge, isXor}
 use Rattle.moves.specs.Apply.{Choice, apply, turns, outputTurns, own, seen, compose, Permitted}
-use Rattle.moves.specs.Rows.{flag, combined, arity}
+use Rattle.moves.specs.Rows.{flag, combined}
 use Rattle.graph.proofs.Cases.{lt-or-le, true-or-false, cond-same}
 use Rattle.graph.proofs.Turn.{turn-half, turn-zero, turn-turn, turn-same}
+use Rattle.moves.proofs.Moves.{node-row}
 use Rattle.moves.proofs.Apply.{length-nodes, length-outputs, node-at, out-at, wiring, out-wiring, same-xor, same-edge, admitted, turns-past, turns-mark, turns-edge, outputTurns-past, outputTurns-at}
 use Rattle.moves.proofs.Flags.{flag-both}
 
@@ -78,7 +79,7 @@ module _ (g : Graph) (m n : Choice) where
 
 module _ (g : Graph) (m n : Choice) (vm : Permitted g m) (vn : Permitted g n) where
   flag-join : (v k : ℕ) → v < g .N → k < 4 → flag (isXor g v) (compose g m n (g .I + 1 + v)) k ≡ (flag (isXor g v) (m (g .I + 1 + v)) k + flag (isXor g v) (n (g .I + 1 + v)) k) % 2
-  flag-join v k h l = rw (join-at g m n v) (flag-both (isXor g v) _ _ k (vm v h) (vn v h) l)
+  flag-join v k h l = rw (join-at g m n v) (flag-both (isXor g v) _ _ k (node-row g v _ (vm v h)) (node-row g v _ (vn v h)) l)
 
   pub seen-join : (u : ℕ) → seen g (compose g m n) u ≡ (seen g m u + seen g n u) % 2
   seen-join =

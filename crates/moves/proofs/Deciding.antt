@@ -21,6 +21,7 @@ use Rattle.graph.proofs.Cases.{true-or-false}
 use Rattle.graph.proofs.Finite.{sum-le}
 use Rattle.moves.proofs.Shown.{shown-both}
 use Rattle.moves.proofs.Flags.{by-flag}
+use Rattle.moves.proofs.Moves.{moves-of}
 use Rattle.moves.proofs.Tally.{if-bit}
 
 -- the table has the flags
@@ -90,16 +91,20 @@ pub numbers-low : (g : Graph) (v : ℕ) → Admitted g → Counted (numbersOf g 
 unfolding numbersOf readers nodeReaders count
 numbers-low g v adm =
     record {
-      bits = own-le g v;
-      some = omega (arith, shown-both g (node g v));
-      few =
-          omega (
-            arith,
-            adm .few-nodes,
-            adm .few-outputs,
-            sum-le (λ j. cond (named g (node g v) j) 1 0) (λ j. one-or-none (named g (node g v) j)) (3 * g .N),
-            sum-le (λ j. cond (outputNamed g (node g v) j) 1 0) (λ j. one-or-none (outputNamed g (node g v) j)) (g .O),
-          );
+      numbers =
+          record {
+            bits = own-le g v;
+            some = omega (arith, shown-both g (node g v));
+            few =
+                omega (
+                  arith,
+                  adm .few-nodes,
+                  adm .few-outputs,
+                  sum-le (λ j. cond (named g (node g v) j) 1 0) (λ j. one-or-none (named g (node g v) j)) (3 * g .N),
+                  sum-le (λ j. cond (outputNamed g (node g v) j) 1 0) (λ j. one-or-none (outputNamed g (node g v) j)) (g .O),
+                );
+          };
+      has = moves-of g v;
     }
   where
     one-or-none : (b : Bool) → cond b 1 0 ≤ 1
@@ -200,15 +205,15 @@ module _ (p n : NodeNumbers) (w : List ℕ) (a : ℕ) where
   pair-is k s t z e q r = rw (q, r, e)
 
 -- the node's answer
-pub answered : (n : NodeNumbers) (w z : List ℕ) (f k c : ℕ) → Counted n → z ≡ given (n .costs) w f → LeastBelow (costWith (n .xor) z (n .readers) (n .odd)) (arity (n .xor)) k c
+pub answered : (n : NodeNumbers) (w z : List ℕ) (f k c : ℕ) → Counted n → z ≡ given (n .costs) w f → LeastBelow (costWith (n .xor) z (n .readers) (n .odd)) (n .moves) k c
     → Answered n w f k (c + (getD z 1 0 + getD z 3 0 + getD z 5 0))
 unfolding others
 answered n w z f k c h e l =
-    let b = given-counted (n .costs) w z f (n .readers) (n .odd) e h in
+    let b = given-counted (n .costs) w z f (n .readers) (n .odd) e (h .numbers) in
     record {
       found = rw (← e) (l .found);
       cost = rw (← e) (omega (arith, l .cost));
-      low = omega (arith, l .cost, cost-le (n .xor) z (n .readers) (n .odd) k b, b .bits 1, b .bits 3, b .bits 5, h .few);
+      low = omega (arith, l .cost, cost-le (n .xor) z (n .readers) (n .odd) k b, b .bits 1, b .bits 3, b .bits 5, h .numbers .few);
     }
 
 -- the first least pair: the named node's move is weighed with the node's answer to it
@@ -224,9 +229,9 @@ module _ (p n : NodeNumbers) (w : List ℕ) (k₀ c₀ k₁ c₁ : ℕ) (still :
   costs : ℕ → ℕ → ℕ
   costs f k = costWith (n .xor) (given (n .costs) w f) (n .readers) (n .odd) k
 
-  answer-first : (a : ℕ) → FirstBelow (costs (flag (p .xor) a 3)) (arity (n .xor)) (answer a)
+  answer-first : (a : ℕ) → FirstBelow (costs (flag (p .xor) a 3)) (n .moves) (answer a)
   unfolding answer ifEqual costs
-  answer-first a = by-flag (λ f. FirstBelow (costs f) (arity (n .xor)) (ifEqual f 0 k₀ k₁)) (still .found) (turned .found) (p .xor) a 3 (omega arith)
+  answer-first a = by-flag (λ f. FirstBelow (costs f) (n .moves) (ifEqual f 0 k₀ k₁)) (still .found) (turned .found) (p .xor) a 3 (omega arith)
 
   weighed-is : (a : ℕ) → weighed a ≡ pairCost p n w a (answer a)
   unfolding weighed costBy pairCost costWith costGiven answer costs ifEqual
@@ -241,8 +246,8 @@ module _ (p n : NodeNumbers) (w : List ℕ) (k₀ c₀ k₁ c₁ : ℕ) (still :
       3
       (omega arith)
 
-  pub pair-of : (a f k : ℕ) → FirstBelow (costBy (p .xor) (p .costs) (p .odd + c₀) (p .readers - p .odd + c₁)) (arity (p .xor)) a → f ≡ flag (p .xor) a 3 → k ≡ ifEqual f 0 k₀ k₁
-      → FirstPair (pairCost p n w) (arity (p .xor)) (arity (n .xor)) a k
+  pub pair-of : (a f k : ℕ) → FirstBelow (costBy (p .xor) (p .costs) (p .odd + c₀) (p .readers - p .odd + c₁)) (p .moves) a → f ≡ flag (p .xor) a 3 → k ≡ ifEqual f 0 k₀ k₁
+      → FirstPair (pairCost p n w) (p .moves) (n .moves) a k
   unfolding pairCost costGiven costs weighed answer
   pair-of a f k b d r =
       let same : k ≡ answer a = rw d at r in

@@ -19,14 +19,14 @@ use Rattle.graph.proofs.Finite.{tab-same}
 use Rattle.graph.proofs.Turn.{turn-zero}
 use Rattle.choice.specs.Choice.{best, Fits, zeros}
 use Rattle.choice.proofs.Best.{best-is, best-zeros}
-use Rattle.moves.specs.Rows.{arity, movesAt}
+use Rattle.moves.specs.Rows.{movesAt}
 use Rattle.moves.specs.Apply.{Choice, none, at, put, Permitted, turns, outputTurns, apply}
 use Rattle.moves.specs.Call.{moved, movedC, bestAt, rewrite}
 use Rattle.moves.proofs.Apply as applied
 use Rattle.moves.proofs.Compose.{same-graph}
 use Rattle.moves.proofs.Changed.{at-same, at-other, seen-none, own-none}
 use Rattle.moves.proofs.Values.{out-kept}
-use Rattle.moves.proofs.TreeBest.{movesAt-node, movesAt-fit, arity-pos}
+use Rattle.moves.proofs.Moves.{movesAt-fit}
 
 same-wiring : (i n o : ℕ) {ns ns′ os os′ : List ℕ} → ns ≡ ns′ → os ≡ os′
     → _≡_ {A = Wiring} (record { I = i; N = n; O = o; nodes = ns; outputs = os }) (record { I = i; N = n; O = o; nodes = ns′; outputs = os′ })

@@ -1,4 +1,5 @@
 pub mod Flags
+pub mod Moves
 pub mod Apply
 pub mod Compose
 pub mod Values

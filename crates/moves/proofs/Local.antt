@@ -4,13 +4,14 @@ use mathlib.Core.Bool.{Bool, true, false}
 use mathlib.Core.Logic.{⊎-elim}
 use Prim.Native.Nat.{ℕ, _+_, _*_, _/_, _%_, _<_}
 use native.Mathlib.Omega.{arith}
-use Rattle.graph.specs.Graph.{Graph, isEdge, isXor, word}
+use Rattle.graph.specs.Graph.{Graph, isEdge, isXor, node, word}
 use Rattle.moves.specs.Cost.{edgeCost, turnedCost, wordCosts, wordCost, ownCost, moveCost, nodeCost, baseCost, bitCost}
 use Rattle.moves.specs.Decide.{costWith}
+use Rattle.moves.specs.Rows.{movesAt}
 use Rattle.graph.proofs.Cases.{true-or-false}
 
 -- two graphs that have the same words at node v
-module _ (g g′ : Graph) (t t′ : ℕ → Bool) (c c′ : ℕ → ℕ → ℕ) (v : ℕ) (kind : isXor g v ≡ isXor g′ v)
+module _ (g g′ : Graph) (t t′ : ℕ → Bool) (c c′ : ℕ → ℕ → ℕ) (v : ℕ) (kind : isXor g v ≡ isXor g′ v) (moves : movesAt g (node g v) ≡ movesAt g′ (node g′ v))
     (edge : (i : ℕ) → i < 3 → isEdge g (3 * v + i) ≡ isEdge g′ (3 * v + i)) (words : (i : ℕ) → i < 3 → word g (3 * v + i) ≡ word g′ (3 * v + i))
     (alike : (i : ℕ) → i < 3 → isEdge g′ (3 * v + i) ≡ true → t (word g′ (3 * v + i) / 2) ≡ t′ (word g′ (3 * v + i) / 2))
     (same : (i s : ℕ) → i < 3 → isEdge g′ (3 * v + i) ≡ true → t′ (word g′ (3 * v + i) / 2) ≡ true → s < 2 → c (word g′ (3 * v + i) / 2) s ≡ c′ (word g′ (3 * v + i) / 2) s) where
@@ -52,7 +53,7 @@ module _ (g g′ : Graph) (t t′ : ℕ → Bool) (c c′ : ℕ → ℕ → ℕ)
 
   node-named : (s : ℕ) → nodeCost g t c v s ≡ nodeCost g′ t′ c′ v s
   unfolding nodeCost
-  node-named s = rw (move-named s, kind)
+  node-named s = rw (move-named s, moves)
 
   pub bit-named : (s : ℕ) → bitCost g t c v s ≡ bitCost g′ t′ c′ v s
   unfolding bitCost baseCost
@@ -68,10 +69,10 @@ module _ (g : Graph) (t t′ : ℕ → Bool) (v B : ℕ) (below : (i : ℕ) → 
   same-at i s l e q h = same _ s (alike-at i l e ∙ q) (below i l e) h
 
   pub own-local : (k : ℕ) → ownCost g t c v k ≡ ownCost g t′ c′ v k
-  own-local = own-named g g t t′ c c′ v refl (λ i l. refl) (λ i l. refl) alike-at same-at
+  own-local = own-named g g t t′ c c′ v refl refl (λ i l. refl) (λ i l. refl) alike-at same-at
 
   pub move-local : (s : ℕ) → moveCost g t c v s ≡ moveCost g t′ c′ v s
-  move-local = move-named g g t t′ c c′ v refl (λ i l. refl) (λ i l. refl) alike-at same-at
+  move-local = move-named g g t t′ c c′ v refl refl (λ i l. refl) (λ i l. refl) alike-at same-at
 
   pub bit-local : (s : ℕ) → bitCost g t c v s ≡ bitCost g t′ c′ v s
-  bit-local = bit-named g g t t′ c c′ v refl (λ i l. refl) (λ i l. refl) alike-at same-at
+  bit-local = bit-named g g t t′ c c′ v refl refl (λ i l. refl) (λ i l. refl) alike-at same-at

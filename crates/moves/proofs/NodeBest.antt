@@ -19,7 +19,7 @@ use Rattle.moves.specs.Apply.{Choice, none, at, put, seen, apply}
 use Rattle.moves.specs.Call.{moved, movedC, bestAt}
 use Rattle.moves.specs.Cost.{shown}
 use Rattle.moves.specs.Decide.{costBy, costWith, wordAfter, ownCosts, swapped, given, others, costOf, costGiven, pairCost, FirstPair, numbersOf, naming}
-use Rattle.moves.specs.Rows.{arity, flag, movesAt}
+use Rattle.moves.specs.Rows.{flag, movesAt}
 use Rattle.graph.proofs.Cases.{eq-or-ne}
 use Rattle.graph.proofs.Turn.{turn-half, turn-bit}
 use Rattle.moves.proofs.Changed.{at-same, at-other, seen-other, seen-none, flag-zero}
@@ -27,7 +27,6 @@ use Rattle.moves.proofs.Compose.{seen-node}
 use Rattle.moves.proofs.Flags.{flag-bit}
 use Rattle.moves.proofs.Kept.{apply-idle}
 use Rattle.moves.proofs.Step.{afterMove, costsAfter, restOf, Below, at-zero, cost-step}
-use Rattle.moves.proofs.TreeBest.{movesAt-node}
 
 -- a word's cost after a choice: the choice turns it where it turns the readers of what the word names
 module _ (g : Graph) (d : Choice) (v i t : ℕ) where
@@ -163,17 +162,17 @@ module _ (g : Graph) (adm : Admitted g) (v : ℕ) (h : v < g .N) where
   unfolding movedC moved put
   node-run k = node-cost k
 
-  pub node-best : (m : ℕ) → FirstBelow (costOf (numbersOf g v)) (arity (isXor g v)) m → m ∷ [] ≡ bestAt g (node g v ∷ [])
+  pub node-best : (m : ℕ) → FirstBelow (costOf (numbersOf g v)) (movesAt g (node g v)) m → m ∷ [] ≡ bestAt g (node g v ∷ [])
   unfolding bestAt
   node-best m b = unique (movedC g (node g v ∷ [])) (map (movesAt g) (node g v ∷ [])) (m ∷ []) (record {
-    fits = (rw (movesAt-node g v) (b .below), tt);
+    fits = (b .below, tt);
     none-less = none-less;
     earlier-more = earlier-more;
   })
     where
       none-less : (l : List ℕ) → Fits (map (movesAt g) (node g v ∷ [])) l → movedC g (node g v ∷ []) (m ∷ []) ≤ movedC g (node g v ∷ []) l
       none-less [] f = absurd f
-      none-less (k ∷ []) f = omega (arith, node-run k, node-run m, b .low k (rw (movesAt-node g v) at (f .0)))
+      none-less (k ∷ []) f = omega (arith, node-run k, node-run m, b .low k (f .0))
       none-less (k ∷ j ∷ l) f = absurd (f .1)
 
       earlier-more : (l : List ℕ) → Fits (map (movesAt g) (node g v ∷ [])) l → l ≺ (m ∷ []) → movedC g (node g v ∷ []) (m ∷ []) < movedC g (node g v ∷ []) l
@@ -217,11 +216,11 @@ module _ (g : Graph) (adm : Admitted g) (p v : ℕ) (l : p < v) (h : v < g .N) w
   unfolding movedC moved put
   run-is a k = refl
 
-  pub pair-best : (a k : ℕ) → FirstPair (pairCost (numbersOf g p) (numbersOf g v) (naming g v (node g p))) (arity (isXor g p)) (arity (isXor g v)) a k
+  pub pair-best : (a k : ℕ) → FirstPair (pairCost (numbersOf g p) (numbersOf g v) (naming g v (node g p))) (movesAt g (node g p)) (movesAt g (node g v)) a k
       → a ∷ k ∷ [] ≡ bestAt g (node g p ∷ node g v ∷ [])
   unfolding bestAt
   pair-best a k b = unique (movedC g (node g p ∷ node g v ∷ [])) (map (movesAt g) (node g p ∷ node g v ∷ [])) (a ∷ k ∷ []) (record {
-    fits = (rw (movesAt-node g p) (b .below), (rw (movesAt-node g v) (b .fits), tt));
+    fits = (b .below, (b .fits, tt));
     none-less = none-less;
     earlier-more = earlier-more;
   })
@@ -230,7 +229,7 @@ module _ (g : Graph) (adm : Admitted g) (p v : ℕ) (l : p < v) (h : v < g .N) w
       none-less [] f = absurd f
       none-less (c ∷ []) f = absurd (f .1)
       none-less (c ∷ j ∷ []) f =
-          omega (arith, run-is a k, run-is c j, pair-cost-is a k, pair-cost-is c j, b .low c j (rw (movesAt-node g p) at (f .0)) (rw (movesAt-node g v) at (f .1 .0)))
+          omega (arith, run-is a k, run-is c j, pair-cost-is a k, pair-cost-is c j, b .low c j (f .0) (f .1 .0))
       none-less (c ∷ j ∷ i ∷ l) f = absurd (f .1 .1)
 
       earlier-more : (l : List ℕ) → Fits (map (movesAt g) (node g p ∷ node g v ∷ [])) l → l ≺ (a ∷ k ∷ [])
@@ -238,7 +237,7 @@ module _ (g : Graph) (adm : Admitted g) (p v : ℕ) (l : p < v) (h : v < g .N) w
       earlier-more [] f e = absurd f
       earlier-more (c ∷ []) f e = absurd (f .1)
       earlier-more (c ∷ j ∷ []) f (inl e) =
-          omega (arith, run-is a k, run-is c j, pair-cost-is a k, pair-cost-is c j, b .first c j e (rw (movesAt-node g v) at (f .1 .0)))
+          omega (arith, run-is a k, run-is c j, pair-cost-is a k, pair-cost-is c j, b .first c j e (f .1 .0))
       earlier-more (c ∷ j ∷ []) f (inr e) =
           ⊎-elim
           (λ (i : j < k). rw (e .0) (omega (arith, run-is a k, run-is a j, pair-cost-is a k, pair-cost-is a j, b .second j i)))

@@ -10,7 +10,7 @@ use Rattle.graph.specs.Finite.{ifEqual}
 use Rattle.graph.specs.Graph.{Graph, node, word, isEdge, isXor}
 use Rattle.graph.specs.Count.{edgeAdds, readers}
 use Rattle.choice.specs.Choice.{FirstBelow}
-use Rattle.moves.specs.Rows.{flag, arity}
+use Rattle.moves.specs.Rows.{flag, movesAt}
 use Rattle.moves.specs.Cost.{edgeCost, turnedCost, wordCosts, wordCost, ownCost, moveCost, nodeCost, pick, rootCost, shown}
 use Rattle.moves.specs.Decide.{costBy, costWith, Numbers}
 use Rattle.graph.proofs.Adds.{edgeAdds-le}
@@ -44,13 +44,13 @@ module _ (g : Graph) (t : ℕ → Bool) (c : ℕ → ℕ → ℕ) (v : ℕ) wher
   root-is = fun-ext (λ m. omega (arith, own-is (readers g (node g v)) (shown g (node g v) 0) m, all-readers g (node g v) (flag (isXor g v) m 3) (flag-bit (isXor g v) m 3 (omega arith))))
 
   -- the cost of a node is that of any first least move
-  node-is : (s m : ℕ) → FirstBelow (moveCost g t c v s) (arity (isXor g v)) m → nodeCost g t c v s ≡ moveCost g t c v s m
+  node-is : (s m : ℕ) → FirstBelow (moveCost g t c v s) (movesAt g (node g v)) m → nodeCost g t c v s ≡ moveCost g t c v s m
   unfolding nodeCost
   node-is s m h =
-      let b = least-moves (moveCost g t c v s) (isXor g v) in
+      let b = least-moves g (moveCost g t c v s) (node g v) in
       omega (arith, h .low _ (b .below), b .low m (h .below))
 
-  pub node-found : (s m r : ℕ) → s < 2 → FirstBelow (costWith (isXor g v) (wordCosts g t c v) 1 s) (arity (isXor g v)) m → r ≡ costWith (isXor g v) (wordCosts g t c v) 1 s m → r ≡ nodeCost g t c v s
+  pub node-found : (s m r : ℕ) → s < 2 → FirstBelow (costWith (isXor g v) (wordCosts g t c v) 1 s) (movesAt g (node g v)) m → r ≡ costWith (isXor g v) (wordCosts g t c v) 1 s m → r ≡ nodeCost g t c v s
   node-found s m r h f e = e ∙ ap (λ k. k m) (move-is s h) ∙ sym (node-is s m (rw (move-is s h) at f))
 
   -- the two costs of a node differ by 1 at most
@@ -61,9 +61,9 @@ module _ (g : Graph) (t : ℕ → Bool) (c : ℕ → ℕ → ℕ) (v : ℕ) wher
   pub nodes-near : (nodeCost g t c v 0 ≤ nodeCost g t c v 1 + 1) × (nodeCost g t c v 1 ≤ nodeCost g t c v 0 + 1)
   unfolding nodeCost
   nodes-near =
-      let a = least-moves (moveCost g t c v 0) (isXor g v) in
-      let b = least-moves (moveCost g t c v 1) (isXor g v) in
-      omega (arith, a .low _ (b .below), b .low _ (a .below), near (pick (moveCost g t c v 0) (arity (isXor g v))), near (pick (moveCost g t c v 1) (arity (isXor g v))))
+      let a = least-moves g (moveCost g t c v 0) (node g v) in
+      let b = least-moves g (moveCost g t c v 1) (node g v) in
+      omega (arith, a .low _ (b .below), b .low _ (a .below), near (pick (moveCost g t c v 0) (movesAt g (node g v))), near (pick (moveCost g t c v 1) (movesAt g (node g v))))
 
   pub six-costs : (p q r s x y : ℕ) → p ≡ turnedCost g t c v 0 0 → q ≡ turnedCost g t c v 0 1 → r ≡ turnedCost g t c v 1 0 → s ≡ turnedCost g t c v 1 1
       → x ≡ turnedCost g t c v 2 0 → y ≡ turnedCost g t c v 2 1 → (p ∷ q ∷ r ∷ s ∷ x ∷ y ∷ []) ≡ wordCosts g t c v

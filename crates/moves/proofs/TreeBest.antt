@@ -16,13 +16,14 @@ use Rattle.graph.specs.Graph.{Graph, isEdge, isXor, node, word}
 use Rattle.moves.specs.Apply.{Choice, own, apply, at, none, put}
 use Rattle.moves.specs.Call.{moved, movedC, bestAt}
 use Rattle.moves.specs.Cost.{inner, moveCost, nodeCost, pick, rootCost, shows, Costs, Decided}
-use Rattle.moves.specs.Rows.{arity, flag, movesAt}
+use Rattle.moves.specs.Rows.{flag, movesAt}
 use Rattle.moves.specs.Tree.{isRoot, place, reader, rootOf, members, tree, IsRoot}
 use Rattle.graph.proofs.Cases.{true-or-false, lt-or-le}
 use Rattle.choice.specs.Choice.{best, choices, least, from, FirstBelow, Fits, zeros}
 use Rattle.choice.proofs.Best.{best-cons, costOf, least-below, first-shift}
 use Rattle.moves.proofs.Readers.{reader-above, rootOf-root, rootOf-inner, rootOf-above, not-root}
 use Rattle.moves.proofs.Changed.{at-same, at-other}
+use Rattle.moves.proofs.Moves.{moves-pos, movesAt-fit}
 use Rattle.moves.proofs.Potential.{Φ, Φ-zero, Φ-other, Φ-step, Off}
 use Rattle.moves.proofs.Root.{Φ-root, allFixed}
 
@@ -33,21 +34,7 @@ run g us d l = C (apply g (put d us l))
 abbrev theBest : Graph → List ℕ → Choice → List ℕ
 theBest g us d = best (run g us d) (map (movesAt g) us)
 
-pub arity-pos : (x : Bool) → 0 < arity x
-unfolding arity
-arity-pos true = omega arith
-arity-pos false = omega arith
-
 module _ (g : Graph) where
-  pub movesAt-node : (v : ℕ) → movesAt g (node g v) ≡ arity (isXor g v)
-  unfolding movesAt
-  movesAt-node v = let e : node g v - (g .I + 1) ≡ v = omega arith in rw e
-
-  pub movesAt-fit : (us : List ℕ) → Fits (map (movesAt g) us) (zeros (map (movesAt g) us))
-  unfolding movesAt
-  movesAt-fit [] = tt
-  movesAt-fit (u ∷ us) = (arity-pos _, movesAt-fit us)
-
   best-none : (d : Choice) → run g [] d (theBest g [] d) ≡ C (apply g d)
   unfolding best choices least put
   best-none d = refl
@@ -59,11 +46,11 @@ module _ (g : Graph) where
   -- by the first node: a list of costs that is e k, up to a constant, at the first node's move k
   module _ (v : ℕ) (us : List ℕ) (d : Choice) where
     by-first : (e : ℕ → ℕ) (a b m : ℕ) → ((k : ℕ) → run g us (at d (node g v) k) (theBest g us (at d (node g v) k)) + a ≡ e k + b)
-        → FirstBelow e (arity (isXor g v)) m → theBest g (node g v ∷ us) d ≡ m ∷ theBest g us (at d (node g v) m)
+        → FirstBelow e (movesAt g (node g v)) m → theBest g (node g v ∷ us) d ≡ m ∷ theBest g us (at d (node g v) m)
     unfolding put
     by-first e a b m q h =
-        best-cons (run g (node g v ∷ us) d) (movesAt g (node g v)) (map (movesAt g) us) (movesAt-fit us) m
-        (rw (movesAt-node v) (first-shift _ e a b (arity (isXor g v)) m q h))
+        best-cons (run g (node g v ∷ us) d) (movesAt g (node g v)) (map (movesAt g) us) (movesAt-fit g us) m
+        (first-shift _ e a b (movesAt g (node g v)) m q h)
 
     run-first : (m : ℕ) (l : List ℕ) → run g (node g v ∷ us) d (m ∷ l) ≡ run g us (at d (node g v) m) l
     unfolding put
@@ -103,9 +90,9 @@ pub reader-node : (g : Graph) → Admitted g → (u : ℕ) → isRoot g u ≡ fa
 unfolding reader
 reader-node g adm u s = let a = reader-above g adm u s in (refl, a .0, omega arith)
 
-pub least-moves : (f : ℕ → ℕ) (x : Bool) → FirstBelow f (arity x) (pick f (arity x))
+pub least-moves : (g : Graph) (f : ℕ → ℕ) (u : ℕ) → FirstBelow f (movesAt g u) (pick f (movesAt g u))
 unfolding pick
-least-moves f x = least-below f (arity x) (arity-pos x)
+least-moves g f u = least-below f (movesAt g u) (moves-pos g u)
 
 pub eq-or-ne : (a b : ℕ) → (a ≡ b) ⊎ (a ≢ b)
 eq-or-ne a b = ⊎-elim (λ (e : eqb a b ≡ true). inl (eqb-true a b e)) (λ (e : eqb a b ≡ false). inr (eqb-false a b e)) (true-or-false (eqb a b))
@@ -118,7 +105,7 @@ module _ (g : Graph) (c : ℕ → ℕ → ℕ) (r : ℕ) (adm : Admitted g) (o :
   unfolding shows
   bit d u = omega arith
 
-  cost-is : (n s : ℕ) → n < g .N → s < 2 → isRoot g (node g n) ≡ false → c (node g n) s + o n ≡ moveCost g (inner g) c n s (pick (moveCost g (inner g) c n s) (arity (isXor g n)))
+  cost-is : (n s : ℕ) → n < g .N → s < 2 → isRoot g (node g n) ≡ false → c (node g n) s + o n ≡ moveCost g (inner g) c n s (pick (moveCost g (inner g) c n s) (movesAt g (node g n)))
   unfolding nodeCost
   cost-is n s h l e = cs n s h l e
 
@@ -132,14 +119,14 @@ module _ (g : Graph) (c : ℕ → ℕ → ℕ) (r : ℕ) (adm : Admitted g) (o :
         ≡ moveCost g (inner g) c n (shows g d (node g n)) k + (Φ g c r (suc n) d + offs g r o n)
     by-move k = omega (arith, ih (at d (node g n) k) (off-at d off n t k), Φ-step g c r adm n h t d off k inside)
 
-    list-in : (m : ℕ) → FirstBelow (moveCost g (inner g) c n (shows g d (node g n))) (arity (isXor g n)) m
+    list-in : (m : ℕ) → FirstBelow (moveCost g (inner g) c n (shows g d (node g n))) (movesAt g (node g n)) m
         → theBest g (node g n ∷ members g r n) d ≡ m ∷ theBest g (members g r n) (at d (node g n) m)
     list-in m f = by-first g n (members g r n) d (moveCost g (inner g) c n (shows g d (node g n))) _ _ m by-move f
 
     value-in : run g (node g n ∷ members g r n) d (theBest g (node g n ∷ members g r n) d) ≡ Φ g c r (suc n) d + offs g r o (suc n)
     value-in =
-        let m : ℕ = pick (moveCost g (inner g) c n (shows g d (node g n))) (arity (isXor g n)) in
-        rw (list-in m (least-moves _ _), run-first g n (members g r n) d m)
+        let m : ℕ = pick (moveCost g (inner g) c n (shows g d (node g n))) (movesAt g (node g n)) in
+        rw (list-in m (least-moves g _ _), run-first g n (members g r n) d m)
         (omega (arith, by-move m, cost-is n (shows g d (node g n)) h (bit d (node g n)) inside, offs-in g r o n t))
 
   -- the potential is what is left at best

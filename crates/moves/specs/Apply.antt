@@ -6,7 +6,7 @@ use lib.Dec.{ltb, eqb}
 use lib.ListN.{length}
 use Rattle.graph.specs.Finite.{tab}
 use Rattle.graph.specs.Graph.{Graph, node, word, output, index, turn, isXor, isEdge}
-use Rattle.moves.specs.Rows.{flag, arity, combined}
+use Rattle.moves.specs.Rows.{flag, movesAt, combined}
 
 -- a choice gives each node, by index, a move number; a node that is not concerned has move 0
 abbrev pub Choice : Type 0
@@ -28,7 +28,7 @@ put d (u ∷ us) (k ∷ ms) = put (at d u k) us ms
 
 -- every move is one that its node has
 abbrev pub Permitted : Graph → Choice → Type 0
-Permitted g m = (v : ℕ) → v < g .N → m (node g v) < arity (isXor g v)
+Permitted g m = (v : ℕ) → v < g .N → m (node g v) < movesAt g (node g v)
 
 -- whether the readers of index u are turned: they are where u is a node whose move says so
 unfoldable pub seen : Graph → Choice → ℕ → ℕ

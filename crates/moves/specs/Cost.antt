@@ -10,7 +10,7 @@ use Rattle.graph.specs.Count.{edgeAdds, named, outputNamed}
 use Rattle.graph.specs.Finite.{sum}
 use Rattle.graph.specs.Graph.{Graph, isEdge, isXor, node, word, output}
 use Rattle.moves.specs.Apply.{Choice, own}
-use Rattle.moves.specs.Rows.{arity, flag}
+use Rattle.moves.specs.Rows.{flag, movesAt}
 use Rattle.moves.specs.Tree.{isRoot, rootOf, place}
 use Rattle.choice.specs.Choice.{least, from, FirstBelow}
 
@@ -48,7 +48,7 @@ unfoldable pub pick : (ℕ → ℕ) → ℕ → ℕ
 pick f n = least f 0 (from 0 n)
 
 unfoldable pub nodeCost : Graph → (ℕ → Bool) → (ℕ → ℕ → ℕ) → ℕ → ℕ → ℕ
-nodeCost g t c v s = moveCost g t c v s (pick (moveCost g t c v s) (arity (isXor g v)))
+nodeCost g t c v s = moveCost g t c v s (pick (moveCost g t c v s) (movesAt g (node g v)))
 
 -- how many readers of u are odd, all of them turned f times
 unfoldable pub shown : Graph → ℕ → ℕ → ℕ
@@ -68,9 +68,9 @@ shows g d u = (word g (place g u) + own g d (place g u)) % 2
 
 -- d has the first least move at each node of the tree of r; elsewhere it is free
 pub record Decided (g : Graph) (c : ℕ → ℕ → ℕ) (r : ℕ) (d : Choice) : Type 0 where
-  pub top : (v : ℕ) → node g v ≡ r → FirstBelow (rootCost g (inner g) c v) (arity (isXor g v)) (d r)
+  pub top : (v : ℕ) → node g v ≡ r → FirstBelow (rootCost g (inner g) c v) (movesAt g (node g v)) (d r)
   pub rest : (v : ℕ) → v < g .N → rootOf g (node g v) ≡ r → node g v ≢ r
-      → FirstBelow (moveCost g (inner g) c v (shows g d (node g v))) (arity (isXor g v)) (d (node g v))
+      → FirstBelow (moveCost g (inner g) c v (shows g d (node g v))) (movesAt g (node g v)) (d (node g v))
 
 -- what both bits cost
 unfoldable pub baseCost : Graph → (ℕ → Bool) → (ℕ → ℕ → ℕ) → ℕ → ℕ

@@ -8,7 +8,7 @@ use Rattle.graph.specs.Finite.{ifEqual, sum}
 use Rattle.graph.specs.Graph.{Graph, mark, node, word, turn, isEdge, isXor}
 use Rattle.graph.specs.Count.{adds, nodeReaders, readers}
 use Rattle.moves.specs.Cost.{shown}
-use Rattle.moves.specs.Rows.{arity, flag}
+use Rattle.moves.specs.Rows.{arity, flag, movesAt}
 use Rattle.choice.specs.Choice.{FirstBelow}
 use Rattle.moves.specs.declared.decide.NodeNumbers.{NodeNumbers}
 
@@ -37,6 +37,10 @@ pub record Numbers (z : List ℕ) (r d : ℕ) : Type 0 where
   pub bits : (i : ℕ) → getD z i 0 ≤ 1
   pub some : d ≤ r
   pub few : r ≤ 304096
+
+-- a node of kind x can have n moves
+abbrev pub MovesOf : Bool → ℕ → Type 0
+MovesOf x n = n ≡ arity x
 
 -- what word i + 1 of node v adds, turned t times
 unfoldable pub wordAfter : Graph → ℕ → ℕ → ℕ → ℕ
@@ -79,8 +83,9 @@ others z = getD z 1 0 + getD z 3 0 + getD z 5 0
 abbrev pub costOf : NodeNumbers → ℕ → ℕ
 costOf n m = costWith (n .xor) (n .costs) (n .readers) (n .odd) m
 
-abbrev pub Counted : NodeNumbers → Type 0
-Counted n = Numbers (n .costs) (n .readers) (n .odd)
+pub record Counted (n : NodeNumbers) : Type 0 where
+  pub numbers : Numbers (n .costs) (n .readers) (n .odd)
+  pub has : MovesOf (n .xor) (n .moves)
 
 -- the move k of a node once move a has been made at the node p that its words w name
 unfoldable pub costGiven : NodeNumbers → NodeNumbers → List ℕ → ℕ → ℕ → ℕ
@@ -94,7 +99,7 @@ pairCost p n w a k = costOf p a + costGiven p n w a k + others (given (n .costs)
 -- k is the first least move of the node n once the readers of the node that its words w name have been turned f times, and c
 -- what it leaves, with what its words add turned once more
 pub record Answered (n : NodeNumbers) (w : List ℕ) (f k c : ℕ) : Type 0 where
-  pub found : FirstBelow (costWith (n .xor) (given (n .costs) w f) (n .readers) (n .odd)) (arity (n .xor)) k
+  pub found : FirstBelow (costWith (n .xor) (given (n .costs) w f) (n .readers) (n .odd)) (n .moves) k
   pub cost : c ≡ costWith (n .xor) (given (n .costs) w f) (n .readers) (n .odd) k + others (given (n .costs) w f)
   pub low : c ≤ 304102
 
@@ -108,7 +113,7 @@ pub record FirstPair (f : ℕ → ℕ → ℕ) (m n a k : ℕ) : Type 0 where
 
 -- the numbers of node v
 unfoldable pub numbersOf : Graph → ℕ → NodeNumbers
-numbersOf g v = record { xor = isXor g v; costs = ownCosts g v; readers = readers g (node g v); odd = shown g (node g v) 0 }
+numbersOf g v = record { xor = isXor g v; moves = movesAt g (node g v); costs = ownCosts g v; readers = readers g (node g v); odd = shown g (node g v) 0 }
 
 -- which words of node v name index u
 unfoldable pub naming : Graph → ℕ → ℕ → List ℕ

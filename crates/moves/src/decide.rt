@@ -6,7 +6,7 @@ ghost use lib.ListN.{getD};
 ghost use Rattle.choice.specs.Choice.{FirstBelow};
 ghost use Rattle.graph.specs.Finite.{ifEqual};
 ghost use Rattle.moves.specs.Rows.{arity};
-ghost use Rattle.moves.specs.Decide.{costBy, costWith, Weighed, Numbers, LeastBelow, given, Counted, pairCost, FirstPair, Answered};
+ghost use Rattle.moves.specs.Decide.{costBy, costWith, Weighed, Numbers, MovesOf, LeastBelow, given, Counted, pairCost, FirstPair, Answered};
 use crate::rows;
 
 // x where f is 0, else y.
@@ -92,10 +92,10 @@ pub fn least_of_xor(z: [u32; 6], still: u32, turned: u32) -> LeastMove
     if_less(true, z, still, turned, least, 3)
 }
 
-// The first of the least moves of either kind.
-pub fn least_of(xor: bool, z: [u32; 6], still: u32, turned: u32) -> LeastMove
-    requires { ⌜ Weighed z still turned ⌝ }
-    ensures { λ r. ⌜ LeastBelow (costBy xor z still turned) (arity xor) (r .number) (r .cost) ⌝ }
+// The first of the least moves of a node of either kind that has so many.
+pub fn least_of(xor: bool, moves: u32, z: [u32; 6], still: u32, turned: u32) -> LeastMove
+    requires { ⌜ Weighed z still turned × MovesOf xor moves ⌝ }
+    ensures { λ r. ⌜ LeastBelow (costBy xor z still turned) moves (r .number) (r .cost) ⌝ }
 {
     if xor {
         return least_of_xor(z, still, turned);
@@ -104,25 +104,26 @@ pub fn least_of(xor: bool, z: [u32; 6], still: u32, turned: u32) -> LeastMove
 }
 
 // The first of a node's least moves.
-pub fn least_move(xor: bool, z: [u32; 6], readers: u32, odd: u32) -> LeastMove
-    requires { ⌜ Numbers z readers odd ⌝ }
-    ensures { λ r. ⌜ LeastBelow (costWith xor z readers odd) (arity xor) (r .number) (r .cost) ⌝ }
+pub fn least_move(xor: bool, moves: u32, z: [u32; 6], readers: u32, odd: u32) -> LeastMove
+    requires { ⌜ Numbers z readers odd × MovesOf xor moves ⌝ }
+    ensures { λ r. ⌜ LeastBelow (costWith xor z readers odd) moves (r .number) (r .cost) ⌝ }
 {
-    least_of(xor, z, odd, readers - odd)
+    least_of(xor, moves, z, odd, readers - odd)
 }
 
 // Its number alone.
-pub fn first_least(xor: bool, z: [u32; 6], readers: u32, odd: u32) -> u32
-    requires { ⌜ Numbers z readers odd ⌝ }
-    ensures { λ r. ⌜ FirstBelow (costWith xor z readers odd) (arity xor) r ⌝ }
+pub fn first_least(xor: bool, moves: u32, z: [u32; 6], readers: u32, odd: u32) -> u32
+    requires { ⌜ Numbers z readers odd × MovesOf xor moves ⌝ }
+    ensures { λ r. ⌜ FirstBelow (costWith xor z readers odd) moves r ⌝ }
 {
-    let least = least_move(xor, z, readers, odd);
+    let least = least_move(xor, moves, z, readers, odd);
     least.number
 }
 
-// The numbers of a node: its kind, what its words add as they stand and turned, its readers, and how many are complemented.
+// The numbers of a node: its kind, how many moves it has, what its words add as they stand and turned, its readers, and how many are complemented.
 pub struct NodeNumbers {
     pub xor: bool,
+    pub moves: u32,
     pub costs: [u32; 6],
     pub readers: u32,
     pub odd: u32,
@@ -160,7 +161,7 @@ pub fn answer_given(node: NodeNumbers, which: [u32; 3], f: u32) -> LeastMove
 {
     let y = node.costs;
     let z = given_costs(y, which, f);
-    let least = least_move(node.xor, z, node.readers, node.odd);
+    let least = least_move(node.xor, node.moves, z, node.readers, node.odd);
     LeastMove {
         number: least.number,
         cost: least.cost + (z[1] + z[3] + z[5]),
@@ -169,7 +170,7 @@ pub fn answer_given(node: NodeNumbers, which: [u32; 3], f: u32) -> LeastMove
 
 // What move a at the named node and move k at the node leave.
 pub fn pair_cost(named: NodeNumbers, node: NodeNumbers, which: [u32; 3], a: u32, k: u32) -> u32
-    requires { ⌜ Counted named × Counted node × ((i : ℕ) → getD which i 0 ≤ 1) × (a < arity (named .xor)) × (k < arity (node .xor)) ⌝ }
+    requires { ⌜ Counted named × Counted node × ((i : ℕ) → getD which i 0 ≤ 1) × (a < named .moves) × (k < node .moves) ⌝ }
     ensures { λ r. ⌜ r ≡ pairCost named node which a k ⌝ }
 {
     let x = named.costs;
@@ -185,13 +186,19 @@ pub fn pair_cost(named: NodeNumbers, node: NodeNumbers, which: [u32; 3], a: u32,
 // the named node's readers are turned, so that it is worked out twice and weighed in with these readers.
 pub fn first_pair(named: NodeNumbers, node: NodeNumbers, which: [u32; 3]) -> PairMoves
     requires { ⌜ Counted named × Counted node × ((i : ℕ) → getD which i 0 ≤ 1) ⌝ }
-    ensures { λ r. ⌜ FirstPair (pairCost named node which) (arity (named .xor)) (arity (node .xor)) (r .named) (r .node) ⌝ }
+    ensures { λ r. ⌜ FirstPair (pairCost named node which) (named .moves) (node .moves) (r .named) (r .node) ⌝ }
 {
     let still = answer_given(node, which, 0);
     let turned = answer_given(node, which, 1);
     let x = named.costs;
     let others = named.readers - named.odd;
-    let first = least_of(named.xor, x, named.odd + still.cost, others + turned.cost);
+    let first = least_of(
+        named.xor,
+        named.moves,
+        x,
+        named.odd + still.cost,
+        others + turned.cost,
+    );
     let f = rows::flag_of(named.xor, first.number, 3);
     PairMoves {
         named: first.number,

@@ -80,6 +80,7 @@ pub fn numbers_of(
     );
     NodeNumbers {
         xor: rows::is_xor(node_table, at),
+        moves: rows::moves_at(node_table, at),
         costs: words::own_costs(node_table, at),
         readers: all.all,
         odd: all.odd,

@@ -4,7 +4,7 @@ ghost use mathlib.Core.List.{List, []};
 ghost use Prim.Native.Nat.{ℕ, _+_, _*_, _≤_, _<_};
 ghost use lib.ListN.{length, getD};
 ghost use Rattle.graph.specs.Graph.{graphOf, isXor};
-ghost use Rattle.moves.specs.Rows.{rows, firstRow, arity, flag};
+ghost use Rattle.moves.specs.Rows.{rows, firstRow, arity, flag, movesAt};
 use graph::literal::MARK;
 
 // Whether words 1 to 3, and every reader, are turned: a majority's two rows, then an XOR's four.
@@ -31,6 +31,17 @@ pub fn is_xor(node_table: &[u32], v: usize) -> bool
 {
     let at = 3 * v + 2;
     node_table[at] == MARK
+}
+
+// How many moves node v has.
+pub fn moves_at(node_table: &[u32], v: usize) -> u32
+    requires { ⌜ (3 * v + 2 < length (now «node_table»)) × (v ≤ 100000) ⌝ }
+    ensures { λ r. ⌜ ((i n o : ℕ) (os : List ℕ) → r ≡ movesAt (graphOf i n o (now («node_table» .entry)) os) (i + 1 + v)) ⌝ }
+{
+    if is_xor(node_table, v) {
+        return 4;
+    }
+    2
 }
 
 pub fn first_row(xor: bool) -> usize

@@ -11,7 +11,7 @@ given-costs-requires : tie.Need-given-costs-requires
 given-costs-requires c κs = search needs
 
 least-move-requires : tie.Need-least-move-requires
-least-move-requires c κs = given-counted _ _ _ _ _ _ (c .given-costs .ensures) (c .before .before .pre .0)
+least-move-requires c κs = let n = c .before .before .pre .0 in (given-counted _ _ _ _ _ _ (c .given-costs .ensures) (n .numbers), n .has)
 
 array-read-t10 : tie.Need-array-read-t10
 array-read-t10 c = search needs

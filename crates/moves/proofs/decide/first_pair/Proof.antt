@@ -1,5 +1,7 @@
 -- `first_pair` meets its contract. From the law of the first least pair.
 use Rattle.moves.proofs.Deciding.{pair-of}
+use native.Mathlib.Omega.{arith}
+use Rattle.moves.proofs.Moves.{moves-row}
 use borrow.Author.Needs.{needs}
 use Rattle.moves.proofs.decide.first_pair.Statement.{statement}
 use Rattle.moves.proofs.decide.first_pair.Tie as tie
@@ -20,10 +22,14 @@ add-least-of-2 : tie.Need-add-least-of-2
 add-least-of-2 c = search needs
 
 least-of-requires : tie.Need-least-of-requires
-least-of-requires c κs = search needs
+least-of-requires c κs =
+    let two = c .before .before .before .before .before in
+    let one = two .before in
+    let n = one .before .pre .0 in
+    (record { bits = n .numbers .bits; still = omega (arith, n .numbers .some, n .numbers .few, one .answer-given .ensures .low); turned = omega (arith, n .numbers .few, two .answer-given2 .ensures .low) }, n .has)
 
 flag-of-requires : tie.Need-flag-of-requires
-flag-of-requires c κs = search needs
+flag-of-requires c κs = let l = c .before in (moves-row _ _ _ (l .before .before .before .before .before .before .before .pre .0 .has) (c .least-of .ensures .found .below), omega arith)
 
 either-requires : tie.Need-either-requires
 either-requires c κs = search needs

@@ -9,7 +9,7 @@ sub-least-of : tie.Need-sub-least-of
 sub-least-of c = search needs
 
 least-of-requires : tie.Need-least-of-requires
-least-of-requires c κs = numbers-weigh _ _ _ (c .pre)
+least-of-requires c κs = (numbers-weigh _ _ _ (c .pre .0), c .pre .1)
 
 returns : tie.Need-returns
 unfolding costWith

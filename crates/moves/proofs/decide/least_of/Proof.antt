@@ -9,14 +9,14 @@ least-of-xor-requires c κs = search needs
 
 returns : tie.Need-returns
 unfolding arity
-returns c = rw (c .before .if1 .taken) (c .least-of-xor .ensures)
+returns c = rw (c .before .before .pre .1, c .before .if1 .taken) (c .least-of-xor .ensures)
 
 least-of-majority-requires : tie.Need-least-of-majority-requires
 least-of-majority-requires c κs = search needs
 
 returns-2 : tie.Need-returns-2
 unfolding arity
-returns-2 c = rw (c .before .if1 .left) (c .least-of-majority .ensures)
+returns-2 c = rw (c .before .before .pre .1, c .before .if1 .left) (c .least-of-majority .ensures)
 
 pub least-of-spec : {M : Type 1} → statement M
 least-of-spec =

@@ -16,18 +16,22 @@ readers-of-requires c κs = search needs
 is-xor-requires : tie.Need-is-xor-requires
 is-xor-requires c κs = search needs
 
+moves-at-requires : tie.Need-moves-at-requires
+moves-at-requires c κs = search needs
+
 own-costs-requires : tie.Need-own-costs-requires
 own-costs-requires c κs = search needs
 
 returns : tie.Need-returns
 unfolding numbersOf
 returns c =
-    let a = c .before .before .before .before .before .args in
+    let a = c .before .before .before .before .before .before .args in
     rw (
-      c .before .is-xor .ensures (a .inputs) (a .nodes) (a .outputs) (a .output-table .now),
+      c .before .before .is-xor .ensures (a .inputs) (a .nodes) (a .outputs) (a .output-table .now),
+      c .before .moves-at .ensures (a .inputs) (a .nodes) (a .outputs) (a .output-table .now),
       c .own-costs .ensures (a .inputs) (a .nodes) (a .outputs) (a .output-table .now),
-      c .before .before .readers-of .ensures .all,
-      c .before .before .readers-of .ensures .odd,
+      c .before .before .before .readers-of .ensures .all,
+      c .before .before .before .readers-of .ensures .odd,
     )
 
 pub numbers-of-spec : {M : Type 1} → statement M
@@ -38,5 +42,6 @@ numbers-of-spec =
     add-readers-of-2
     readers-of-requires
     is-xor-requires
+    moves-at-requires
     own-costs-requires
     returns)
