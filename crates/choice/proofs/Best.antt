@@ -104,12 +104,12 @@ least-below c n h =
       first = λ k i. from-earlier c 0 n b k zero-le i;
     }
 
--- costs that differ by a constant have the same first least
-pub first-shift : (f g : ℕ → ℕ) (a b n m : ℕ) → ((k : ℕ) → f k + a ≡ g k + b) → FirstBelow g n m → FirstBelow f n m
+-- costs that differ by a constant below n have the same first least
+pub first-shift : (f g : ℕ → ℕ) (a b n m : ℕ) → ((k : ℕ) → k < n → f k + a ≡ g k + b) → FirstBelow g n m → FirstBelow f n m
 first-shift f g a b n m e h = record {
   below = h .below;
-  low = λ k i. omega (arith, e k, e m, h .low k i);
-  first = λ k i. omega (arith, e k, e m, h .first k i);
+  low = λ k i. omega (arith, e k i, e m (h .below), h .low k i);
+  first = λ k i. omega (arith, e k (omega (arith, h .below)), e m (h .below), h .first k i);
 }
 
 -- by the first move

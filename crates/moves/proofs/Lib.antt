@@ -11,6 +11,7 @@ pub mod Potential
 pub mod Root
 pub mod Shown
 pub mod Known
+pub mod Programme
 pub mod TreeBest
 pub mod Written
 pub mod Kept

@@ -14,6 +14,11 @@ unfolding arity
 arity-pos true = omega arith
 arity-pos false = omega arith
 
+-- where every node has a move, no move anywhere is a choice
+pub some-fit : (mv : ℕ → ℕ) → ((u : ℕ) → 0 < mv u) → (us : List ℕ) → Fits (map mv us) (zeros (map mv us))
+some-fit mv pos [] = tt
+some-fit mv pos (u ∷ us) = (pos u, some-fit mv pos us)
+
 pub moves-some : (x : Bool) (n : ℕ) → MovesOf x n → 0 < n
 moves-some x n e = rw e (arity-pos x)
 
@@ -42,5 +47,4 @@ module _ (g : Graph) where
   node-row v m h = moves-row (isXor g v) (movesAt g (node g v)) m (moves-of v) h
 
   pub movesAt-fit : (us : List ℕ) → Fits (map (movesAt g) us) (zeros (map (movesAt g) us))
-  movesAt-fit [] = tt
-  movesAt-fit (u ∷ us) = (moves-pos u, movesAt-fit us)
+  movesAt-fit = some-fit (movesAt g) moves-pos

@@ -8,13 +8,15 @@ use native.Mathlib.Omega.{arith}
 use lib.Dec.{eqb, ltb}
 use Rattle.graph.specs.Admission.{Admitted}
 use Rattle.graph.specs.Graph.{Graph, node}
+use Rattle.graph.proofs.Cases.{eq-or-ne}
 use Rattle.moves.specs.Apply.{Choice, apply, at, none, put}
 use Rattle.moves.specs.Call.{bestAt}
 use Rattle.moves.specs.Cost.{Costs, Decided}
 use Rattle.moves.specs.Tree.{rootOf, members, tree, IsRoot}
 use Rattle.moves.proofs.Changed.{at-same, at-other}
 use Rattle.moves.proofs.Potential.{undecided, Undecided, undecided-yes, undecided-no, undecided-past, undecided-same}
-use Rattle.moves.proofs.TreeBest.{members-zero, members-in, members-out, eq-or-ne, tree-best}
+use Rattle.moves.proofs.Programme.{members-zero, members-in, members-out}
+use Rattle.moves.proofs.TreeBest.{tree-best}
 
 -- m in the tree of r, 0 elsewhere
 unfoldable pub within : Graph → ℕ → Choice → Choice
