@@ -44,17 +44,18 @@ module _ (g : Graph) where
         word-third (3 * v + 2) v (omega arith) (omega arith),
       )
 
-  pub node-next : (v k : ℕ) → firstOf (3 * v) (wordNumber g) ≡ 0
-      → k ≡ nodeWords (node g v) (word g (3 * v)) (word g (3 * v + 1)) (word g (3 * v + 2)) → k ≡ firstOf (3 * (v + 1)) (wordNumber g)
+  -- by the words that were read
+  pub node-next : (v k a b d : ℕ) → firstOf (3 * v) (wordNumber g) ≡ 0 → a ≡ word g (3 * v) → b ≡ word g (3 * v + 1) → d ≡ word g (3 * v + 2)
+      → k ≡ nodeWords (node g v) a b d → k ≡ firstOf (3 * (v + 1)) (wordNumber g)
   unfolding firstOf first
-  node-next v k z e =
+  node-next v k a b d z p q r e =
       let s : 3 * (v + 1) ≡ suc (suc (suc (3 * v))) = omega arith in
       let s₁ : suc (3 * v) ≡ 3 * v + 1 = omega arith in
       let s₂ : suc (suc (3 * v)) ≡ 3 * v + 2 = omega arith in
       let w : ℕ → ℕ = wordNumber g in
-      let f : k ≡ first (first (w (3 * v)) (w (suc (3 * v)))) (w (suc (suc (3 * v)))) = rw (s₂, s₁, first-assoc) (e ∙ sym (node-words v)) in
+      let f : k ≡ first (first (w (3 * v)) (w (suc (3 * v)))) (w (suc (suc (3 * v)))) = rw (s₂, s₁, first-assoc) (rw (p, q, r) at e ∙ sym (node-words v)) in
       rw (s, z) f
 
-  pub out-next : (j k : ℕ) → firstOf j (outputNumber g) ≡ 0 → k ≡ ifLess (output g j / 2) (node g (g .N)) 0 5 → k ≡ firstOf (j + 1) (outputNumber g)
+  pub out-next : (j k a : ℕ) → firstOf j (outputNumber g) ≡ 0 → a ≡ output g j → k ≡ ifLess (a / 2) (node g (g .N)) 0 5 → k ≡ firstOf (j + 1) (outputNumber g)
   unfolding firstOf outputNumber
-  out-next j k z e = rw (add-one j) (none _ _ z e)
+  out-next j k a z p e = rw (add-one j) (none _ _ z (rw p at e))

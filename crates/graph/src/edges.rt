@@ -8,6 +8,7 @@ ghost use Rattle.graph.specs.Graph.{graphOf};
 ghost use Rattle.graph.specs.Count.{edgeAdds, adds, wordAdds, nodeAdds, outputAdds, C};
 ghost use Rattle.graph.specs.Admission.{Admitted};
 use crate::literal::MARK;
+use crate::table::word_at;
 
 // What an edge with index u and bit b adds to C.
 pub fn edge_adds(u: u32, b: u32) -> u32
@@ -47,7 +48,7 @@ pub fn nodes_add(nodes: u32, node_table: &[u32]) -> u32
     let mut c: u32 = 0;
     let mut j: usize = 0;
     while j < words {
-        c += word_adds(j, node_table[j]);
+        c += word_adds(j, word_at(node_table, j));
         j += 1;
     }
     c
@@ -60,7 +61,7 @@ pub fn outputs_add(outputs: u32, output_table: &[u32]) -> u32
     let mut c: u32 = 0;
     let mut j: u32 = 0;
     while j < outputs {
-        c += literal_adds(output_table[j as usize]);
+        c += literal_adds(word_at(output_table, j as usize));
         j += 1;
     }
     c

@@ -9,6 +9,7 @@ ghost use Rattle.graph.specs.Admission.{limitNumber, tableNumber, wordNu
 ghost use Rattle.graph.specs.Answer.{numberOf};
 use crate::Refusal;
 use crate::literal::MARK;
+use crate::table::word_at;
 
 pub fn limit_number(inputs: u32, nodes: u32, outputs: u32) -> u32
     ensures { λ r. ⌜ ((ns os : List ℕ) → r ≡ limitNumber (graphOf inputs nodes outputs ns os)) ⌝ }
@@ -81,9 +82,9 @@ pub fn nodes_number(inputs: u32, nodes: u32, node_table: &[u32]) -> u32
         let at = 3 * v as usize;
         let k = node_number(
             inputs + 1 + v,
-            node_table[at],
-            node_table[at + 1],
-            node_table[at + 2],
+            word_at(node_table, at),
+            word_at(node_table, at + 1),
+            word_at(node_table, at + 2),
         );
         if k != 0 {
             return k;
@@ -100,7 +101,7 @@ pub fn outputs_number(inputs: u32, nodes: u32, outputs: u32, output_table: &[u32
     let end = inputs + 1 + nodes;
     let mut j: usize = 0;
     while j < outputs as usize {
-        let k = below_number(end, output_table[j]);
+        let k = below_number(end, word_at(output_table, j));
         if k != 0 {
             return k;
         }

@@ -5,10 +5,9 @@ use Prim.Native.Nat.{ℕ, _*_, _-_, _≤_}
 use native.Mathlib.Omega.{arith}
 use native.Mathlib.Numerals.{add-one}
 use borrow.Author.Needs.{needs}
-use lib.ListN.{getD}
 use Rattle.graph.specs.Finite.{sum}
 use Rattle.graph.specs.Graph.{graphOf}
-use Rattle.graph.specs.Count.{nodeAdds}
+use Rattle.graph.specs.Count.{wordAdds, nodeAdds}
 use Rattle.graph.proofs.Adds.{wordAdds-le}
 use Rattle.graph.proofs.edges.nodes_add.Statement.{statement}
 use Rattle.graph.proofs.edges.nodes_add.Tie as tie
@@ -26,20 +25,14 @@ loop-holds : tie.Need-loop-holds Inv-loop μ-loop
 unfolding sum
 loop-holds c = (omega arith, refl, omega arith, (λ i o os. refl))
 
-mul-word-adds : tie.Need-mul-word-adds Inv-loop μ-loop
-mul-word-adds c = omega arith
-
-shared-slice-read-word-adds : tie.Need-shared-slice-read-word-adds Inv-loop μ-loop
-shared-slice-read-word-adds c = omega arith
+word-at-requires : tie.Need-word-at-requires Inv-loop μ-loop
+word-at-requires c κs = omega arith
 
 word-adds-requires : tie.Need-word-adds-requires Inv-loop μ-loop
 word-adds-requires c κs = search needs
 
 add-c : tie.Need-add-c Inv-loop μ-loop
-add-c c =
-    let l = c .before .before .before in
-    let a = l .before .before .args in
-    omega (arith, c .word-adds .ensures, wordAdds-le (l .loop .j) (getD (a .node-table .now) (l .loop .j) 0))
+add-c c = omega (arith, c .word-adds .ensures, wordAdds-le (c .before .before .before .loop .j) (c .before .word-at .result))
 
 add-j : tie.Need-add-j Inv-loop μ-loop
 add-j c = omega arith
@@ -50,9 +43,10 @@ loop-less c = omega arith
 loop-again : tie.Need-loop-again Inv-loop μ-loop
 unfolding sum nodeAdds
 loop-again c =
+    let w = c .before .word-at in
     let l = c .before .before .before in
-    let a = l .before .before .args in
-    (omega arith, l .loop .inv .1, omega (arith, c .word-adds .ensures, wordAdds-le (l .loop .j) (getD (a .node-table .now) (l .loop .j) 0)), (λ i o os. rw add-one (omega (arith, c .word-adds .ensures, l .loop .inv .3 i o os))))
+    let e = c .word-adds .ensures ∙ ap (wordAdds (l .loop .j)) (w .ensures) in
+    (omega arith, l .loop .inv .1, omega (arith, c .word-adds .ensures, wordAdds-le (l .loop .j) (w .result)), (λ i o os. rw add-one (omega (arith, e, l .loop .inv .3 i o os))))
 
 returns : tie.Need-returns Inv-loop μ-loop
 returns c i o os =
@@ -69,8 +63,7 @@ nodes-add-spec =
     μ-loop
     mul-words
     loop-holds
-    mul-word-adds
-    shared-slice-read-word-adds
+    word-at-requires
     word-adds-requires
     add-c
     add-j

@@ -5,10 +5,9 @@ use Prim.Native.Nat.{ℕ, _-_, _≤_}
 use native.Mathlib.Omega.{arith}
 use native.Mathlib.Numerals.{add-one}
 use borrow.Author.Needs.{needs}
-use lib.ListN.{getD}
 use Rattle.graph.specs.Finite.{sum}
 use Rattle.graph.specs.Graph.{graphOf}
-use Rattle.graph.specs.Count.{outputAdds}
+use Rattle.graph.specs.Count.{adds, outputAdds}
 use Rattle.graph.proofs.Adds.{adds-le}
 use Rattle.graph.proofs.edges.outputs_add.Statement.{statement}
 use Rattle.graph.proofs.edges.outputs_add.Tie as tie
@@ -23,23 +22,17 @@ loop-holds : tie.Need-loop-holds Inv-loop μ-loop
 unfolding sum
 loop-holds c = (omega arith, omega arith, (λ i n ns. refl))
 
-cast-literal-adds : tie.Need-cast-literal-adds Inv-loop μ-loop
-cast-literal-adds c = omega arith
+cast-word-at : tie.Need-cast-word-at Inv-loop μ-loop
+cast-word-at c = omega arith
 
-mul-literal-adds : tie.Need-mul-literal-adds Inv-loop μ-loop
-mul-literal-adds c = omega arith
-
-shared-slice-read-literal-adds : tie.Need-shared-slice-read-literal-adds Inv-loop μ-loop
-shared-slice-read-literal-adds c = omega arith
+word-at-requires : tie.Need-word-at-requires Inv-loop μ-loop
+word-at-requires c κs = omega arith
 
 literal-adds-requires : tie.Need-literal-adds-requires Inv-loop μ-loop
 literal-adds-requires c κs = search needs
 
 add-c : tie.Need-add-c Inv-loop μ-loop
-add-c c =
-    let l = c .before .before .before in
-    let a = l .before .before .args in
-    omega (arith, c .literal-adds .ensures, adds-le (getD (a .output-table .now) (l .loop .j) 0))
+add-c c = omega (arith, c .literal-adds .ensures, adds-le (c .before .word-at .result))
 
 add-j : tie.Need-add-j Inv-loop μ-loop
 add-j c = omega arith
@@ -50,9 +43,10 @@ loop-less c = omega arith
 loop-again : tie.Need-loop-again Inv-loop μ-loop
 unfolding sum outputAdds
 loop-again c =
+    let w = c .before .word-at in
     let l = c .before .before .before in
-    let a = l .before .before .args in
-    (omega arith, omega (arith, c .literal-adds .ensures, adds-le (getD (a .output-table .now) (l .loop .j) 0)), (λ i n ns. rw add-one (omega (arith, c .literal-adds .ensures, l .loop .inv .2 i n ns))))
+    let e = c .literal-adds .ensures ∙ ap adds (w .ensures) in
+    (omega arith, omega (arith, c .literal-adds .ensures, adds-le (w .result)), (λ i n ns. rw add-one (omega (arith, e, l .loop .inv .2 i n ns))))
 
 returns : tie.Need-returns Inv-loop μ-loop
 returns c i n ns =
@@ -68,9 +62,8 @@ outputs-add-spec =
     Inv-loop
     μ-loop
     loop-holds
-    cast-literal-adds
-    mul-literal-adds
-    shared-slice-read-literal-adds
+    cast-word-at
+    word-at-requires
     literal-adds-requires
     add-c
     add-j

@@ -33,39 +33,33 @@ add-node-number c = omega arith
 add-node-number-2 : tie.Need-add-node-number-2 Inv-loop μ-loop
 add-node-number-2 c = omega arith
 
-mul-node-number : tie.Need-mul-node-number Inv-loop μ-loop
-mul-node-number c = omega arith
+word-at-requires : tie.Need-word-at-requires Inv-loop μ-loop
+word-at-requires c κs = omega arith
 
-shared-slice-read-node-number : tie.Need-shared-slice-read-node-number Inv-loop μ-loop
-shared-slice-read-node-number c = omega arith
+add-word-at : tie.Need-add-word-at Inv-loop μ-loop
+add-word-at c = omega arith
 
-add-node-number-3 : tie.Need-add-node-number-3 Inv-loop μ-loop
-add-node-number-3 c = omega arith
+word-at-requires-2 : tie.Need-word-at-requires-2 Inv-loop μ-loop
+word-at-requires-2 c κs = omega arith
 
-mul-node-number-2 : tie.Need-mul-node-number-2 Inv-loop μ-loop
-mul-node-number-2 c = omega arith
+add-word-at-2 : tie.Need-add-word-at-2 Inv-loop μ-loop
+add-word-at-2 c = omega arith
 
-shared-slice-read-node-number-2 : tie.Need-shared-slice-read-node-number-2 Inv-loop μ-loop
-shared-slice-read-node-number-2 c = omega arith
-
-add-node-number-4 : tie.Need-add-node-number-4 Inv-loop μ-loop
-add-node-number-4 c = omega arith
-
-mul-node-number-3 : tie.Need-mul-node-number-3 Inv-loop μ-loop
-mul-node-number-3 c = omega arith
-
-shared-slice-read-node-number-3 : tie.Need-shared-slice-read-node-number-3 Inv-loop μ-loop
-shared-slice-read-node-number-3 c = omega arith
+word-at-requires-3 : tie.Need-word-at-requires-3 Inv-loop μ-loop
+word-at-requires-3 c κs = omega arith
 
 node-number-requires : tie.Need-node-number-requires Inv-loop μ-loop
 node-number-requires c κs = search needs
 
 returns : tie.Need-returns Inv-loop μ-loop
 returns c o os =
-    let l = c .before .before .before .before .before .before in
+    let z = c .before .before in
+    let y = z .before in
+    let x = y .before in
+    let l = x .before .before in
     let a = l .before .before .args in
     let g : Graph = graphOf (a .inputs) (a .nodes) o (a .node-table .now) os in
-    let e = node-next g (l .loop .v) _ (l .loop .inv .1 o os) (c .before .node-number .ensures) in
+    let e = node-next g (l .loop .v) _ _ _ _ (l .loop .inv .1 o os) (x .word-at .ensures) (y .word-at2 .ensures) (z .word-at3 .ensures) (c .before .node-number .ensures) in
     e ∙ sym (stays (3 * (l .loop .v + 1)) (3 * a .nodes) (wordNumber g) (λ z. c .if1 .taken (e ∙ z)) (omega arith))
 
 add-v : tie.Need-add-v Inv-loop μ-loop
@@ -76,9 +70,12 @@ loop-less c = omega arith
 
 loop-again : tie.Need-loop-again Inv-loop μ-loop
 loop-again c =
-    let l = c .before .before .before .before .before .before in
+    let z = c .before .before in
+    let y = z .before in
+    let x = y .before in
+    let l = x .before .before in
     let a = l .before .before .args in
-    (omega arith, (λ o os. sym (node-next (graphOf (a .inputs) (a .nodes) o (a .node-table .now) os) (l .loop .v) _ (l .loop .inv .1 o os) (c .before .node-number .ensures)) ∙ c .if1 .left))
+    (omega arith, (λ o os. sym (node-next (graphOf (a .inputs) (a .nodes) o (a .node-table .now) os) (l .loop .v) _ _ _ _ (l .loop .inv .1 o os) (x .word-at .ensures) (y .word-at2 .ensures) (z .word-at3 .ensures) (c .before .node-number .ensures)) ∙ c .if1 .left))
 
 returns-2 : tie.Need-returns-2 Inv-loop μ-loop
 returns-2 c o os =
@@ -99,14 +96,11 @@ nodes-number-spec =
     mul-at
     add-node-number
     add-node-number-2
-    mul-node-number
-    shared-slice-read-node-number
-    add-node-number-3
-    mul-node-number-2
-    shared-slice-read-node-number-2
-    add-node-number-4
-    mul-node-number-3
-    shared-slice-read-node-number-3
+    word-at-requires
+    add-word-at
+    word-at-requires-2
+    add-word-at-2
+    word-at-requires-3
     node-number-requires
     returns
     add-v

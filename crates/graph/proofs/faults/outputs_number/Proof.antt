@@ -27,21 +27,19 @@ loop-holds : tie.Need-loop-holds Inv-loop μ-loop
 unfolding firstOf
 loop-holds c = (omega arith, refl, (λ ns. refl))
 
-mul-below-number : tie.Need-mul-below-number Inv-loop μ-loop
-mul-below-number c = omega arith
-
-shared-slice-read-below-number : tie.Need-shared-slice-read-below-number Inv-loop μ-loop
-shared-slice-read-below-number c = omega arith
+word-at-requires : tie.Need-word-at-requires Inv-loop μ-loop
+word-at-requires c κs = omega arith
 
 below-number-requires : tie.Need-below-number-requires Inv-loop μ-loop
 below-number-requires c κs = search needs
 
 returns : tie.Need-returns Inv-loop μ-loop
 returns c ns =
-    let l = c .before .before .before .before in
+    let w = c .before .before in
+    let l = w .before .before in
     let a = l .before .before .args in
     let g : Graph = graphOf (a .inputs) (a .nodes) (a .outputs) ns (a .output-table .now) in
-    let e = out-next g (l .loop .j) _ (l .loop .inv .2 ns) (rw (l .loop .inv .1) at (c .before .below-number .ensures)) in
+    let e = out-next g (l .loop .j) _ _ (l .loop .inv .2 ns) (w .word-at .ensures) (rw (l .loop .inv .1) at (c .before .below-number .ensures)) in
     e ∙ sym (stays (l .loop .j + 1) (a .outputs) (outputNumber g) (λ z. c .if1 .taken (e ∙ z)) (omega arith))
 
 add-j : tie.Need-add-j Inv-loop μ-loop
@@ -52,9 +50,10 @@ loop-less c = omega arith
 
 loop-again : tie.Need-loop-again Inv-loop μ-loop
 loop-again c =
-    let l = c .before .before .before .before in
+    let w = c .before .before in
+    let l = w .before .before in
     let a = l .before .before .args in
-    (omega arith, l .loop .inv .1, (λ ns. sym (out-next (graphOf (a .inputs) (a .nodes) (a .outputs) ns (a .output-table .now)) (l .loop .j) _ (l .loop .inv .2 ns) (rw (l .loop .inv .1) at (c .before .below-number .ensures))) ∙ c .if1 .left))
+    (omega arith, l .loop .inv .1, (λ ns. sym (out-next (graphOf (a .inputs) (a .nodes) (a .outputs) ns (a .output-table .now)) (l .loop .j) _ _ (l .loop .inv .2 ns) (w .word-at .ensures) (rw (l .loop .inv .1) at (c .before .below-number .ensures))) ∙ c .if1 .left))
 
 returns-2 : tie.Need-returns-2 Inv-loop μ-loop
 returns-2 c ns =
@@ -73,8 +72,7 @@ outputs-number-spec =
     add-end
     add-end-2
     loop-holds
-    mul-below-number
-    shared-slice-read-below-number
+    word-at-requires
     below-number-requires
     returns
     add-j
