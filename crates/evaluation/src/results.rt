@@ -8,6 +8,7 @@ ghost use Rattle.graph.specs.Admission.{Admitted};
 ghost use Rattle.evaluation.specs.Inner.{byIndex, outputWordFrom};
 ghost use Rattle.evaluation.specs.Evaluation.{outputWord};
 use crate::values;
+use graph::table::word_at;
 
 // Fills the outputs' words into the front of `results`, from the words of the inputs and of all nodes.
 fn fill_results(
@@ -22,7 +23,7 @@ fn fill_results(
     ensures { λ r. ⌜ now (results .exit) ≡ tab outputs (outputWordFrom (byIndex inputs (now («input_words» .entry)) (now («node_words» .entry))) (now («output_table» .entry))) ++ drop outputs (now (results .entry)) ⌝ }
 {
     for o in 0..outputs as usize {
-        let w = values::literal_word(inputs, input_words, node_words, output_table[o]);
+        let w = values::literal_word(inputs, input_words, node_words, word_at(output_table, o));
         results[o] = w;
     }
 }

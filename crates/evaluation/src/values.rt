@@ -4,6 +4,8 @@ ghost use lib.ListN.{length, take, getD};
 ghost use Rattle.graph.specs.Value.{majority, exclusive, nodeValue};
 ghost use Rattle.evaluation.specs.Word.{bit, gather};
 ghost use Rattle.evaluation.specs.Inner.{byIndex, column, literalWord, nodesOf, NodeBelow, NodeWords};
+use graph::literal::MARK;
+use graph::table::word_at;
 
 const ONES: u64 = 18446744073709551615;
 
@@ -56,10 +58,10 @@ fn node_word(inputs: u32, node_table: &[u32], input_words: &[u64], node_words: &
     ensures { λ r. ⌜ ((n j : ℕ) → j < 64 → bit j r ≡ nodeValue (nodesOf inputs n (now («node_table» .entry))) (column j (byIndex inputs (now («input_words» .entry)) (now («node_words» .entry)))) (length (now («node_words» .entry)))) ⌝ }
 {
     let at = 3 * node_words.len();
-    let third = node_table[at + 2];
-    let x = literal_word(inputs, input_words, node_words, node_table[at]);
-    let y = literal_word(inputs, input_words, node_words, node_table[at + 1]);
-    if third == graph::literal::MARK {
+    let third = word_at(node_table, at + 2);
+    let x = literal_word(inputs, input_words, node_words, word_at(node_table, at));
+    let y = literal_word(inputs, input_words, node_words, word_at(node_table, at + 1));
+    if third == MARK {
         return exclusive_word(x, y);
     }
     majority_word(x, y, literal_word(inputs, input_words, node_words, third))

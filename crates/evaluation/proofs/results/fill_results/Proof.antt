@@ -1,10 +1,10 @@
 -- `results::fill_results` meets its contract. The invariant: results swept up to the output met. From the laws on sweeps.
-use mathlib.Core.Path.{_≡_, refl, _∙_}
+use mathlib.Core.Path.{_≡_, refl, ap, _∙_}
 use Prim.Native.Nat.{_-_, _≤_}
 use native.Mathlib.Omega.{arith}
 use lib.ListN.{length, length-set}
 use Rattle.graph.proofs.Sweep.{swept, swept-zero}
-use Rattle.evaluation.specs.Inner.{byIndex, outputWordFrom}
+use Rattle.evaluation.specs.Inner.{byIndex, literalWord, outputWordFrom}
 use Rattle.evaluation.proofs.Outputs.{swept-front, swept-next}
 use Rattle.evaluation.proofs.results.fill_results.Statement.{statement}
 use Rattle.evaluation.proofs.results.fill_results.Tie as tie
@@ -22,17 +22,14 @@ loop-holds c =
     let a = c .before .before .before .before .args in
     (omega arith, refl, refl, swept-zero (outputWordFrom (byIndex (a .inputs) (a .input-words .now) (a .node-words .now)) (a .output-table .now)) (a .results .now))
 
-mul-literal-word : tie.Need-mul-literal-word Inv-loop μ-loop
-mul-literal-word c = omega arith
-
-shared-slice-read-literal-word : tie.Need-shared-slice-read-literal-word Inv-loop μ-loop
-shared-slice-read-literal-word c = omega arith
+word-at-requires : tie.Need-word-at-requires Inv-loop μ-loop
+word-at-requires c κs = omega arith
 
 literal-word-requires : tie.Need-literal-word-requires Inv-loop μ-loop
 literal-word-requires c κs =
     let l = c .before .before in
     let s = l .before .before .before .before .before in
-    (s .pre .0, s .pre .3 (l .loop .o) (omega arith))
+    (s .pre .0, omega (arith, c .word-at .ensures, s .pre .3 (l .loop .o) (omega arith)))
 
 mul-results : tie.Need-mul-results Inv-loop μ-loop
 mul-results c = omega arith
@@ -55,7 +52,7 @@ loop-again c =
       l .loop .inv .1,
       simp length-set (l .loop .inv .2),
       swept-next ws (a .output-table .now) (a .results .now) (l .loop .results) (l .loop .o) (c .literal-word .result)
-          (omega arith) (l .loop .inv .3) (c .literal-word .ensures),
+          (omega arith) (l .loop .inv .3) (c .literal-word .ensures ∙ ap (literalWord ws) (c .before .word-at .ensures)),
     )
 
 same-length : tie.Need-same-length Inv-loop μ-loop
@@ -75,8 +72,7 @@ fill-results-spec =
     Inv-loop
     μ-loop
     loop-holds
-    mul-literal-word
-    shared-slice-read-literal-word
+    word-at-requires
     literal-word-requires
     mul-results
     slice-write-results

@@ -1,6 +1,10 @@
 -- `values::node_word` meets its contract: both kinds of node. From the laws on words by index.
+use mathlib.Core.Path.{sym, ap, _∙_}
+use mathlib.Core.List.{List}
+use Prim.Native.Nat.{ℕ}
+use native.Mathlib.Omega.{arith}
 use lib.ListN.{length}
-use Rattle.evaluation.specs.Inner.{byIndex, nodesOf}
+use Rattle.evaluation.specs.Inner.{byIndex, literalWord, nodesOf}
 use Rattle.evaluation.proofs.Index.{node-exclusive, node-majority}
 use borrow.Author.Needs.{needs}
 use Rattle.evaluation.proofs.values.node_word.Statement.{statement}
@@ -9,35 +13,26 @@ use Rattle.evaluation.proofs.values.node_word.Tie as tie
 mul-at : tie.Need-mul-at
 mul-at c = search needs
 
-add-third : tie.Need-add-third
-add-third c = search needs
+add-word-at : tie.Need-add-word-at
+add-word-at c = search needs
 
-mul-third : tie.Need-mul-third
-mul-third c = search needs
+word-at-requires : tie.Need-word-at-requires
+word-at-requires c κs = search needs
 
-shared-slice-read-third : tie.Need-shared-slice-read-third
-shared-slice-read-third c = search needs
-
-mul-literal-word : tie.Need-mul-literal-word
-mul-literal-word c = search needs
-
-shared-slice-read-literal-word : tie.Need-shared-slice-read-literal-word
-shared-slice-read-literal-word c = search needs
+word-at-requires-2 : tie.Need-word-at-requires-2
+word-at-requires-2 c κs = search needs
 
 literal-word-requires : tie.Need-literal-word-requires
-literal-word-requires c κs = search needs
+literal-word-requires c κs = let s = c .before .before .before .before .before in (s .pre .0, omega (arith, c .word-at2 .ensures, s .pre .2 .first))
 
-add-literal-word : tie.Need-add-literal-word
-add-literal-word c = search needs
+add-word-at-2 : tie.Need-add-word-at-2
+add-word-at-2 c = search needs
 
-mul-literal-word-2 : tie.Need-mul-literal-word-2
-mul-literal-word-2 c = search needs
-
-shared-slice-read-literal-word-2 : tie.Need-shared-slice-read-literal-word-2
-shared-slice-read-literal-word-2 c = search needs
+word-at-requires-3 : tie.Need-word-at-requires-3
+word-at-requires-3 c κs = search needs
 
 literal-word-requires-2 : tie.Need-literal-word-requires-2
-literal-word-requires-2 c κs = search needs
+literal-word-requires-2 c κs = let s = c .before .before .before .before .before .before .before in (s .pre .0, omega (arith, c .word-at3 .ensures, s .pre .2 .second))
 
 exclusive-word-requires : tie.Need-exclusive-word-requires
 exclusive-word-requires c κs = search needs
@@ -46,15 +41,19 @@ returns : tie.Need-returns
 returns c = λ n j h.
     let y = c .before .before in
     let x = y .before .before in
-    let a = x .before .before .before .before .before .before .args in
-    node-exclusive (nodesOf (a .inputs) n (a .node-table .now)) (length (a .node-words .now)) (byIndex (a .inputs) (a .input-words .now) (a .node-words .now))
+    let z = x .before .before in
+    let a = z .before .before .before .before .args in
+    let ws : List ℕ = byIndex (a .inputs) (a .input-words .now) (a .node-words .now) in
+    node-exclusive (nodesOf (a .inputs) n (a .node-table .now)) (length (a .node-words .now)) ws
     (x .literal-word .result) (y .literal-word2 .result) (c .exclusive-word .result)
-    (x .literal-word .ensures) (y .literal-word2 .ensures) (c .before .if1 .taken) j h (c .exclusive-word .ensures j)
+    (x .literal-word .ensures ∙ ap (literalWord ws) (x .before .word-at2 .ensures)) (y .literal-word2 .ensures ∙ ap (literalWord ws) (y .before .word-at3 .ensures))
+    (sym (z .word-at .ensures) ∙ c .before .if1 .taken) j h (c .exclusive-word .ensures j)
 
 literal-word-requires-3 : tie.Need-literal-word-requires-3
 literal-word-requires-3 c κs =
-    let s = c .before .before .before .before .before .before .before .before .before in
-    (s .pre .0, s .pre .2 .third (c .if1 .left))
+    let w = c .before .before .before .before .before in
+    let s = w .before .before .before .before in
+    (s .pre .0, omega (arith, w .word-at .ensures, s .pre .2 .third (λ e. c .if1 .left (w .word-at .ensures ∙ e))))
 
 majority-word-requires : tie.Need-majority-word-requires
 majority-word-requires c κs = search needs
@@ -64,10 +63,13 @@ returns-2 c = λ n j h.
     let z = c .before in
     let y = z .before .before in
     let x = y .before .before in
-    let a = x .before .before .before .before .before .before .args in
-    node-majority (nodesOf (a .inputs) n (a .node-table .now)) (length (a .node-words .now)) (byIndex (a .inputs) (a .input-words .now) (a .node-words .now))
+    let w = x .before .before in
+    let a = w .before .before .before .before .args in
+    let ws : List ℕ = byIndex (a .inputs) (a .input-words .now) (a .node-words .now) in
+    node-majority (nodesOf (a .inputs) n (a .node-table .now)) (length (a .node-words .now)) ws
     (x .literal-word .result) (y .literal-word2 .result) (c .majority-word .result)
-    (x .literal-word .ensures) (y .literal-word2 .ensures) (z .literal-word3 .result) (z .literal-word3 .ensures) (z .before .if1 .left)
+    (x .literal-word .ensures ∙ ap (literalWord ws) (x .before .word-at2 .ensures)) (y .literal-word2 .ensures ∙ ap (literalWord ws) (y .before .word-at3 .ensures))
+    (z .literal-word3 .result) (z .literal-word3 .ensures ∙ ap (literalWord ws) (w .word-at .ensures)) (λ e. z .before .if1 .left (w .word-at .ensures ∙ e))
     j h (c .majority-word .ensures j)
 
 pub node-word-spec : {M : Type 1} → statement M
@@ -75,15 +77,12 @@ node-word-spec =
     tie.close
     (tie.spec
     mul-at
-    add-third
-    mul-third
-    shared-slice-read-third
-    mul-literal-word
-    shared-slice-read-literal-word
+    add-word-at
+    word-at-requires
+    word-at-requires-2
     literal-word-requires
-    add-literal-word
-    mul-literal-word-2
-    shared-slice-read-literal-word-2
+    add-word-at-2
+    word-at-requires-3
     literal-word-requires-2
     exclusive-word-requires
     returns
