@@ -12,6 +12,7 @@ pub mod generate;
 pub mod graph;
 pub mod moves;
 pub mod random;
+pub mod report;
 pub mod settling;
 pub mod trees;
 pub mod vectors;

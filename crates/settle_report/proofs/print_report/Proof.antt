@@ -3,8 +3,8 @@ use mathlib.Core.Path.{sym}
 use lib.Seq.{length-take-le}
 use Rattle.report.proofs.Within.{within}
 use borrow.Author.Needs.{needs}
-use Rattle.printing.proofs.program.print_report.Statement.{statement}
-use Rattle.printing.proofs.program.print_report.Tie as tie
+use Rattle.settle_report.proofs.print_report.Statement.{statement}
+use Rattle.settle_report.proofs.print_report.Tie as tie
 
 slice-aggregate-report : tie.Need-slice-aggregate-report
 slice-aggregate-report c = search needs

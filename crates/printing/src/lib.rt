@@ -1,2 +1,0 @@
-// Printing a report: what the report program and its cases share.
-pub mod program;
