@@ -10,7 +10,7 @@ use Rattle.graph.specs.Graph.{Graph}
 use Rattle.tagged_file.proofs.Stores.{front}
 use Rattle.promises.specs.Demand.{Call, step, run, reported}
 use Rattle.replay.specs.Replay.{callOf, decode, answersOf, Tells}
-use Rattle.replay.specs.declared.calls.Told.{Told}
+use Rattle.replay.specs.declared.calls.CallAnswer.{CallAnswer}
 use Rattle.replay.proofs.One.{tells-alike}
 
 length-answers : (g : Graph) (sc ws : List ℕ) → length (answersOf g (decode sc ws)) ≡ 2 * (length ws / 3)
@@ -25,7 +25,7 @@ two-stores l at x y vs =
     let q₂ : at + 2 ≡ suc (suc at) = omega arith in
     rw (q₁, q₂) refl
 
-answers-step : (g h : Graph) (c : Call) (t : Told) (cs : List Call) → Tells g c h t → t .number ∷ t .saving ∷ answersOf h cs ≡ answersOf g (c ∷ cs)
+answers-step : (g h : Graph) (c : Call) (t : CallAnswer) (cs : List Call) → Tells g c h t → t .number ∷ t .saving ∷ answersOf h cs ≡ answersOf g (c ∷ cs)
 answers-step g h c t cs q =
     ap (λ (n : ℕ). n ∷ t .saving ∷ answersOf h cs) (q .number)
     ∙ ap (λ (n : ℕ). step g c .answer .number ∷ n ∷ answersOf h cs) (q .saving)
@@ -39,7 +39,7 @@ pub record CallsLeft (g₀ : Graph) (sc₀ ws l₀ : List ℕ) (g : Graph) (sc l
   pub answers : sets l at (answersOf g (decode sc₀ s)) ≡ sets l₀ 0 (answersOf g₀ (decode sc₀ ws))
 
 module _ (g₀ : Graph) (sc₀ ws l₀ : List ℕ) where
-  pub calls-more : (g h : Graph) (sc sc′ l s s′ : List ℕ) (at : ℕ) (t : Told) → 3 ≤ length s → CallsLeft g₀ sc₀ ws l₀ g sc l s at
+  pub calls-more : (g h : Graph) (sc sc′ l s s′ : List ℕ) (at : ℕ) (t : CallAnswer) → 3 ≤ length s → CallsLeft g₀ sc₀ ws l₀ g sc l s at
       → Tells g (callOf sc (getD s 0 0) (getD s 1 0) (getD s 2 0)) h t → length sc′ ≡ length sc → s′ ≡ drop 3 s
       → CallsLeft g₀ sc₀ ws l₀ h sc′ (set (set l at (t .number)) (at + 1) (t .saving)) s′ (at + 2)
   calls-more g h sc sc′ l [] s′ at t m i q e f = absurd (omega arith)

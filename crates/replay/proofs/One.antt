@@ -20,10 +20,10 @@ use Rattle.settling.proofs.Rounds.{Ended, settle-ended}
 use Rattle.answers.specs.Told.{toldBy, told}
 use Rattle.promises.specs.Demand.{Call, nodeAt, pairAt, treeAt, settling, step, reported}
 use Rattle.replay.specs.Replay.{callOf, Tells}
-use Rattle.replay.specs.declared.calls.Told.{Told}
+use Rattle.replay.specs.declared.calls.CallAnswer.{CallAnswer}
 
 -- an entry's outcome is the step's
-tells : (g h : Graph) (c : Call) (a : Answer) (t : Told) → outcome a h ≡ step g c → t .number ≡ a .number → t .saving ≡ reported c a → Tells g c h t
+tells : (g h : Graph) (c : Call) (a : Answer) (t : CallAnswer) → outcome a h ≡ step g c → t .number ≡ a .number → t .saving ≡ reported c a → Tells g c h t
 tells g h c a t e n s =
     record {
       number = n ∙ ap (λ (o : Outcome). o .answer .number) e;
@@ -49,7 +49,7 @@ module _ (sc : List ℕ) (k u w : ℕ) where
   unfolding callOf
   is-settling n m l = sym (unequal k 0 _ _ n (unequal k 1 _ _ m (unequal k 2 _ _ l refl)))
 
-module _ (g h : Graph) (sc : List ℕ) (k u w : ℕ) (a : Answer) (t : Told) where
+module _ (g h : Graph) (sc : List ℕ) (k u w : ℕ) (a : Answer) (t : CallAnswer) where
   pub told-node : k ≡ 0 → outcome a h ≡ nodeCall g u → (t .number ≡ a .number) × (t .saving ≡ savingOf a) → Tells g (callOf sc k u w) h t
   told-node z e q = rw (is-node sc k u w z) (tells g h (nodeAt u) a t e (q .0) (q .1))
 
@@ -106,7 +106,7 @@ same-call : (g : Graph) (sc sc′ : List ℕ) (k u w : ℕ) → length sc ≡ le
 unfolding callOf ifEqual
 same-call g sc sc′ k u w e = alike (eqb k 0) (eqb k 1) (eqb k 2) g sc sc′ u w e
 
-pub tells-alike : (g h : Graph) (sc sc′ : List ℕ) (k u w : ℕ) (t : Told) → length sc ≡ length sc′ → Tells g (callOf sc k u w) h t
+pub tells-alike : (g h : Graph) (sc sc′ : List ℕ) (k u w : ℕ) (t : CallAnswer) → length sc ≡ length sc′ → Tells g (callOf sc k u w) h t
     → Tells g (callOf sc′ k u w) h t
 tells-alike g h sc sc′ k u w t e q =
     let s = same-call g sc sc′ k u w e in

@@ -11,7 +11,7 @@ use Rattle.tagged_file.specs.Load.{blank, loadCall}
 use Rattle.promises.specs.Demand.{Call, nodeAt, pairAt, treeAt, settling, step, run, reported}
 use Rattle.replay.specs.declared.Replayed.{Replayed}
 use Rattle.replay.specs.declared.Replayed.the-variants as replayed
-use Rattle.replay.specs.declared.calls.Told.{Told}
+use Rattle.replay.specs.declared.calls.CallAnswer.{CallAnswer}
 
 -- the call of kind k at node u and word w, with the scratch that is lent: what a kind does not want is not looked at, and a kind
 -- above 3 is refused before any call
@@ -69,7 +69,7 @@ replayedGraph (replayed.Done i n o) ns os = graphOf i n o ns os
 replayedGraph (replayed.Refused r) ns os = blank ns os
 
 -- t is what the call c answers on g, and h the graph after it
-pub record Tells (g : Graph) (c : Call) (h : Graph) (t : Told) : Type 0 where
+pub record Tells (g : Graph) (c : Call) (h : Graph) (t : CallAnswer) : Type 0 where
   pub number : t .number ≡ step g c .answer .number
   pub saving : t .saving ≡ reported c (step g c .answer)
   pub graph : h ≡ step g c .graph

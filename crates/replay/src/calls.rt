@@ -10,28 +10,28 @@ ghost use Rattle.settling.specs.Settle.{settledAnswer};
 ghost use Rattle.promises.specs.Demand.{run, reported, settling};
 ghost use Rattle.replay.specs.Replay.{callOf, decode, answersOf, Tells};
 
-// What a call answers.
-pub struct Told {
+// What a call of the list answers.
+pub struct CallAnswer {
     pub number: u32,
     pub saving: u32,
 }
 
-pub fn saving_told(answer: moves::Saving) -> Told
+pub fn saving_answer(answer: moves::Saving) -> CallAnswer
     ensures { λ r. ⌜ (r .number ≡ savingAnswer answer .number) × (r .saving ≡ savingOf (savingAnswer answer)) ⌝ }
 {
-    Told {
+    CallAnswer {
         number: answers::told::saving_number(answer),
         saving: answers::told::saving_told(answer, 0),
     }
 }
 
 // Settling never raises C.
-pub fn settled_told(answer: settling::Settled) -> Told
+pub fn settled_answer(answer: settling::Settled) -> CallAnswer
     requires { ⌜ getD (settledAnswer answer .values) 2 0 ≤ getD (settledAnswer answer .values) 1 0 ⌝ }
     ensures { λ r. ⌜ (r .number ≡ settledAnswer answer .number) × (r .saving ≡ reported (settling []) (settledAnswer answer)) ⌝ }
 {
     let figures = answers::told::settled_told(answer, [0; 3]);
-    Told {
+    CallAnswer {
         number: answers::told::settled_number(answer),
         saving: figures[1] - figures[2],
     }
@@ -48,11 +48,11 @@ pub fn one_call(
     node: u32,
     word: u32,
     scratch: &mut [u32],
-) -> Told
+) -> CallAnswer
     ensures { λ r. ⌜ Tells (graphOf inputs nodes outputs (now («node_table» .entry)) (now («output_table» .entry))) (callOf (now (scratch .entry)) kind node word) (graphOf inputs nodes outputs (now («node_table» .exit)) (now («output_table» .exit))) r ⌝ }
 {
     if kind == 0 {
-        return saving_told(node_call::node_call(
+        return saving_answer(node_call::node_call(
             inputs,
             nodes,
             outputs,
@@ -62,7 +62,7 @@ pub fn one_call(
         ));
     }
     if kind == 1 {
-        return saving_told(node_call::pair_call(
+        return saving_answer(node_call::pair_call(
             inputs,
             nodes,
             outputs,
@@ -73,7 +73,7 @@ pub fn one_call(
         ));
     }
     if kind == 2 {
-        return saving_told(tree_call::tree_call(
+        return saving_answer(tree_call::tree_call(
             inputs,
             nodes,
             outputs,
@@ -83,7 +83,7 @@ pub fn one_call(
             scratch,
         ));
     }
-    settled_told(settling::settle(inputs, nodes, outputs, node_table, output_table, scratch))
+    settled_answer(settling::settle(inputs, nodes, outputs, node_table, output_table, scratch))
 }
 
 // Every call of the list, on what the one before left; the answers go in front.
@@ -104,7 +104,7 @@ pub fn make_calls(
     let mut s = calls;
     let mut at = 0;
     while 3 <= s.len() {
-        let told = one_call(
+        let answer = one_call(
             inputs,
             nodes,
             outputs,
@@ -115,8 +115,8 @@ pub fn make_calls(
             s[2],
             scratch,
         );
-        answers[at] = told.number;
-        answers[at + 1] = told.saving;
+        answers[at] = answer.number;
+        answers[at + 1] = answer.saving;
         s = &s[3..];
         at += 2;
     }

@@ -1,11 +1,11 @@
--- `settled_told` meets its contract. From those of its answer's number and values.
+-- `settled_answer` meets its contract. From those of its answer's number and values.
 use mathlib.Core.Path.{refl}
 use native.Mathlib.Omega.{arith}
 use Rattle.settling.specs.Settle.{settledAnswer}
 use Rattle.replay.proofs.One.{figures}
 use borrow.Author.Needs.{needs}
-use Rattle.replay.proofs.calls.settled_told.Statement.{statement}
-use Rattle.replay.proofs.calls.settled_told.Tie as tie
+use Rattle.replay.proofs.calls.settled_answer.Statement.{statement}
+use Rattle.replay.proofs.calls.settled_answer.Tie as tie
 
 settled-told-requires : tie.Need-settled-told-requires
 settled-told-requires c κs = search needs
@@ -29,8 +29,8 @@ returns c =
     let f = figures (settledAnswer (c .before .before .args .answer)) _ (c .before .settled-told .ensures) in
     (c .settled-number .ensures, rw (f .0, f .1) refl)
 
-pub settled-told-spec : {M : Type 1} → statement M
-settled-told-spec =
+pub settled-answer-spec : {M : Type 1} → statement M
+settled-answer-spec =
     tie.close
     (tie.spec
     settled-told-requires

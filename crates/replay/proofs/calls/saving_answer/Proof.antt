@@ -1,8 +1,8 @@
--- `saving_told` meets its contract. From those of its answer's number and value.
+-- `saving_answer` meets its contract. From those of its answer's number and value.
 use Rattle.settling.specs.Round.{savingOf}
 use borrow.Author.Needs.{needs}
-use Rattle.replay.proofs.calls.saving_told.Statement.{statement}
-use Rattle.replay.proofs.calls.saving_told.Tie as tie
+use Rattle.replay.proofs.calls.saving_answer.Statement.{statement}
+use Rattle.replay.proofs.calls.saving_answer.Tie as tie
 
 saving-number-requires : tie.Need-saving-number-requires
 saving-number-requires c κs = search needs
@@ -14,5 +14,5 @@ returns : tie.Need-returns
 unfolding savingOf
 returns c = (c .before .saving-number .ensures, c .saving-told .ensures)
 
-pub saving-told-spec : {M : Type 1} → statement M
-saving-told-spec = tie.close (tie.spec saving-number-requires saving-told-requires returns)
+pub saving-answer-spec : {M : Type 1} → statement M
+saving-answer-spec = tie.close (tie.spec saving-number-requires saving-told-requires returns)
