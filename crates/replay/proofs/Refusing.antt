@@ -1,17 +1,16 @@
--- The walk over the kinds, and what the number of a list of calls can be. From the laws on tests.
-use mathlib.Core.Path.{_≡_, refl, sym, _∙_}
+-- The walk over the kinds, and what refuses a list of calls at each test. From the laws on tests.
+use mathlib.Core.Path.{_≡_, refl, sym}
+use mathlib.Core.Bool.{Bool, true, false, cond}
 use mathlib.Core.List.{List, [], _∷_}
-use Prim.Native.Nat.{ℕ, suc, _*_, _/_, _%_, _≤_, _<_}
+use Prim.Native.Nat.{ℕ, _*_, _/_, _%_, _≤_, _<_}
 use native.Mathlib.Omega.{arith}
-use lib.Dec.{eqb}
+use lib.Dec.{ltb}
 use lib.ListN.{length, getD, drop}
 use Rattle.graph.specs.Finite.{ifLess, ifEqual, first}
-use Rattle.graph.proofs.Answers.{first-le, ifLess-le}
-use Rattle.graph.proofs.Cases.{cond-le}
-use Rattle.graph.proofs.Tests.{equal, unequal, less, no-less, fault, none, both, off}
+use Rattle.graph.proofs.Tests.{equal, unequal, less, no-less, fault, none}
 use Rattle.replay.specs.Replay.{kindsNumber, codeNumber}
 
-pub kinds-step : (s : List ℕ) → 3 ≤ length s → kindsNumber s ≡ first (ifLess 3 (getD s 0 0) 2 0) (kindsNumber (drop 3 s))
+pub kinds-step : (s : List ℕ) → 3 ≤ length s → kindsNumber s ≡ first (ifLess 3 (getD s 0 0) 102 0) (kindsNumber (drop 3 s))
 kinds-step [] h = absurd (omega arith)
 kinds-step (k ∷ []) h = absurd (omega arith)
 kinds-step (k ∷ u ∷ []) h = absurd (omega arith)
@@ -23,53 +22,36 @@ kinds-done (k ∷ []) h = refl
 kinds-done (k ∷ u ∷ []) h = refl
 kinds-done (k ∷ u ∷ w ∷ s) h = absurd (omega arith)
 
-kinds-le : (s : List ℕ) → kindsNumber s ≤ 9
-kinds-le [] = omega arith
-kinds-le (k ∷ []) = omega arith
-kinds-le (k ∷ u ∷ []) = omega arith
-kinds-le (k ∷ u ∷ w ∷ s) = first-le _ _ 9 (ifLess-le 3 k 2 0 9 (omega arith) (omega arith)) (kinds-le s)
+-- a number of the kinds that is not 0 is 102
+unknown-by : (t : Bool) (r : ℕ) → (first (cond t 102 0) r ≡ 0 → ⊥) → ((r ≡ 0 → ⊥) → 102 ≡ r) → 102 ≡ first (cond t 102 0) r
+unfolding first
+unknown-by true r n h = refl
+unknown-by false r n h = h n
 
-ifEqual-le : (a b x y n : ℕ) → x ≤ n → y ≤ n → ifEqual a b x y ≤ n
-unfolding ifEqual
-ifEqual-le a b x y n h k = cond-le (eqb a b) x y n h k
-
-fault-at : (k a b : ℕ) → suc k ≡ a → suc k ≡ first a b
-fault-at k a b e = fault a b e (λ z. omega arith)
+kinds-unknown : (s : List ℕ) → (kindsNumber s ≡ 0 → ⊥) → 102 ≡ kindsNumber s
+unfolding ifLess
+kinds-unknown [] n = absurd (n refl)
+kinds-unknown (k ∷ []) n = absurd (n refl)
+kinds-unknown (k ∷ u ∷ []) n = absurd (n refl)
+kinds-unknown (k ∷ u ∷ w ∷ s) n = unknown-by (ltb 3 k) (kindsNumber s) n (kinds-unknown s)
 
 module _ (ws : List ℕ) (room : ℕ) where
-  code-le : codeNumber ws room ≤ 9
-  unfolding codeNumber
-  code-le =
-      first-le _ _ 9 (ifEqual-le (length ws % 3) 0 0 1 9 (omega arith) (omega arith))
-      (first-le _ _ 9 (kinds-le ws) (ifLess-le room (2 * (length ws / 3)) 4 0 9 (omega arith) (omega arith)))
+  -- the number after each test
+  whole : length ws % 3 ≡ 0 → _≡_ {A = ℕ} (ifEqual (length ws % 3) 0 0 101) 0
+  whole z = sym (equal (length ws % 3) 0 0 101 z refl)
 
-  -- what `refused_by` asks of the number
-  pub code-range : (k : ℕ) → k ≡ codeNumber ws room → (k ≡ 0 → ⊥) → (1 ≤ k) × (k ≤ 9)
-  code-range k e n = (omega arith, omega (arith, code-le))
-
-  -- room enough where there is none
-  pub code-room : codeNumber ws room ≡ 0 → 2 * (length ws / 3) ≤ room
+  pub code-left : (length ws % 3 ≡ 0 → ⊥) → 101 ≡ codeNumber ws room
   unfolding codeNumber
-  code-room e = off room (2 * (length ws / 3)) 3 0 (both _ _ (both _ _ e .1) .1) .0
+  code-left n = let q : _≡_ {A = ℕ} 101 (ifEqual (length ws % 3) 0 0 101) = unequal (length ws % 3) 0 0 101 n refl in fault (ifEqual (length ws % 3) 0 0 101) _ q (λ z. omega (arith, q))
 
-  -- the number at the end of each way through `code_number`
-  pub code-left : (length ws % 3 ≡ 0 → ⊥) → 1 ≡ codeNumber ws room
+  pub code-kinds : length ws % 3 ≡ 0 → (kindsNumber ws ≡ 0 → ⊥) → 102 ≡ codeNumber ws room
   unfolding codeNumber
-  code-left n = fault-at 0 (ifEqual (length ws % 3) 0 0 1) _ (unequal (length ws % 3) 0 0 1 n refl)
-
-  pub code-kinds : (k : ℕ) → length ws % 3 ≡ 0 → k ≡ kindsNumber ws → (k ≡ 0 → ⊥) → k ≡ codeNumber ws room
-  unfolding codeNumber
-  code-kinds k z e n =
-      none (ifEqual (length ws % 3) 0 0 1) _ (sym (equal (length ws % 3) 0 0 1 z refl)) (fault (kindsNumber ws) _ e (λ y. n (e ∙ y)))
+  code-kinds z n = none (ifEqual (length ws % 3) 0 0 101) _ (whole z) (fault (kindsNumber ws) _ (kinds-unknown ws n) n)
 
   pub code-short : length ws % 3 ≡ 0 → kindsNumber ws ≡ 0 → room < 2 * (length ws / 3) → 4 ≡ codeNumber ws room
   unfolding codeNumber
-  code-short z k h =
-      none (ifEqual (length ws % 3) 0 0 1) _ (sym (equal (length ws % 3) 0 0 1 z refl))
-      (none (kindsNumber ws) _ k (less room (2 * (length ws / 3)) 4 0 h refl))
+  code-short z k h = none (ifEqual (length ws % 3) 0 0 101) _ (whole z) (none (kindsNumber ws) _ k (less room (2 * (length ws / 3)) 4 0 h refl))
 
-  pub code-none : length ws % 3 ≡ 0 → kindsNumber ws ≡ 0 → 2 * (length ws / 3) ≤ room → 0 ≡ codeNumber ws room
+  pub code-none : length ws % 3 ≡ 0 → kindsNumber ws ≡ 0 → 2 * (length ws / 3) ≤ room → codeNumber ws room ≡ 0
   unfolding codeNumber
-  code-none z k h =
-      none (ifEqual (length ws % 3) 0 0 1) _ (sym (equal (length ws % 3) 0 0 1 z refl))
-      (none (kindsNumber ws) _ k (no-less room (2 * (length ws / 3)) 4 0 h refl))
+  code-none z k h = sym (none (ifEqual (length ws % 3) 0 0 101) _ (whole z) (none (kindsNumber ws) _ k (no-less room (2 * (length ws / 3)) 4 0 h refl)))

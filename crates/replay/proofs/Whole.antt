@@ -1,11 +1,13 @@
--- What a refused replay and a whole one come to is its definition, and demand 3 holds. From the laws on answers, and demand 3 over lists.
+-- What a refused replay and a whole one come to is its definition, and demand 3 holds of what is left. From the laws on answers, and
+-- demand 3 over lists.
 use mathlib.Core.Path.{_≡_, refl, sym, ap, _∙_}
 use mathlib.Core.List.{List, [], _∷_, _++_}
-use Prim.Native.Nat.{ℕ, zero, suc, _*_, _/_}
+use Prim.Native.Nat.{ℕ, zero, suc, _+_, _*_, _/_}
 use native.Mathlib.Omega.{arith}
 use lib.ListN.{length, drop}
 use Rattle.graph.specs.Finite.{first}
 use Rattle.graph.specs.Graph.{Graph, graphOf}
+use Rattle.graph.specs.Count.{C}
 use Rattle.graph.specs.Answer.{Answer, accepted, refused, numberOf, Outcome, outcome, guarded, ScratchKept}
 use Rattle.graph.specs.declared.Refusal.{Refusal}
 use Rattle.graph.specs.declared.Refusal.the-variants.{MissingBytes, WrongField, OverLimit, ShortSlice, BadLiteral, ExtraBytes, NoSuchNode, ShortScratch, ShortBuffer}
@@ -13,9 +15,9 @@ use Rattle.graph.proofs.Tests.{equal, unequal, fault, none}
 use Rattle.graph.proofs.Answers.{refused-outcome, accepted-outcome}
 use Rattle.tagged_file.specs.Load.{blank, loadedAnswer, loadedGraph, loadCall}
 use Rattle.tagged_file.specs.declared.Loaded.{Loaded}
-use Rattle.promises.specs.Demand.{run, Demand}
+use Rattle.promises.specs.Demand.{Call, step, run, reported, savings, Demand}
 use Rattle.promises.proofs.Lists.{after-load}
-use Rattle.replay.specs.Replay.{decode, answersOf, codeNumber, replayNumber, replayCall, answersAfter}
+use Rattle.replay.specs.Replay.{decode, answersOf, codeNumber, replayNumber, replayCall, answersAfter, savingsIn, DemandMet}
 
 numbered : (r : Refusal) → numberOf r ≡ 0 → ⊥
 numbered MissingBytes e = omega arith
@@ -33,6 +35,21 @@ unfolding guarded
 guarded-graph zero g o e n = absurd (n e)
 guarded-graph (suc k) g o e n = refl
 
+-- the savings among the answers are those that the calls reported
+savings-in : (g : Graph) (cs : List Call) (rest : List ℕ) → savingsIn (length cs) (answersOf g cs ++ rest) ≡ savings g cs
+savings-in g [] rest = refl
+savings-in g (c ∷ cs) rest = ap (λ (n : ℕ). reported c (step g c .answer) + n) (savings-in (step g c .graph) cs rest)
+
+demand-met : (g h : Graph) (cs : List Call) (l rest : List ℕ) → Demand g cs → h ≡ run g cs → l ≡ answersOf g cs ++ rest → DemandMet g cs h l
+demand-met g h cs l rest d e f =
+    rw (e, f)
+    record {
+      wired = d .wired;
+      outputs = d .outputs;
+      count = ap (λ (n : ℕ). C (run g cs) + n) (savings-in g cs rest) ∙ d .count;
+      demand = d;
+    }
+
 -- what a load answered, known by its case
 pub at-case : (a b : Loaded) (ns os : List ℕ) (o : Outcome) → a ≡ b → outcome (loadedAnswer a) (loadedGraph a ns os) ≡ o
     → outcome (loadedAnswer b) (loadedGraph b ns os) ≡ o
@@ -48,19 +65,18 @@ module _ (file ws ns os sc l : List ℕ) where
   Met a h l′ sc′ =
       (outcome a h ≡ replayCall file ws ns os sc (length l))
       × ((l′ ≡ answersAfter file ws ns os sc l)
-      × (ScratchKept a sc sc′ × (replayNumber file ws ns os (length l) ≡ 0 → Demand (loadCall file ns os .graph) (decode sc ws))))
+      × (ScratchKept a sc sc′ × (a .number ≡ 0 → DemandMet (loadCall file ns os .graph) (decode sc ws) h l′)))
 
   refuses : (k : ℕ) → k ≡ replayNumber file ws ns os (length l) → (k ≡ 0 → ⊥) → Met (refused k) (blank ns os) l sc
   unfolding replayCall answersAfter
   refuses k e n = (
     refused-outcome k (replayNumber file ws ns os (length l)) (blank ns os) _ e (λ z. n (e ∙ z)),
-    (unequal (replayNumber file ws ns os (length l)) 0 _ l (λ z. n (e ∙ z)) refl, ((λ m. refl), (λ z. absurd (n (e ∙ z))))),
+    (unequal (replayNumber file ws ns os (length l)) 0 _ l (λ z. n (e ∙ z)) refl, ((λ m. refl), (λ z. absurd (n z)))),
   )
 
-  pub refused-words : (r : Refusal) (k : ℕ) → numberOf r ≡ k → k ≡ codeNumber ws (length l) → (k ≡ 0 → ⊥) → Met (refused (numberOf r)) (blank ns os) l sc
+  pub refused-words : (k : ℕ) → k ≡ codeNumber ws (length l) → (k ≡ 0 → ⊥) → Met (refused k) (blank ns os) l sc
   unfolding replayNumber
-  refused-words r k e q n =
-      refuses (numberOf r) (fault (codeNumber ws (length l)) (loadCall file ns os .answer .number) (e ∙ q) (λ z. n (q ∙ z))) (λ z. n (sym e ∙ z))
+  refused-words k q n = refuses k (fault (codeNumber ws (length l)) (loadCall file ns os .answer .number) q (λ z. n (q ∙ z))) n
 
   pub refused-file : (r : Refusal) (ns′ os′ : List ℕ) → codeNumber ws (length l) ≡ 0 → outcome (refused (numberOf r)) (blank ns′ os′) ≡ loadCall file ns os
       → Met (refused (numberOf r)) (blank ns′ os′) l sc
@@ -69,7 +85,7 @@ module _ (file ws ns os sc l : List ℕ) where
       let q : numberOf r ≡ loadCall file ns os .answer .number = ap (λ (o : Outcome). o .answer .number) e in
       let h : blank ns′ os′ ≡ blank ns os = ap (λ (o : Outcome). o .graph) e ∙ unchanged (λ y. numbered r (q ∙ y)) in
       let m = refuses (numberOf r) (none (codeNumber ws (length l)) (loadCall file ns os .answer .number) z q) (numbered r) in
-      (ap (λ (x : Graph). outcome (refused (numberOf r)) x) h ∙ m .0, m .1)
+      rw h m
 
   pub replays : (i n o : ℕ) (ns′ os′ l′ sc′ : List ℕ) (h : Graph) → codeNumber ws (length l) ≡ 0
       → outcome (accepted (i ∷ n ∷ o ∷ [])) (graphOf i n o ns′ os′) ≡ loadCall file ns os
@@ -81,13 +97,15 @@ module _ (file ws ns os sc l : List ℕ) where
       let a : accepted (i ∷ n ∷ o ∷ []) ≡ loadCall file ns os .answer = ap (λ (x : Outcome). x .answer) e in
       let g : graphOf i n o ns′ os′ ≡ loadCall file ns os .graph = ap (λ (x : Outcome). x .graph) e in
       let y : loadCall file ns os .answer .number ≡ 0 = sym (ap (λ (x : Answer). x .number) a) in
+      let u : h ≡ run (loadCall file ns os .graph) (decode sc ws) = q ∙ ap (λ (x : Graph). run x (decode sc ws)) g in
+      let t : l′ ≡ answersOf (loadCall file ns os .graph) (decode sc ws) ++ drop (2 * (length ws / 3)) l =
+      f ∙ ap (λ (x : Graph). answersOf x (decode sc ws) ++ drop (2 * (length ws / 3)) l) g in
       let m : first (codeNumber ws (length l)) (loadCall file ns os .answer .number) ≡ 0 = sym (none (codeNumber ws (length l)) (loadCall file ns os .answer .number) z (sym y)) in (
         ap (λ (x : Answer). outcome x h) a
-            ∙ ap (λ (x : Graph). outcome (loadCall file ns os .answer) x) (q ∙ ap (λ (x : Graph). run x (decode sc ws)) g)
+            ∙ ap (λ (x : Graph). outcome (loadCall file ns os .answer) x) u
             ∙ accepted-outcome (first (codeNumber ws (length l)) (loadCall file ns os .answer .number)) (blank ns os) _ m,
         (
-          equal (first (codeNumber ws (length l)) (loadCall file ns os .answer .number)) 0 _ l m
-              (f ∙ ap (λ (x : Graph). answersOf x (decode sc ws) ++ drop (2 * (length ws / 3)) l) g),
-          ((λ b. absurd (b refl)), (λ b. after-load file ns os y (decode sc ws))),
+          equal (first (codeNumber ws (length l)) (loadCall file ns os .answer .number)) 0 _ l m t,
+          ((λ b. absurd (b refl)), (λ b. demand-met _ h (decode sc ws) l′ _ (after-load file ns os y (decode sc ws)) u t)),
         ),
       )

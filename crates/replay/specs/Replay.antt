@@ -2,13 +2,17 @@
 -- words: its kind (0 node, 1 pair, 2 tree, 3 settling), a node and a word; its answer is two: the number and the saving.
 use mathlib.Core.Path.{_≡_}
 use mathlib.Core.List.{List, [], _∷_, _++_}
-use Prim.Native.Nat.{ℕ, _*_, _/_, _%_}
-use lib.ListN.{length, drop}
+use Prim.Native.Nat.{ℕ, zero, suc, _+_, _*_, _/_, _%_, _<_}
+use lib.ListN.{length, getD, drop}
 use Rattle.graph.specs.Finite.{ifLess, ifEqual, first}
-use Rattle.graph.specs.Graph.{Graph, graphOf}
+use Rattle.graph.specs.Graph.{Graph, graphOf, wiring}
+use Rattle.graph.specs.Value.{Assignment, outputValue}
+use Rattle.graph.specs.Count.{C}
 use Rattle.graph.specs.Answer.{Answer, accepted, refused, numberOf, Outcome, outcome, guarded}
 use Rattle.tagged_file.specs.Load.{blank, loadCall}
-use Rattle.promises.specs.Demand.{Call, nodeAt, pairAt, treeAt, settling, step, run, reported}
+use Rattle.promises.specs.Demand.{Call, nodeAt, pairAt, treeAt, settling, step, run, reported, Demand}
+use Rattle.replay.specs.declared.CallsFault.{CallsFault}
+use Rattle.replay.specs.declared.CallsFault.the-variants.{LeftOver, UnknownKind}
 use Rattle.replay.specs.declared.Replayed.{Replayed}
 use Rattle.replay.specs.declared.Replayed.the-variants as replayed
 use Rattle.replay.specs.declared.calls.CallAnswer.{CallAnswer}
@@ -30,17 +34,22 @@ abbrev pub answersOf : Graph → List Call → List ℕ
 answersOf g [] = []
 answersOf g (c ∷ cs) = step g c .answer .number ∷ reported c (step g c .answer) ∷ answersOf (step g c .graph) cs
 
--- 2: a kind above 3
+-- The faults of a list of words are a replay's own, and their numbers are none of document 01's. 101: words are left over, fewer
+-- than a call has; 102: a call's kind is above 3.
+abbrev pub callsNumber : CallsFault → ℕ
+callsNumber LeftOver = 101
+callsNumber UnknownKind = 102
+
 abbrev pub kindsNumber : List ℕ → ℕ
 kindsNumber [] = 0
 kindsNumber (k ∷ []) = 0
 kindsNumber (k ∷ u ∷ []) = 0
-kindsNumber (k ∷ u ∷ w ∷ ws) = first (ifLess 3 k 2 0) (kindsNumber ws)
+kindsNumber (k ∷ u ∷ w ∷ ws) = first (ifLess 3 k 102 0) (kindsNumber ws)
 
--- 1: words that are left over; 2: such a kind; 4: room for fewer than two words a call
+-- what refuses the words: an own fault, or 4 where there is room for fewer than two words a call
 unfoldable pub codeNumber : List ℕ → ℕ → ℕ
 codeNumber ws room =
-    first (ifEqual (length ws % 3) 0 0 1) (first (kindsNumber ws) (ifLess room (2 * (length ws / 3)) 4 0))
+    first (ifEqual (length ws % 3) 0 0 101) (first (kindsNumber ws) (ifLess room (2 * (length ws / 3)) 4 0))
 
 -- the number that refuses a replay: of the words, then of the file
 unfoldable pub replayNumber : List ℕ → List ℕ → List ℕ → List ℕ → ℕ → ℕ
@@ -61,12 +70,27 @@ answersAfter file words ns os scratch before =
 
 abbrev pub replayedAnswer : Replayed → Answer
 replayedAnswer (replayed.Done i n o) = accepted (i ∷ n ∷ o ∷ [])
+replayedAnswer (replayed.NotCalls f) = refused (callsNumber f)
 replayedAnswer (replayed.Refused r) = refused (numberOf r)
 
 -- the graph that the tables hold after it: none where it is refused
 abbrev pub replayedGraph : Replayed → List ℕ → List ℕ → Graph
 replayedGraph (replayed.Done i n o) ns os = graphOf i n o ns os
+replayedGraph (replayed.NotCalls f) ns os = blank ns os
 replayedGraph (replayed.Refused r) ns os = blank ns os
+
+-- the savings among the answers to n calls: every second of their words
+abbrev pub savingsIn : ℕ → List ℕ → ℕ
+savingsIn zero l = 0
+savingsIn (suc n) l = getD l 1 0 + savingsIn n (drop 2 l)
+
+-- demand 3 of what a caller holds after calls on the loaded graph g: h in the tables, and the answers
+pub record DemandMet (g : Graph) (calls : List Call) (h : Graph) (answers : List ℕ) : Type 0 where
+  pub wired : wiring h ≡ wiring g
+  pub outputs : (a : Assignment) (j : ℕ) → j < g .O → outputValue h a j ≡ outputValue g a j
+  pub count : C h + savingsIn (length calls) answers ≡ C g
+  -- and of each call on the way
+  pub demand : Demand g calls
 
 -- t is what the call c answers on g, and h the graph after it
 pub record Tells (g : Graph) (c : Call) (h : Graph) (t : CallAnswer) : Type 0 where

@@ -3,13 +3,19 @@ ghost use mathlib.Core.Path.{_≡_};
 ghost use lib.ListN.{length};
 ghost use Rattle.graph.specs.Answer.{outcome, ScratchKept};
 ghost use Rattle.tagged_file.specs.Load.{loadCall};
-ghost use Rattle.promises.specs.Demand.{Demand};
-ghost use Rattle.replay.specs.Replay.{decode, replayNumber, replayCall, answersAfter, replayedAnswer, replayedGraph};
+ghost use Rattle.replay.specs.Replay.{decode, replayCall, answersAfter, replayedAnswer, replayedGraph, DemandMet};
 
 pub mod calls;
 pub mod faults;
+pub mod told;
 
 use tagged_file::Loaded;
+
+// Why words are no list of calls.
+pub enum CallsFault {
+    LeftOver,
+    UnknownKind,
+}
 
 // What a replay answers.
 pub enum Replayed {
@@ -18,6 +24,7 @@ pub enum Replayed {
         nodes: u32,
         outputs: u32,
     },
+    NotCalls(CallsFault),
     Refused(graph::Refusal),
 }
 
@@ -34,11 +41,16 @@ pub fn replay(
     ensures call { λ r. ⌜ outcome (replayedAnswer r) (replayedGraph r (now («node_table» .exit)) (now («output_table» .exit))) ≡ replayCall (now (file .entry)) (now (calls .entry)) (now («node_table» .entry)) (now («output_table» .entry)) (now (scratch .entry)) (length (now (answers .entry))) ⌝ }
     ensures answers { λ r. ⌜ now (answers .exit) ≡ answersAfter (now (file .entry)) (now (calls .entry)) (now («node_table» .entry)) (now («output_table» .entry)) (now (scratch .entry)) (now (answers .entry)) ⌝ }
     ensures scratch { λ r. ⌜ ScratchKept (replayedAnswer r) (now (scratch .entry)) (now (scratch .exit)) ⌝ }
-    ensures demand { λ r. ⌜ (replayNumber (now (file .entry)) (now (calls .entry)) (now («node_table» .entry)) (now («output_table» .entry)) (length (now (answers .entry))) ≡ 0 → Demand (loadCall (now (file .entry)) (now («node_table» .entry)) (now («output_table» .entry)) .graph) (decode (now (scratch .entry)) (now (calls .entry)))) ⌝ }
+    ensures demand { λ r. ⌜ (replayedAnswer r .number ≡ 0 → DemandMet (loadCall (now (file .entry)) (now («node_table» .entry)) (now («output_table» .entry)) .graph) (decode (now (scratch .entry)) (now (calls .entry))) (replayedGraph r (now («node_table» .exit)) (now («output_table» .exit))) (now (answers .exit))) ⌝ }
 {
-    let number = faults::code_number(calls, answers.len());
-    if number != 0 {
-        return Replayed::Refused(graph::faults::refused_by(number));
+    if calls.len() % 3 != 0 {
+        return Replayed::NotCalls(CallsFault::LeftOver);
+    }
+    if faults::kinds_number(calls) != 0 {
+        return Replayed::NotCalls(CallsFault::UnknownKind);
+    }
+    if answers.len() / 2 < calls.len() / 3 {
+        return Replayed::Refused(graph::Refusal::ShortSlice);
     }
     let answer = tagged_file::load(file, node_table, output_table);
     match answer {

@@ -1,19 +1,26 @@
 -- `replay` meets its contract: what is refused is refused at the words or at the file, and else every call is made. From the laws of Whole.
 use mathlib.Core.Path.{sym, _∙_}
-use Rattle.replay.proofs.Refusing.{code-range, code-room}
+use native.Mathlib.Omega.{arith}
+use Rattle.replay.proofs.Refusing.{code-left, code-kinds, code-short, code-none}
 use Rattle.replay.proofs.Whole.{at-case, refused-words, refused-file, replays}
 use borrow.Author.Needs.{needs}
 use Rattle.replay.proofs.replay.Statement.{statement}
 use Rattle.replay.proofs.replay.Tie as tie
 
-code-number-requires : tie.Need-code-number-requires
-code-number-requires c κs = search needs
-
-refused-by-requires : tie.Need-refused-by-requires
-refused-by-requires c κs = code-range _ _ _ (c .before .code-number .ensures) (c .if1 .taken)
-
 returns : tie.Need-returns
-returns c = refused-words _ _ _ _ _ _ (c .refused-by .result) _ (c .refused-by .ensures) (c .before .before .code-number .ensures) (c .before .if1 .taken)
+returns c = refused-words _ _ _ _ _ _ 101 (code-left _ _ (c .if1 .taken)) (λ z. omega arith)
+
+kinds-number-requires : tie.Need-kinds-number-requires
+kinds-number-requires c κs = search needs
+
+returns-2 : tie.Need-returns-2
+returns-2 c =
+    refused-words _ _ _ _ _ _ 102 (code-kinds _ _ (c .before .before .if1 .left) (λ z. c .if2 .taken (c .before .kinds-number .ensures ∙ z))) (λ z. omega arith)
+
+returns-3 : tie.Need-returns-3
+returns-3 c =
+    let k = sym (c .before .before .kinds-number .ensures) ∙ c .before .if2 .left in
+    refused-words _ _ _ _ _ _ 4 (code-short _ _ (c .before .before .before .if1 .left) k (omega arith)) (λ z. omega arith)
 
 load-requires : tie.Need-load-requires
 load-requires c κs = search needs
@@ -25,9 +32,7 @@ enum-known-answer-2 : tie.Need-enum-known-answer-2
 enum-known-answer-2 c = search needs
 
 make-calls-requires : tie.Need-make-calls-requires
-make-calls-requires c κs =
-    let e = c .before .before .before .before .before .before .before .before .before .before .before .before .before .before in
-    code-room _ _ (sym (e .before .code-number .ensures) ∙ e .if1 .left)
+make-calls-requires c κs = search needs
 
 same-length : tie.Need-same-length
 same-length c = search needs
@@ -35,11 +40,11 @@ same-length c = search needs
 same-length-2 : tie.Need-same-length-2
 same-length-2 c = search needs
 
-returns-2 : tie.Need-returns-2
-returns-2 c =
+returns-4 : tie.Need-returns-4
+returns-4 c =
     let l = c .before .before .before .before .before .before .before in
     let e = l .before .before .before in
-    refused-file _ _ _ _ _ _ (c .before .answer .given .0 .0) _ _ (sym (e .before .code-number .ensures) ∙ e .if1 .left) (at-case _ _ _ _ _ (c .before .answer .given .1) (l .load .ensures))
+    refused-file _ _ _ _ _ _ (c .before .answer .given .0 .0) _ _ (code-none _ _ (e .before .before .before .if1 .left) (sym (e .before .before .kinds-number .ensures) ∙ e .before .if2 .left) (omega (arith, e .if3 .left))) (at-case _ _ _ _ _ (c .before .answer .given .1) (l .load .ensures))
 
 same-length-3 : tie.Need-same-length-3
 same-length-3 c = search needs
@@ -53,29 +58,30 @@ same-length-5 c = search needs
 same-length-6 : tie.Need-same-length-6
 same-length-6 c = search needs
 
-returns-3 : tie.Need-returns-3
-returns-3 c =
+returns-5 : tie.Need-returns-5
+returns-5 c =
     let m = c .before .before .before .before .before .before .before .before in
     let l = m .before .before .before .before .before .before .before .before .before .before .before .before in
     let e = l .before .before .before in
-    replays _ _ _ _ _ _ _ _ _ _ _ _ _ _ (sym (e .before .code-number .ensures) ∙ e .if1 .left) (at-case _ _ _ _ _ (m .before .before .before .before .before .before .answer2 .given .1) (l .load .ensures)) (m .make-calls .ensures .0) (m .make-calls .ensures .1)
+    replays _ _ _ _ _ _ _ _ _ _ _ _ _ _ (code-none _ _ (e .before .before .before .if1 .left) (sym (e .before .before .kinds-number .ensures) ∙ e .before .if2 .left) (omega (arith, e .if3 .left))) (at-case _ _ _ _ _ (m .before .before .before .before .before .before .answer2 .given .1) (l .load .ensures)) (m .make-calls .ensures .0) (m .make-calls .ensures .1)
 
 pub replay-spec : {M : Type 1} → statement M
 replay-spec =
     tie.close
     (tie.spec
-    code-number-requires
-    refused-by-requires
     returns
+    kinds-number-requires
+    returns-2
+    returns-3
     load-requires
     enum-known-answer
     enum-known-answer-2
     make-calls-requires
     same-length
     same-length-2
-    returns-2
+    returns-4
     same-length-3
     same-length-4
     same-length-5
     same-length-6
-    returns-3)
+    returns-5)

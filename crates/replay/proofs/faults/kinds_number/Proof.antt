@@ -25,7 +25,7 @@ shared-slice-read-if1 c = omega arith
 returns : tie.Need-returns Inv-loop μ-loop
 returns c =
     let l = c .before .before .before .loop in
-    stops _ _ (l .inv) (kinds-step (now (l .s)) (omega arith)) (less 3 (getD (now (l .s)) 0 0) 2 0 (c .if1 .taken) refl) (λ z. omega arith)
+    stops _ _ (l .inv) (kinds-step (now (l .s)) (omega arith)) (less 3 (getD (now (l .s)) 0 0) 102 0 (c .if1 .taken) refl) (λ z. omega arith)
 
 sub-s : tie.Need-sub-s Inv-loop μ-loop
 sub-s c = omega arith
@@ -42,7 +42,7 @@ loop-less c = omega arith
 loop-again : tie.Need-loop-again Inv-loop μ-loop
 loop-again c =
     let l = c .before .before .before .before .loop in
-    rw (rest 3 (now (l .s))) (goes _ _ (l .inv) (kinds-step (now (l .s)) (omega arith)) (sym (no-less 3 (getD (now (l .s)) 0 0) 2 0 (c .before .if1 .left) refl)))
+    rw (rest 3 (now (l .s))) (goes _ _ (l .inv) (kinds-step (now (l .s)) (omega arith)) (sym (no-less 3 (getD (now (l .s)) 0 0) 102 0 (c .before .if1 .left) refl)))
 
 returns-2 : tie.Need-returns-2 Inv-loop μ-loop
 returns-2 c = let l = c .before .loop in kinds-done (now (l .s)) (omega arith) ∙ l .inv
