@@ -103,10 +103,10 @@ pub loaded-refused : (q : Loaded) (r : Refusal) (ns os : List ℕ) (o : Outcome)
 loaded-refused q r ns os o e h = ap (λ (x : Loaded). outcome (loadedAnswer x) (loadedGraph x ns os)) (sym e) ∙ h
 
 -- what the report call answers, by its number
-pub report-refused : (k j : ℕ) (file ns os : List ℕ) (s : ℕ) (b : List ℕ) → j ≡ k → k ≡ reportNumber (length ns) (length os) s (length b) → (k ≡ 0 → ⊥)
-    → reportOutcome (refused j) ns os b ≡ reportCall file ns os s b
+pub report-refused : (k : ℕ) (file ns os : List ℕ) (s : ℕ) (b : List ℕ) → k ≡ reportNumber (length ns) (length os) s (length b) → (k ≡ 0 → ⊥)
+    → reportOutcome (refused k) ns os b ≡ reportCall file ns os s b
 unfolding reportCall
-report-refused k j file ns os s b ej e n = unequal _ 0 _ _ (λ z. n (e ∙ z)) (ap (λ (i : ℕ). reportOutcome (refused i) ns os b) (ej ∙ e))
+report-refused k file ns os s b e n = unequal _ 0 _ _ (λ z. n (e ∙ z)) (ap (λ (i : ℕ). reportOutcome (refused i) ns os b) e)
 
 pub report-made : (r : ReportOutcome) (file ns os : List ℕ) (s : ℕ) (b : List ℕ) → reportNumber (length ns) (length os) s (length b) ≡ 0
     → r ≡ printed (settledFile file ns os s) b → r ≡ reportCall file ns os s b

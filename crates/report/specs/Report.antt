@@ -4,10 +4,12 @@ use Prim.Native.Nat.{ℕ, _+_, _*_, _/_}
 use lib.ListN.{length, getD, drop}
 use Rattle.graph.specs.Finite.{ifLess, ifEqual}
 use Rattle.graph.specs.Graph.{Graph, mark}
-use Rattle.graph.specs.Answer.{Answer, accepted, refused, numberOf, Outcome}
+use Rattle.graph.specs.Answer.{Answer, accepted, refused, Outcome}
 use Rattle.tagged_file.specs.Write.{inOrder}
 use Rattle.tagged_file.specs.Load.{loadCall}
 use Rattle.settling.specs.Settle.{settleCall}
+use Rattle.report.specs.declared.RoomFault.{RoomFault}
+use Rattle.report.specs.declared.RoomFault.the-variants.{Scratch, Buffer}
 use Rattle.report.specs.declared.Reported.{Reported}
 use Rattle.report.specs.declared.Reported.the-variants as reported
 use Rattle.report.specs.Text.{inputsText, nodesText, outputsText, beforeText, afterText, roundsText, nodeText, majText, xorText, spaceText, outText, refusedText, line1, line3, line4}
@@ -55,16 +57,22 @@ thenSettle loaded s = ifEqual (loaded .answer .number) 0 (settleCall (loaded .gr
 unfoldable pub settledFile : List ℕ → List ℕ → List ℕ → ℕ → Outcome
 settledFile file ns os s = thenSettle (loadCall file ns os) s
 
--- The lengths alone decide whether there is a report. 8: scratch does not do for as many nodes as the node table has room
--- for; 9: the buffer has fewer than 128 bytes for the first two lines and 18 for each word of the tables, which is enough
--- for numbers of ten digits.
+-- The lengths alone decide whether there is a report, and what they refuse has numbers that are none of document 01's. 103:
+-- scratch does not do for as many nodes as the node table has room for; 104: the buffer has fewer than 128 bytes for the
+-- first two lines and 18 for each word of the tables, which is enough for numbers of ten digits.
+abbrev pub roomNumber : RoomFault → ℕ
+roomNumber Scratch = 103
+roomNumber Buffer = 104
+
+unfoldable pub bufferNumber : ℕ → ℕ → ℕ → ℕ
+bufferNumber nodeRoom outputRoom room = ifLess room (128 + 18 * (nodeRoom + outputRoom)) 104 0
+
 unfoldable pub reportNumber : ℕ → ℕ → ℕ → ℕ → ℕ
-reportNumber nodeRoom outputRoom s room =
-    ifLess s (8 * (nodeRoom / 3)) 8 (ifLess room (128 + 18 * (nodeRoom + outputRoom)) 9 0)
+reportNumber nodeRoom outputRoom s room = ifLess s (8 * (nodeRoom / 3)) 103 (bufferNumber nodeRoom outputRoom room)
 
 abbrev pub reportedAnswer : Reported → Answer
 reportedAnswer (reported.Text n) = accepted (n ∷ [])
-reportedAnswer (reported.Refused r) = refused (numberOf r)
+reportedAnswer (reported.NoRoom f) = refused (roomNumber f)
 
 -- an answer with the tables and the buffer as the call leaves them
 pub record ReportOutcome : Type 0 where

@@ -2,6 +2,7 @@
 ghost use mathlib.Core.Path.{_≡_};
 ghost use lib.ListN.{length};
 ghost use Rattle.graph.specs.Answer.{ScratchKept};
+ghost use Rattle.tagged_file.specs.Load.{loadCall};
 ghost use Rattle.report.specs.Report.{reportedAnswer, reportOutcome, reportCall};
 
 pub mod faults;
@@ -9,10 +10,16 @@ pub mod lines;
 pub mod text;
 pub mod whole;
 
+// Which lent slice has no room for every report that the tables could hold.
+pub enum RoomFault {
+    Scratch,
+    Buffer,
+}
+
 // What reporting answers: how many bytes the text has.
 pub enum Reported {
     Text(usize),
-    Refused(graph::Refusal),
+    NoRoom(RoomFault),
 }
 
 // Loads the file, settles its graph and puts the report into the buffer; a refused file's report is one line. The lengths
@@ -26,15 +33,13 @@ pub fn report(
 ) -> Reported
     ensures { λ r. ⌜ reportOutcome (reportedAnswer r) (now («node_table» .exit)) (now («output_table» .exit)) (now (buffer .exit)) ≡ reportCall (now (file .entry)) (now («node_table» .entry)) (now («output_table» .entry)) (length (now (scratch .entry))) (now (buffer .entry)) ⌝ }
     ensures { λ r. ⌜ ScratchKept (reportedAnswer r) (now (scratch .entry)) (now (scratch .exit)) ⌝ }
+    ensures { λ r. ⌜ ScratchKept (loadCall (now (file .entry)) (now («node_table» .entry)) (now («output_table» .entry)) .answer) (now (scratch .entry)) (now (scratch .exit)) ⌝ }
 {
-    let refusal = faults::report_number(
-        node_table.len(),
-        output_table.len(),
-        scratch.len(),
-        buffer.len(),
-    );
-    if refusal != 0 {
-        return Reported::Refused(graph::faults::refused_by(refusal));
+    if scratch.len() / 8 < node_table.len() / 3 {
+        return Reported::NoRoom(RoomFault::Scratch);
+    }
+    if faults::buffer_number(node_table.len(), output_table.len(), buffer.len()) != 0 {
+        return Reported::NoRoom(RoomFault::Buffer);
     }
     Reported::Text(whole::put_report(file, node_table, output_table, scratch, buffer))
 }

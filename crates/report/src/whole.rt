@@ -4,7 +4,8 @@ ghost use mathlib.Core.List.{[], _∷_};
 ghost use Prim.Native.Nat.{_+_, _*_, _≤_};
 ghost use lib.ListN.{length};
 ghost use Rattle.graph.specs.Graph.{graphOf};
-ghost use Rattle.graph.specs.Answer.{accepted};
+ghost use Rattle.graph.specs.Answer.{accepted, ScratchKept};
+ghost use Rattle.tagged_file.specs.Load.{loadCall};
 ghost use Rattle.settling.specs.Settle.{settleCall};
 ghost use Rattle.report.specs.Report.{reportOutcome, printed, settledFile};
 use crate::lines;
@@ -52,6 +53,7 @@ pub fn put_report(
 ) -> usize
     requires { ⌜ 128 + 18 * (length (now «node_table») + length (now «output_table»)) ≤ length (now buffer) ⌝ }
     ensures { λ r. ⌜ reportOutcome (accepted (r ∷ [])) (now («node_table» .exit)) (now («output_table» .exit)) (now (buffer .exit)) ≡ printed (settledFile (now (file .entry)) (now («node_table» .entry)) (now («output_table» .entry)) (length (now (scratch .entry)))) (now (buffer .entry)) ⌝ }
+    ensures { λ r. ⌜ ScratchKept (loadCall (now (file .entry)) (now («node_table» .entry)) (now («output_table» .entry)) .answer) (now (scratch .entry)) (now (scratch .exit)) ⌝ }
 {
     match tagged_file::load(file, node_table, output_table) {
         tagged_file::Loaded::Graph {

@@ -1,28 +1,31 @@
 -- `report` meets its contract: the lengths decide, and the rest is the report. From the laws on rooms and on outcomes.
 use native.Mathlib.Omega.{arith}
 use mathlib.Core.Path.{refl, sym, _∙_}
-use Rattle.report.proofs.Room.{enough-is, report-range}
+use Rattle.report.proofs.Room.{short-scratch, short-buffer, enough, enough-is}
 use Rattle.report.proofs.Outcomes.{report-refused, report-made}
 use borrow.Author.Needs.{needs}
 use Rattle.report.proofs.report.Statement.{statement}
 use Rattle.report.proofs.report.Tie as tie
 
-report-number-requires : tie.Need-report-number-requires
-report-number-requires c κs = search needs
-
-refused-by-requires : tie.Need-refused-by-requires
-refused-by-requires c κs = report-range _ _ _ _ _ (c .before .report-number .ensures) (c .if1 .taken)
-
 returns : tie.Need-returns
 returns c =
-    let a = c .before .before .before .before .before .before .before .before .args in (
-      report-refused _ _ (a .file .now) (a .node-table .now) (a .output-table .now) _ (a .buffer .now) (c .refused-by .ensures)
-          (c .before .before .report-number .ensures) (c .before .if1 .taken),
-      λ n. refl,
-    )
+    let a = c .before .before .before .before .before .before .args in
+    (report-refused 103 (a .file .now) (a .node-table .now) (a .output-table .now) _ (a .buffer .now) (short-scratch _ _ _ _ (c .if1 .taken)) (λ z. omega arith), (λ n. refl, λ n. refl))
+
+buffer-number-requires : tie.Need-buffer-number-requires
+buffer-number-requires c κs = search needs
+
+returns-2 : tie.Need-returns-2
+returns-2 c =
+    let a = c .before .before .before .before .before .before .before .before .args in
+    let q = short-buffer _ _ _ _ (c .before .before .if1 .left) (λ z. c .if2 .taken (c .before .buffer-number .ensures ∙ z)) in
+    (report-refused 104 (a .file .now) (a .node-table .now) (a .output-table .now) _ (a .buffer .now) q (λ z. omega arith), (λ n. refl, λ n. refl))
 
 put-report-requires : tie.Need-put-report-requires
-put-report-requires c κs = let e = enough-is _ _ _ _ (sym (c .before .before .before .before .before .report-number .ensures) ∙ c .before .before .before .before .if1 .left) in omega arith
+put-report-requires c κs =
+    let e = c .before .before .before .before in
+    let q = enough-is _ _ _ _ (enough _ _ _ _ (e .before .before .if1 .left) (sym (e .before .buffer-number .ensures) ∙ e .if2 .left)) in
+    omega arith
 
 same-length : tie.Need-same-length
 same-length c = search needs
@@ -36,24 +39,25 @@ same-length-3 c = search needs
 same-length-4 : tie.Need-same-length-4
 same-length-4 c = search needs
 
-returns-2 : tie.Need-returns-2
-returns-2 c =
-    let a = c .before .before .before .before .before .before .before .before .before .before .before .before .before .before .before .before .before .before .before .before .args in (
-      report-made _ (a .file .now) (a .node-table .now) (a .output-table .now) _ (a .buffer .now) (sym (c .before .before .before .before .before .before .before .before .before .before .before .before .before .before .report-number .ensures) ∙ c .before .before .before .before .before .before .before .before .before .before .before .before .before .if1 .left)
-          (c .before .before .before .before .before .before .before .before .put-report .ensures),
-      λ n. absurd (n refl),
+returns-3 : tie.Need-returns-3
+returns-3 c =
+    let m = c .before .before .before .before .before .before .before .before in
+    let e = m .before .before .before .before .before in
+    let a = e .before .before .before .before .before .before .before .before .args in (
+      report-made _ (a .file .now) (a .node-table .now) (a .output-table .now) _ (a .buffer .now) (enough _ _ _ _ (e .before .before .if1 .left) (sym (e .before .buffer-number .ensures) ∙ e .if2 .left)) (m .put-report .ensures .0),
+      (λ n. absurd (n refl), m .put-report .ensures .1),
     )
 
 pub report-spec : {M : Type 1} → statement M
 report-spec =
     tie.close
     (tie.spec
-    report-number-requires
-    refused-by-requires
     returns
+    buffer-number-requires
+    returns-2
     put-report-requires
     same-length
     same-length-2
     same-length-3
     same-length-4
-    returns-2)
+    returns-3)

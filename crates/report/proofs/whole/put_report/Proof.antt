@@ -1,5 +1,5 @@
 -- `put_report` meets its contract: a loaded graph is settled, a refusal is a line. From the laws on outcomes.
-use mathlib.Core.Path.{ap, _∙_}
+use mathlib.Core.Path.{refl, sym, ap, _∙_}
 use Rattle.graph.specs.Answer.{Outcome}
 use Rattle.report.specs.Report.{settledFile, printed}
 use Rattle.report.proofs.Outcomes.{loaded-graph, loaded-refused, loaded-then, refused-then, refused-printed}
@@ -38,8 +38,11 @@ returns : tie.Need-returns
 unfolding settledFile
 returns c =
     let a = c .before .before .before .before .before .before .before .before .before .before .before .before .before .before .before .before .before .before .before .before .before .before .before .before .before .before .before .before .args in
-    c .before .before .before .before .before .before .before .before .put-settling .ensures
-    ∙ ap (λ (x : Outcome). printed x (a .buffer .now)) (loaded-then _ _ _ _ (loaded-graph _ _ _ _ _ _ _ (c .before .before .before .before .before .before .before .before .before .before .before .before .before .before .inputs .given .1) (c .before .before .before .before .before .before .before .before .before .before .before .before .before .before .before .before .before .before .before .before .load .ensures)))
+    let l = loaded-graph _ _ _ _ _ _ _ (c .before .before .before .before .before .before .before .before .before .before .before .before .before .before .inputs .given .1) (c .before .before .before .before .before .before .before .before .before .before .before .before .before .before .before .before .before .before .before .before .load .ensures) in (
+      c .before .before .before .before .before .before .before .before .put-settling .ensures
+          ∙ ap (λ (x : Outcome). printed x (a .buffer .now)) (loaded-then _ _ _ _ l),
+      λ n. absurd (n (sym (ap (λ (o : Outcome). o .answer .number) l))),
+    )
 
 same-length-5 : tie.Need-same-length-5
 same-length-5 c = search needs
@@ -52,9 +55,11 @@ same-length-7 c = search needs
 
 returns-2 : tie.Need-returns-2
 unfolding settledFile
-returns-2 c =
-    refused-printed _ _ _ _ _ (c .before .before .before .before .before .refusal .given .0 .0) (refused-then _ (c .before .before .before .before .before .refusal .given .0 .0) _ _ (loaded-refused _ _ _ _ _ (c .before .before .before .before .before .refusal .given .1) (c .before .before .before .before .before .before .before .before .before .before .before .load .ensures)))
-    (c .before .before .put-refused .ensures)
+returns-2 c = (
+  refused-printed _ _ _ _ _ (c .before .before .before .before .before .refusal .given .0 .0) (refused-then _ (c .before .before .before .before .before .refusal .given .0 .0) _ _ (loaded-refused _ _ _ _ _ (c .before .before .before .before .before .refusal .given .1) (c .before .before .before .before .before .before .before .before .before .before .before .load .ensures)))
+      (c .before .before .put-refused .ensures),
+  λ n. refl,
+)
 
 pub put-report-spec : {M : Type 1} → statement M
 put-report-spec =
