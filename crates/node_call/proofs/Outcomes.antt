@@ -9,13 +9,13 @@ use borrow.Author.Tests.{lt-ltb, le-ltb}
 use lib.ListN.{getD}
 use Rattle.graph.specs.Answer.{accepted, Outcome, outcome}
 use Rattle.graph.specs.Count.{C}
-use Rattle.graph.specs.Graph.{Graph, node, isXor}
+use Rattle.graph.specs.Graph.{Graph, node}
 use Rattle.graph.proofs.Cases.{eq-or-ne}
 use Rattle.choice.specs.Choice.{FirstBelow}
 use Rattle.moves.specs.Apply.{Choice, none, at, put, apply}
 use Rattle.moves.specs.Call.{moved, rewrite, isNode, namedBy, pairRewrite}
 use Rattle.moves.specs.Decide.{costOf, pairCost, FirstPair, numbersOf, naming, Counted}
-use Rattle.moves.specs.Rows.{arity}
+use Rattle.moves.specs.Rows.{movesAt}
 use Rattle.moves.specs.declared.decide.NodeNumbers.{NodeNumbers}
 use Rattle.moves.proofs.Changed.{at-same, at-other}
 use Rattle.moves.proofs.Deciding.{numbers-low, naming-le}
@@ -31,18 +31,15 @@ at-twice d u k =
     (λ (e : w ≢ u). at-other (at d u k) u k w e)
     (eq-or-ne w u))
 
-module _ (g : Graph) (adm : Admitted g) (v : ℕ) (h : v < g .N) (n : NodeNumbers) (e : n ≡ numbersOf g v) (m : ℕ) (b : FirstBelow (costOf n) (arity (n .xor)) m) where
-  pub kind-is : n .xor ≡ isXor g v
+module _ (g : Graph) (adm : Admitted g) (v : ℕ) (h : v < g .N) (n : NodeNumbers) (e : n ≡ numbersOf g v) (m : ℕ) (b : FirstBelow (costOf n) (n .moves) m) where
+  pub move-fits : m < movesAt g (node g v)
   unfolding numbersOf
-  kind-is = rw e
-
-  pub move-fits : m < arity (isXor g v)
-  move-fits = rw kind-is at (b .below)
+  move-fits = rw e at (b .below)
 
   pub no-more : costOf n m ≤ costOf n 0
   no-more = b .low 0 (omega (arith, b .below))
 
-  by-numbers : FirstBelow (costOf (numbersOf g v)) (arity (isXor g v)) m
+  by-numbers : FirstBelow (costOf (numbersOf g v)) (movesAt g (node g v)) m
   unfolding numbersOf
   by-numbers = rw e at b
 
@@ -55,15 +52,15 @@ module _ (g : Graph) (adm : Admitted g) (v : ℕ) (h : v < g .N) (n : NodeNumber
   node-outcome k s q t = rw (← node-best g adm v h m by-numbers, saving-is, t, q, at-twice none (node g v) m)
 
 module _ (g : Graph) (adm : Admitted g) (p v : ℕ) (l : p < v) (h : v < g .N) (a n : NodeNumbers) (w : List ℕ) (f : a ≡ numbersOf g p) (e : n ≡ numbersOf g v) (i : w ≡ naming g v (node g p))
-    (k m : ℕ) (b : FirstPair (pairCost a n w) (arity (a .xor)) (arity (n .xor)) k m) where
-  pub both-fit : (k < arity (isXor g p)) × (m < arity (isXor g v))
+    (k m : ℕ) (b : FirstPair (pairCost a n w) (a .moves) (n .moves) k m) where
+  pub both-fit : (k < movesAt g (node g p)) × (m < movesAt g (node g v))
   unfolding numbersOf
   both-fit = (rw f at (b .below), rw e at (b .fits))
 
   pub both-no-more : pairCost a n w k m ≤ pairCost a n w 0 0
   both-no-more = b .low 0 0 (omega (arith, b .below)) (omega (arith, b .fits))
 
-  both-by-numbers : FirstPair (pairCost (numbersOf g p) (numbersOf g v) (naming g v (node g p))) (arity (isXor g p)) (arity (isXor g v)) k m
+  both-by-numbers : FirstPair (pairCost (numbersOf g p) (numbersOf g v) (naming g v (node g p))) (movesAt g (node g p)) (movesAt g (node g v)) k m
   unfolding numbersOf
   both-by-numbers = rw (f, e, i) at b
 

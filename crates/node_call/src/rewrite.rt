@@ -27,7 +27,7 @@ pub fn rewrite_node(
 {
     let n = reading::numbers_of(inputs, nodes, outputs, node_table, output_table, v);
     let z = n.costs;
-    let m = decide::first_least(n.xor, z, n.readers, n.odd);
+    let m = decide::first_least(n.xor, n.moves, z, n.readers, n.odd);
     let before = decide::move_cost(n.xor, z, n.readers, n.odd, 0);
     let after = decide::move_cost(n.xor, z, n.readers, n.odd, m);
     write::write_moves(inputs, nodes, outputs, node_table, output_table, v, m, v, m);

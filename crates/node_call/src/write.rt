@@ -3,9 +3,9 @@ ghost use mathlib.Core.Path.{_≡_};
 ghost use Prim.Native.Nat.{_+_, _*_, _≤_, _<_};
 ghost use lib.ListN.{length};
 ghost use Rattle.graph.specs.Admission.{Admitted};
-ghost use Rattle.graph.specs.Graph.{graphOf, node, isXor};
+ghost use Rattle.graph.specs.Graph.{graphOf, node};
 ghost use Rattle.moves.specs.Apply.{none, at, apply};
-ghost use Rattle.moves.specs.Rows.{arity};
+ghost use Rattle.moves.specs.Rows.{arity, movesAt};
 ghost use Rattle.node_call.specs.Write.{moveWith, Bits, flagAt, wordTurns, nodesAfter, outputsAfter};
 use graph::literal;
 use moves::rows;
@@ -98,7 +98,7 @@ pub fn write_moves(
     v: u32,
     m: u32,
 )
-    requires { ⌜ Admitted (graphOf inputs nodes outputs (now «node_table») (now «output_table»)) × (p < nodes) × (v < nodes) × (k < arity (isXor (graphOf inputs nodes outputs (now «node_table») (now «output_table»)) p)) × (m < arity (isXor (graphOf inputs nodes outputs (now «node_table») (now «output_table»)) v)) ⌝ }
+    requires { ⌜ Admitted (graphOf inputs nodes outputs (now «node_table») (now «output_table»)) × (p < nodes) × (v < nodes) × (k < movesAt (graphOf inputs nodes outputs (now «node_table») (now «output_table»)) (inputs + 1 + p)) × (m < movesAt (graphOf inputs nodes outputs (now «node_table») (now «output_table»)) (inputs + 1 + v)) ⌝ }
     ensures { λ _. ⌜ graphOf inputs nodes outputs (now («node_table» .exit)) (now («output_table» .exit)) ≡ apply (graphOf inputs nodes outputs (now («node_table» .entry)) (now («output_table» .entry))) (at (at none (inputs + 1 + p) k) (inputs + 1 + v) m) ⌝ }
 {
     let a = move_with(rows::is_xor(node_table, p as usize), inputs + 1 + p, k);

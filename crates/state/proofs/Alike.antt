@@ -2,7 +2,7 @@
 -- admitted where the other is. From the definitions.
 use mathlib.Core.Path.{_≡_, refl, sym, ap, _∙_, fun-ext}
 use mathlib.Core.List.{List}
-use Prim.Native.Nat.{ℕ, zero, suc, _+_, _*_, _/_}
+use Prim.Native.Nat.{ℕ, zero, suc, _+_, _-_, _*_, _/_}
 use native.Mathlib.Omega.{arith}
 use lib.Dec.{eqb}
 use lib.ListN.{length}
@@ -12,6 +12,7 @@ use Rattle.graph.specs.Graph.{Graph, mark, node, word, output, isEdge, isXor, w
 use Rattle.graph.specs.Finite.{tab}
 use Rattle.graph.proofs.Finite.{tab-same}
 use Rattle.moves.specs.Call.{isNode}
+use Rattle.moves.specs.Rows.{movesAt}
 use Rattle.moves.specs.Tree.{isRoot, place, reader, rootIn, rootOf}
 use Rattle.state.specs.State.{field, Neighbours, Linked}
 use Rattle.state.specs.Step.{TreesKept}
@@ -60,6 +61,13 @@ module _ (g h : Graph) (a : Alike g h) where
   pub alike-xor : (v : ℕ) → isXor h v ≡ isXor g v
   unfolding isXor
   alike-xor v = a .marked (3 * v + 2)
+
+  alike-moves : (u : ℕ) → movesAt h u ≡ movesAt g u
+  unfolding movesAt
+  alike-moves u = rw (alike-xor (u - (h .I + 1)), a .same-I)
+
+  pub alike-movesAt : (v : ℕ) → movesAt h (node h v) ≡ movesAt g (node g v)
+  alike-movesAt v = ap (λ i. movesAt h (i + 1 + v)) (a .same-I) ∙ alike-moves (node g v)
 
   wire-same : (j : ℕ) → wire h j ≡ wire g j
   unfolding wire

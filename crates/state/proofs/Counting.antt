@@ -15,14 +15,14 @@ use Rattle.moves.specs.Apply.{none, at, put, apply}
 use Rattle.moves.specs.Call.{moved, bestAt}
 use Rattle.moves.specs.Cost.{shown}
 use Rattle.moves.specs.Decide.{ownCosts, costOf, numbersOf, Counted}
-use Rattle.moves.specs.Rows.{arity}
+use Rattle.moves.specs.Rows.{movesAt}
 use Rattle.moves.specs.declared.decide.NodeNumbers.{NodeNumbers}
 use Rattle.moves.proofs.Deciding.{numbers-low}
 use Rattle.moves.proofs.Kept.{apply-idle}
 use Rattle.moves.proofs.NodeBest.{node-cost, zero-is, node-best}
 use Rattle.moves.proofs.Step.{at-zero}
 use Rattle.state.specs.State.{field, stands, Ordered}
-use Rattle.state.proofs.Alike.{alike-xor, alike-readers}
+use Rattle.state.proofs.Alike.{alike-xor, alike-movesAt, alike-readers}
 use Rattle.state.specs.Step.{Made}
 use Rattle.state.proofs.Stands.{stands-alike, stands-admitted}
 use Rattle.state.proofs.Stores.{kept-same}
@@ -43,20 +43,22 @@ module _ (h : Graph) (adm : Admitted h) (v : ℕ) (l : v < h .N) where
 
 -- what is at hand in scratch and tables
 module _ (g : Graph) (sc : List ℕ) (o : Ordered g sc) (v : ℕ) (l : v < g .N) where
-  pub numbers-are : (x : Bool) (z : List ℕ) (r d : ℕ) → x ≡ isXor g v → z ≡ ownCosts (stands g sc) v → r ≡ field sc v 0 → d ≡ field sc v 1
-      → _≡_ {A = NodeNumbers} (record { xor = x; costs = z; readers = r; odd = d }) (numbersOf (stands g sc) v)
+  pub numbers-are : (x : Bool) (n : ℕ) (z : List ℕ) (r d : ℕ) → x ≡ isXor g v → n ≡ movesAt g (node g v) → z ≡ ownCosts (stands g sc) v → r ≡ field sc v 0 → d ≡ field sc v 1
+      → _≡_ {A = NodeNumbers} (record { xor = x; moves = n; costs = z; readers = r; odd = d }) (numbersOf (stands g sc) v)
   unfolding numbersOf
-  numbers-are x z r d ex ez er ed =
+  numbers-are x n z r d ex en ez er ed =
       let a = stands-alike g sc (o .admitted) in
       let u : node g v ≡ node (stands g sc) v = ap (λ i. i + 1 + v) (sym (a .same-I)) in
       let px : x ≡ isXor (stands g sc) v = ex ∙ sym (alike-xor g (stands g sc) a v) in
+      let pn : n ≡ movesAt (stands g sc) (node (stands g sc) v) = en ∙ sym (alike-movesAt g (stands g sc) a v) in
       let pr : r ≡ readers (stands g sc) (node (stands g sc) v) = er ∙ o .reads v l ∙ sym (alike-readers g (stands g sc) a (node g v)) ∙ ap (readers (stands g sc)) u in
       let pd : d ≡ shown (stands g sc) (node (stands g sc) v) 0 = ed ∙ o .odd v l ∙ ap (λ w. shown (stands g sc) w 0) u in
-      λ i. record { xor = px i; costs = ez i; readers = pr i; odd = pd i }
+      λ i. record { xor = px i; moves = pn i; costs = ez i; readers = pr i; odd = pd i }
 
-  pub kind-now : (n : NodeNumbers) → n ≡ numbersOf (stands g sc) v → n .xor ≡ isXor g v
+  -- the numbers have as many moves as the node
+  pub moves-now : (n : NodeNumbers) → n ≡ numbersOf (stands g sc) v → n .moves ≡ movesAt g (node g v)
   unfolding numbersOf
-  kind-now n e = ap (λ x. x .xor) e ∙ alike-xor g (stands g sc) (stands-alike g sc (o .admitted)) v
+  moves-now n e = ap (λ x. x .moves) e ∙ alike-movesAt g (stands g sc) (stands-alike g sc (o .admitted)) v
 
   -- the same index, and a node of the graph that the state stands for
   pub node-now : node (stands g sc) v ≡ node g v
@@ -65,17 +67,13 @@ module _ (g : Graph) (sc : List ℕ) (o : Ordered g sc) (v : ℕ) (l : v < g .N)
   pub within-now : v < stands g sc .N
   within-now = omega (arith, stands-alike g sc (o .admitted) .same-N)
 
-  -- the moves of the numbers' kind are those of the node
-  pub moves-now : (n : NodeNumbers) → n ≡ numbersOf (stands g sc) v → (m : ℕ) → m < arity (isXor g v) → m < arity (n .xor)
-  moves-now n e m h = omega (arith, ap arity (kind-now n e), h)
-
   -- what `count_after` asks
-  pub asked : (n : NodeNumbers) → n ≡ numbersOf (stands g sc) v → (m c : ℕ) → m < arity (isXor g v) → c ≡ C (stands g sc)
-      → Counted n × (m < arity (n .xor)) × (costOf n 0 ≤ c) × (c ≤ 304096)
+  pub asked : (n : NodeNumbers) → n ≡ numbersOf (stands g sc) v → (m c : ℕ) → m < movesAt g (node g v) → c ≡ C (stands g sc)
+      → Counted n × (m < n .moves) × (costOf n 0 ≤ c) × (c ≤ 304096)
   asked n e m c h q =
       let adm = stands-admitted g sc (o .admitted) in (
         subst Counted (sym e) (numbers-low (stands g sc) v adm),
-        moves-now n e m h,
+        omega (arith, moves-now n e, h),
         omega (arith, ap (λ x. costOf x 0) e, q, cost-within (stands g sc) adm v within-now),
         omega (arith, q, C-few (stands g sc) adm),
       )
@@ -91,13 +89,13 @@ module _ (g : Graph) (sc : List ℕ) (o : Ordered g sc) (v : ℕ) (l : v < g .N)
       ap (λ u. C (apply (stands g sc) (at none u m))) node-now
 
   -- the first least move is the best of the node
-  module _ (n : NodeNumbers) (e : n ≡ numbersOf (stands g sc) v) (m : ℕ) (f : FirstBelow (costOf n) (arity (n .xor)) m) where
-    pub first-fits : m < arity (isXor g v)
-    first-fits = omega (arith, f .below, ap arity (kind-now n e))
+  module _ (n : NodeNumbers) (e : n ≡ numbersOf (stands g sc) v) (m : ℕ) (f : FirstBelow (costOf n) (n .moves) m) where
+    pub first-fits : m < movesAt g (node g v)
+    first-fits = omega (arith, f .below, moves-now n e)
 
-    first-now : FirstBelow (costOf (numbersOf (stands g sc) v)) (arity (isXor (stands g sc) v)) m
+    first-now : FirstBelow (costOf (numbersOf (stands g sc) v)) (movesAt (stands g sc) (node (stands g sc) v)) m
     unfolding numbersOf
-    first-now = subst (λ x. FirstBelow (costOf x) (arity (x .xor)) m) e f
+    first-now = subst (λ x. FirstBelow (costOf x) (x .moves) m) e f
 
     best-now : apply (stands g sc) (at none (node g v) m) ≡ moved (stands g sc) (node g v ∷ []) (bestAt (stands g sc) (node g v ∷ []))
     unfolding moved put

@@ -15,7 +15,7 @@ use Rattle.graph.proofs.Cases.{lt-or-le, eq-or-ne, true-or-false}
 use Rattle.moves.specs.Apply.{Choice, none, at, put, turns, outputTurns, apply, compose, Permitted}
 use Rattle.moves.specs.Call.{moved, bestAt, isNode, namedBy, pairRewrite, wordFault}
 use Rattle.moves.specs.Decide.{numbersOf, naming, pairCost, FirstPair}
-use Rattle.moves.specs.Rows.{arity, combined}
+use Rattle.moves.specs.Rows.{arity, movesAt, combined}
 use Rattle.moves.specs.declared.decide.NodeNumbers.{NodeNumbers}
 use Rattle.moves.proofs.Apply as applied
 use Rattle.moves.proofs.Changed.{at-same, at-other}
@@ -23,22 +23,23 @@ use Rattle.moves.proofs.Compose.{apply-apply}
 use Rattle.moves.proofs.Kept.{rewrite-graph}
 use Rattle.moves.proofs.NodeBest.{pair-best}
 use Rattle.moves.proofs.Readers.{both-true}
-use Rattle.moves.proofs.TreeBest.{arity-pos}
+use Rattle.moves.proofs.Moves.{arity-pos, moves-pos, node-row}
 use Rattle.state.specs.State.{stands, Ordered}
 use Rattle.state.specs.Step.{Made}
-use Rattle.state.proofs.Alike.{Alike, alike-xor, alike-isNode}
+use Rattle.state.proofs.Alike.{Alike, alike-movesAt, alike-isNode}
 use Rattle.state.proofs.Turned.{apply-alike}
 use Rattle.state.proofs.Stands.{stands-alike, stands-admitted}
 use Rattle.state.proofs.Stores.{kept-same, kept-then}
 use Rattle.state.proofs.Made.{became-alike}
-use Rattle.state.proofs.Counting.{kind-now, node-now, within-now}
+use Rattle.state.proofs.Counting.{moves-now, node-now, within-now}
 
-combined-left : (x : Bool) (m : ℕ) → m < arity x → combined x m 0 ≡ m
+-- a move joined to none
+pub combined-left : (x : Bool) (m : ℕ) → m < arity x → combined x m 0 ≡ m
 unfolding combined arity
 combined-left true m h = omega arith
 combined-left false m h = omega arith
 
-combined-right : (x : Bool) (m : ℕ) → m < arity x → combined x 0 m ≡ m
+pub combined-right : (x : Bool) (m : ℕ) → m < arity x → combined x 0 m ≡ m
 unfolding combined arity
 combined-right true m h = omega arith
 combined-right false m h = omega arith
@@ -47,14 +48,14 @@ combined-none : (x : Bool) → combined x 0 0 ≡ 0
 combined-none x = combined-left x 0 (arity-pos x)
 
 module _ (h : Graph) where
-  permitted-at : (v m : ℕ) → m < arity (isXor h v) → Permitted h (at none (node h v) m)
+  permitted-at : (v m : ℕ) → m < movesAt h (node h v) → Permitted h (at none (node h v) m)
   permitted-at v m l w i =
       ⊎-elim
       (λ (e : w ≡ v). rw (e, at-same none (node h v) m) l)
-      (λ (e : w ≢ v). rw (at-other none (node h v) m (node h w) (λ z. e (omega arith))) (arity-pos _))
+      (λ (e : w ≢ v). rw (at-other none (node h v) m (node h w) (λ z. e (omega arith))) (moves-pos h _))
       (eq-or-ne w v)
 
-  module _ (adm : Admitted h) (p v a k : ℕ) (d : p ≢ v) (pa : a < arity (isXor h p)) (pk : k < arity (isXor h v)) where
+  module _ (adm : Admitted h) (p v a k : ℕ) (d : p ≢ v) (pa : a < movesAt h (node h p)) (pk : k < movesAt h (node h v)) where
     kind-of : (w : ℕ) → isXor h (node h w - (h .I + 1)) ≡ isXor h w
     kind-of w = let e : node h w - (h .I + 1) ≡ w = omega arith in rw e
 
@@ -64,11 +65,11 @@ module _ (h : Graph) where
         ⊎-elim
         (λ (e : u ≡ node h v).
         rw (e, at-same none (node h v) k, at-same (at none (node h p) a) (node h v) k, at-other none (node h p) a (node h v) (λ z. d (omega arith)), kind-of v)
-        (combined-right (isXor h v) k pk))
+        (combined-right (isXor h v) k (node-row h v k pk)))
         (λ (e : u ≢ node h v).
         rw (at-other none (node h v) k u e, at-other (at none (node h p) a) (node h v) k u e)
         (⊎-elim
-        (λ (q : u ≡ node h p). rw (q, at-same none (node h p) a, kind-of p) (combined-left (isXor h p) a pa))
+        (λ (q : u ≡ node h p). rw (q, at-same none (node h p) a, kind-of p) (combined-left (isXor h p) a (node-row h p a pa)))
         (λ (q : u ≢ node h p). rw (at-other none (node h p) a u q) (combined-none (isXor h (u - (h .I + 1)))))
         (eq-or-ne u (node h p))))
         (eq-or-ne u (node h v))
@@ -91,13 +92,13 @@ module _ (g : Graph) (sc : List ℕ) (o : Ordered g sc) (p v : ℕ) (d : p < v) 
 
   -- the decision
   module _ (n m : NodeNumbers) (w : List ℕ) (en : n ≡ numbersOf h p) (em : m ≡ numbersOf h v) (ew : w ≡ naming g v (node g p)) (a k : ℕ)
-      (f : FirstPair (pairCost n m w) (arity (n .xor)) (arity (m .xor)) a k) where
-    pub pair-fits : (a < arity (isXor g p)) × (k < arity (isXor g v))
-    pair-fits = omega (arith, f .below, f .fits, ap arity (kind-now g sc o p (omega arith) n en), ap arity (kind-now g sc o v l m em))
+      (f : FirstPair (pairCost n m w) (n .moves) (m .moves) a k) where
+    pub pair-fits : (a < movesAt g (node g p)) × (k < movesAt g (node g v))
+    pair-fits = omega (arith, f .below, f .fits, moves-now g sc o p (omega arith) n en, moves-now g sc o v l m em)
 
-    first-now : FirstPair (pairCost (numbersOf h p) (numbersOf h v) (naming h v (node h p))) (arity (isXor h p)) (arity (isXor h v)) a k
+    first-now : FirstPair (pairCost (numbersOf h p) (numbersOf h v) (naming h v (node h p))) (movesAt h (node h p)) (movesAt h (node h v)) a k
     unfolding numbersOf
-    first-now = subst (λ x. FirstPair (pairCost (numbersOf h p) (numbersOf h v) x) (arity (isXor h p)) (arity (isXor h v)) a k) (ew ∙ sym naming-now) (subst (λ x. FirstPair (pairCost x (numbersOf h v) w) (arity (x .xor)) (arity (isXor h v)) a k) en (subst (λ x. FirstPair (pairCost n x w) (arity (n .xor)) (arity (x .xor)) a k) em f))
+    first-now = subst (λ x. FirstPair (pairCost (numbersOf h p) (numbersOf h v) x) (movesAt h (node h p)) (movesAt h (node h v)) a k) (ew ∙ sym naming-now) (subst (λ x. FirstPair (pairCost x (numbersOf h v) w) (x .moves) (movesAt h (node h v)) a k) en (subst (λ x. FirstPair (pairCost n x w) (n .moves) (x .moves) a k) em f))
 
     pub best-pair : a ∷ k ∷ [] ≡ bestAt h pair
     best-pair =
@@ -106,11 +107,11 @@ module _ (g : Graph) (sc : List ℕ) (o : Ordered g sc) (p v : ℕ) (d : p < v) 
         (pair-best h (stands-admitted g sc (o .admitted)) p v d (within-now g sc o v l) a k first-now))
 
   -- both moves
-  module _ (a k : ℕ) (pa : a < arity (isXor g p)) (pk : k < arity (isXor g v)) (g₁ : Graph) (s₁ : List ℕ) (c₁ : ℕ) (m₁ : Made sc g₁ s₁ (apply h (at none (node g p) a)) c₁) where
-    pub still-fits : k < arity (isXor g₁ v)
+  module _ (a k : ℕ) (pa : a < movesAt g (node g p)) (pk : k < movesAt g (node g v)) (g₁ : Graph) (s₁ : List ℕ) (c₁ : ℕ) (m₁ : Made sc g₁ s₁ (apply h (at none (node g p) a)) c₁) where
+    pub still-fits : k < movesAt g₁ (node g₁ v)
     still-fits =
         let al = became-alike g sc g₁ s₁ (apply h (at none (node g p) a)) (o .admitted) (apply-alike h (at none (node g p) a) (stands-admitted g sc (o .admitted))) (m₁ .became) in
-        rw (alike-xor g g₁ al v) pk
+        rw (alike-movesAt g g₁ al v) pk
 
     pub still-counts : c₁ ≡ C (stands g₁ s₁)
     still-counts = m₁ .count ∙ ap C (sym (m₁ .became .stands-for))
@@ -119,7 +120,7 @@ module _ (g : Graph) (sc : List ℕ) (o : Ordered g sc) (p v : ℕ) (d : p < v) 
       both-moved : apply (stands g₁ s₁) (at none (node g v) k) ≡ moved h pair (bestAt h pair)
       unfolding moved put
       both-moved =
-          let x : (w m : ℕ) → m < arity (isXor g w) → m < arity (isXor h w) = λ w m q. rw (alike-xor g h (stands-alike g sc (o .admitted)) w) q in
+          let x : (w m : ℕ) → m < movesAt g (node g w) → m < movesAt h (node h w) = λ w m q. rw (alike-movesAt g h (stands-alike g sc (o .admitted)) w) q in
           ap (λ y. apply y (at none (node g v) k)) (m₁ .became .stands-for) ∙
           ((λ i. apply (apply h (at none (sym (node-now g sc o p (omega arith)) i) a)) (at none (sym (node-now g sc o v l) i) k)) ∙
           pair-apply h (stands-admitted g sc (o .admitted)) p v a k (omega arith) (x p a pa) (x v k pk) ∙

@@ -2,9 +2,9 @@
 ghost use mathlib.Core.Path.{_≡_};
 ghost use mathlib.Core.List.{[], _∷_};
 ghost use Prim.Native.Nat.{_+_, _≤_, _<_};
-ghost use Rattle.graph.specs.Graph.{graphOf, isXor};
+ghost use Rattle.graph.specs.Graph.{graphOf};
 ghost use Rattle.graph.specs.Count.{C};
-ghost use Rattle.moves.specs.Rows.{arity};
+ghost use Rattle.moves.specs.Rows.{movesAt};
 ghost use Rattle.moves.specs.Apply.{none, at, apply};
 ghost use Rattle.moves.specs.Call.{moved, bestAt, wordFault, pairRewrite};
 ghost use Rattle.moves.specs.Decide.{costOf, Counted};
@@ -19,7 +19,7 @@ use moves::words;
 
 // C after the move m of a node, from C before it.
 pub fn count_after(node: NodeNumbers, m: u32, count: u32) -> u32
-    requires { ⌜ Counted node × (m < arity (node .xor)) × (costOf node 0 ≤ count) × (count ≤ 304096) ⌝ }
+    requires { ⌜ Counted node × (m < node .moves) × (costOf node 0 ≤ count) × (count ≤ 304096) ⌝ }
     ensures { λ r. ⌜ r + costOf node 0 ≡ count + costOf node m ⌝ }
 {
     let z = node.costs;
@@ -41,7 +41,7 @@ pub fn make_move(
     count: u32,
     scratch: &mut [u32],
 ) -> u32
-    requires { ⌜ Ordered (graphOf inputs nodes outputs (now «node_table») (now «output_table»)) (now scratch) × (v < nodes) × (m < arity (isXor (graphOf inputs nodes outputs (now «node_table») (now «output_table»)) v)) × (count ≡ C (stands (graphOf inputs nodes outputs (now «node_table») (now «output_table»)) (now scratch))) ⌝ }
+    requires { ⌜ Ordered (graphOf inputs nodes outputs (now «node_table») (now «output_table»)) (now scratch) × (v < nodes) × (m < movesAt (graphOf inputs nodes outputs (now «node_table») (now «output_table»)) (inputs + 1 + v)) × (count ≡ C (stands (graphOf inputs nodes outputs (now «node_table») (now «output_table»)) (now scratch))) ⌝ }
     ensures { λ r. ⌜ Made (now (scratch .entry)) (graphOf inputs nodes outputs (now («node_table» .exit)) (now («output_table» .entry))) (now (scratch .exit)) (apply (stands (graphOf inputs nodes outputs (now («node_table» .entry)) (now («output_table» .entry))) (now (scratch .entry))) (at none (inputs + 1 + v) m)) r ⌝ }
 {
     if m == 0 {
@@ -78,7 +78,7 @@ pub fn node_step(
 {
     let node = now::numbers_now(inputs, nodes, outputs, node_table, output_table, v, scratch);
     let z = node.costs;
-    let m = decide::first_least(node.xor, z, node.readers, node.odd);
+    let m = decide::first_least(node.xor, node.moves, z, node.readers, node.odd);
     make_move(
         inputs,
         nodes,
@@ -104,7 +104,7 @@ pub fn pair_moves(
     scratch: &[u32],
 ) -> PairMoves
     requires { ⌜ Ordered (graphOf inputs nodes outputs (now «node_table») (now «output_table»)) (now scratch) × (p < v) × (v < nodes) ⌝ }
-    ensures { λ r. ⌜ (r .named < arity (isXor (graphOf inputs nodes outputs (now («node_table» .entry)) (now («output_table» .entry))) p)) × (r .node < arity (isXor (graphOf inputs nodes outputs (now («node_table» .entry)) (now («output_table» .entry))) v)) × (r .named ∷ r .node ∷ [] ≡ bestAt (stands (graphOf inputs nodes outputs (now («node_table» .entry)) (now («output_table» .entry))) (now (scratch .entry))) ((inputs + 1 + p) ∷ (inputs + 1 + v) ∷ [])) ⌝ }
+    ensures { λ r. ⌜ (r .named < movesAt (graphOf inputs nodes outputs (now («node_table» .entry)) (now («output_table» .entry))) (inputs + 1 + p)) × (r .node < movesAt (graphOf inputs nodes outputs (now («node_table» .entry)) (now («output_table» .entry))) (inputs + 1 + v)) × (r .named ∷ r .node ∷ [] ≡ bestAt (stands (graphOf inputs nodes outputs (now («node_table» .entry)) (now («output_table» .entry))) (now (scratch .entry))) ((inputs + 1 + p) ∷ (inputs + 1 + v) ∷ [])) ⌝ }
 {
     let named = now::numbers_now(inputs, nodes, outputs, node_table, output_table, p, scratch);
     let node = now::numbers_now(inputs, nodes, outputs, node_table, output_table, v, scratch);

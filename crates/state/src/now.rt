@@ -121,9 +121,11 @@ pub fn numbers_now(
 {
     let at = 8 * v;
     let xor = rows::is_xor(node_table, v);
+    let moves = rows::moves_at(node_table, v);
     let costs = own_costs(inputs, nodes, outputs, node_table, output_table, v, scratch);
     NodeNumbers {
         xor,
+        moves,
         costs,
         readers: scratch[at],
         odd: scratch[at + 1],

@@ -58,7 +58,7 @@ module _ (h : Graph) (sc₀ : List ℕ) (rd : Ready h sc₀) (r : ℕ) (rn : r <
     -- the costs that v looks at are stored
     pub bits-stored : (s : ℕ) → s < 2 → bitCost h (innerAt (h .I) sc) (costAt (h .I) sc) v s ≡ treeCost h (node h v) s
     bits-stored s l =
-        bit-named h h (innerAt (h .I) sc) (inner h) (costAt (h .I) sc) (treeCost h) v refl (λ i k. refl) (λ i k. refl)
+        bit-named h h (innerAt (h .I) sc) (inner h) (costAt (h .I) sc) (treeCost h) v refl refl (λ i k. refl) (λ i k. refl)
         (λ i k e. inner-same h sc ready _ (omega (arith, named-below h (rd .admitted) v i below k e)))
         (λ i t k e n m.
         let a = named-in h (rd .admitted) v i below k e n in

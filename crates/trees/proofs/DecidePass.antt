@@ -13,7 +13,7 @@ use Rattle.graph.specs.Admission.{Admitted}
 use Rattle.graph.proofs.Cases.{true-or-false, eq-or-ne, lt-or-le}
 use Rattle.graph.proofs.Tests.{equal, unequal}
 use Rattle.choice.specs.Choice.{FirstBelow}
-use Rattle.moves.specs.Rows.{arity}
+use Rattle.moves.specs.Rows.{movesAt}
 use Rattle.moves.specs.Apply.{own}
 use Rattle.moves.specs.Tree.{isRoot, place, rootOf}
 use Rattle.moves.specs.Cost.{inner, wordCosts, moveCost, rootCost, shown, shows, Decided, baseCost}
@@ -23,7 +23,7 @@ use Rattle.moves.proofs.NodeCosts.{move-is, root-is}
 use Rattle.moves.proofs.Readers.{rootOf-root, rootOf-above, rootOf-inner, not-root}
 use Rattle.moves.proofs.TreeBest.{reader-node, tree-best}
 use Rattle.state.specs.State.{field, stands, Ordered}
-use Rattle.state.proofs.Alike.{alike-xor}
+use Rattle.state.proofs.Alike.{alike-xor, alike-movesAt}
 use Rattle.state.proofs.Stands.{stands-alike}
 use Rattle.trees.specs.Filling.{Stored}
 use Rattle.trees.specs.Costing.{innerAt, costAt, treeCost, CostedBelow, CostsOnly}
@@ -34,12 +34,12 @@ use Rattle.trees.proofs.Shown.{one-reader}
 use Rattle.trees.proofs.Ready.{Ready, ready-costs, field-kept, stands-costs, inner-same, named-below, named-in, stands-I, stands-N}
 
 -- the same first least move, the cost being the same
-first-as : {f f′ : ℕ → ℕ} {x x′ : Bool} {m : ℕ} → f ≡ f′ → x ≡ x′ → FirstBelow f (arity x) m → FirstBelow f′ (arity x′) m
-first-as p q t = rw (← p, ← q) t
+first-as : {f f′ : ℕ → ℕ} {n m : ℕ} → f ≡ f′ → FirstBelow f n m → FirstBelow f′ n m
+first-as p t = rw (← p) t
 
-first-at : (sc : List ℕ) (v a b m : ℕ) (x y : Bool) (k l : Graph) (i j : ℕ) → x ≡ y → k ≡ l → i ≡ j
-    → FirstBelow (costWith x (wordCosts k (innerAt i sc) (costAt i sc) v) a b) (arity x) m → FirstBelow (costWith y (wordCosts l (innerAt j sc) (costAt j sc) v) a b) (arity y) m
-first-at sc v a b m x y k l i j p q s t = rw (← p, ← q, ← s) t
+first-at : (sc : List ℕ) (v a b m : ℕ) (x y : Bool) (n n′ : ℕ) (k l : Graph) (i j : ℕ) → x ≡ y → n ≡ n′ → k ≡ l → i ≡ j
+    → FirstBelow (costWith x (wordCosts k (innerAt i sc) (costAt i sc) v) a b) n m → FirstBelow (costWith y (wordCosts l (innerAt j sc) (costAt j sc) v) a b) n′ m
+first-at sc v a b m x y n n′ k l i j p e q s t = rw (← p, ← e, ← q, ← s) t
 
 shows-bit : (h : Graph) (d : ℕ → ℕ) (u : ℕ) → shows h d u ≤ 1
 unfolding shows
@@ -58,9 +58,9 @@ same-cost h sc₁ sc w s e = let q : node h w - (h .I + 1) ≡ w = omega arith i
 pub record MovesFrom (h : Graph) (sc₁ : List ℕ) (r n : ℕ) (sc : List ℕ) : Type 0 where
   pub only : CostsOnly sc₁ sc
   pub below : (v : ℕ) → v < n → field sc v 4 ≡ field sc₁ v 4
-  pub top : n ≤ r → FirstBelow (rootCost h (inner h) (treeCost h) r) (arity (isXor h r)) (movesIn (h .I) sc (node h r))
+  pub top : n ≤ r → FirstBelow (rootCost h (inner h) (treeCost h) r) (movesAt h (node h r)) (movesIn (h .I) sc (node h r))
   pub rest : (v : ℕ) → n ≤ v → v < h .N → rootOf h (node h v) ≡ node h r → v ≢ r
-      → FirstBelow (moveCost h (inner h) (treeCost h) v (shows h (movesIn (h .I) sc) (node h v))) (arity (isXor h v)) (movesIn (h .I) sc (node h v))
+      → FirstBelow (moveCost h (inner h) (treeCost h) v (shows h (movesIn (h .I) sc) (node h v))) (movesAt h (node h v)) (movesIn (h .I) sc (node h v))
 
 module _ (h : Graph) (sc₁ : List ℕ) (rd : Ready h sc₁) (r : ℕ) (rn : r < h .N) (rt : isRoot h (node h r) ≡ true) where
   adm : Admitted h
@@ -85,8 +85,8 @@ module _ (h : Graph) (sc₁ : List ℕ) (rd : Ready h sc₁) (r : ℕ) (rn : r <
         rest = λ v k b t z. ⊎-elim (λ (a : v < n). absurd (free v k a t)) (λ (a : n ≤ v). mf .rest v a b t z) (lt-or-le v n);
       }
 
-  -- a decided node has a move that its kind has
-  pub moves-fit : (n : ℕ) (sc : List ℕ) → MovesFrom h sc₁ r n sc → (v : ℕ) → n ≤ v → v < h .N → rootOf h (node h v) ≡ node h r → field sc v 4 < arity (isXor h v)
+  -- a decided node has one of its moves
+  pub moves-fit : (n : ℕ) (sc : List ℕ) → MovesFrom h sc₁ r n sc → (v : ℕ) → n ≤ v → v < h .N → rootOf h (node h v) ≡ node h r → field sc v 4 < movesAt h (node h v)
   moves-fit n sc mf v k l t =
       ⊎-elim
       (λ (e : v ≡ r). rw (← moves-at h sc v, e) (mf .top (omega arith) .below))
@@ -124,6 +124,9 @@ module _ (h : Graph) (sc₁ : List ℕ) (rd : Ready h sc₁) (r : ℕ) (rn : r <
     same-kind : (w : ℕ) → isXor g w ≡ isXor h w
     same-kind w = sym (alike-xor g (stands g sc₁) (stands-alike g sc₁ (o .admitted)) w) ∙ ap (λ z. isXor z w) eh
 
+    same-moves : (w : ℕ) → movesAt g (node g w) ≡ movesAt h (node h w)
+    same-moves w = sym (alike-movesAt g (stands g sc₁) (stands-alike g sc₁ (o .admitted)) w) ∙ ap (λ z. movesAt z (node z w)) eh
+
     stands-now : stands g sc ≡ h
     stands-now = stands-costs g sc₁ sc (mf .only) ∙ eh
 
@@ -139,7 +142,7 @@ module _ (h : Graph) (sc₁ : List ℕ) (rd : Ready h sc₁) (r : ℕ) (rn : r <
     pub reader-decided : ReaderDecided g sc v
     reader-decided d =
         let a = above (other-if h adm sc (ready .placed) v below d) in
-        rw (a .0, same-kind (place h (node h v) / 3)) (moves-fit (suc v) sc mf (place h (node h v) / 3) (a .1) (a .2) (a .3))
+        rw (a .0, same-moves (place h (node h v) / 3)) (moves-fit (suc v) sc mf (place h (node h v) / 3) (a .1) (a .2) (a .3))
 
     odd-root : v ≡ r → oddAt g sc v ≡ shown h (node h v) 0
     unfolding oddAt
@@ -159,7 +162,7 @@ module _ (h : Graph) (sc₁ : List ℕ) (rd : Ready h sc₁) (r : ℕ) (rn : r <
 
     numbers : (a b : ℕ) → costWith (isXor h v) (wordCosts h (innerAt (h .I) sc) (costAt (h .I) sc) v) a b ≡ costWith (isXor h v) (wordCosts h (inner h) (treeCost h) v) a b
     numbers =
-        with-named h h (innerAt (h .I) sc) (inner h) (costAt (h .I) sc) (treeCost h) v refl (λ i l. refl) (λ i l. refl)
+        with-named h h (innerAt (h .I) sc) (inner h) (costAt (h .I) sc) (treeCost h) v refl refl (λ i l. refl) (λ i l. refl)
         (λ i l e. inner-same h sc ready _ (omega (arith, named-below h adm v i below l e)))
         (λ i s l e n m.
         let a = named-in h adm v i below l e n in
@@ -172,25 +175,25 @@ module _ (h : Graph) (sc₁ : List ℕ) (rd : Ready h sc₁) (r : ℕ) (rn : r <
         cost-kept : (w s : ℕ) → w < v → costAt (h .I) sc (node h w) s ≡ costAt (h .I) sc₁ (node h w) s
         cost-kept w s l = same-cost h sc₁ sc w s (mf .below w (omega arith))
 
-    module _ (m i : ℕ) (x : Bool) (ei : i ≡ g .I) (ex : x ≡ isXor g v)
-        (fb : FirstBelow (costWith x (wordCosts (stands g sc) (innerAt i sc) (costAt i sc) v) (field sc v 0) (oddAt g sc v)) (arity x) m) where
-      found : FirstBelow (costWith (isXor h v) (wordCosts h (inner h) (treeCost h) v) (field sc v 0) (oddAt g sc v)) (arity (isXor h v)) m
+    module _ (m i : ℕ) (x : Bool) (n : ℕ) (ei : i ≡ g .I) (ex : x ≡ isXor g v) (en : n ≡ movesAt g (node g v))
+        (fb : FirstBelow (costWith x (wordCosts (stands g sc) (innerAt i sc) (costAt i sc) v) (field sc v 0) (oddAt g sc v)) n m) where
+      found : FirstBelow (costWith (isXor h v) (wordCosts h (inner h) (treeCost h) v) (field sc v 0) (oddAt g sc v)) (movesAt h (node h v)) m
       found =
-          first-as (numbers (field sc v 0) (oddAt g sc v)) refl
-          (first-at sc v (field sc v 0) (oddAt g sc v) m x (isXor h v) (stands g sc) h i (h .I) (ex ∙ same-kind v) stands-now (ei ∙ same-I) fb)
+          first-as (numbers (field sc v 0) (oddAt g sc v))
+          (first-at sc v (field sc v 0) (oddAt g sc v) m x (isXor h v) n (movesAt h (node h v)) (stands g sc) h i (h .I) (ex ∙ same-kind v) (en ∙ same-moves v) stands-now (ei ∙ same-I) fb)
 
-      found-other : v ≢ r → FirstBelow (moveCost h (inner h) (treeCost h) v (shows h (movesIn (h .I) sc) (node h v))) (arity (isXor h v)) m
+      found-other : v ≢ r → FirstBelow (moveCost h (inner h) (treeCost h) v (shows h (movesIn (h .I) sc) (node h v))) (movesAt h (node h v)) m
       found-other z =
           first-as (ap (λ a. costWith (isXor h v) (wordCosts h (inner h) (treeCost h) v) a (oddAt g sc v)) (ready .reads v below ∙ one-reader h (node h v) (no-root z)) ∙
           ap (costWith (isXor h v) (wordCosts h (inner h) (treeCost h) v) 1) (odd-other z) ∙
           move-is h (inner h) (treeCost h) v (shows h (movesIn (h .I) sc) (node h v)) (omega (arith, shows-bit h (movesIn (h .I) sc) (node h v))))
-          refl found
+          found
 
-      found-root : v ≡ r → FirstBelow (rootCost h (inner h) (treeCost h) v) (arity (isXor h v)) m
+      found-root : v ≡ r → FirstBelow (rootCost h (inner h) (treeCost h) v) (movesAt h (node h v)) m
       found-root z =
           first-as (ap (λ a. costWith (isXor h v) (wordCosts h (inner h) (treeCost h) v) a (oddAt g sc v)) (ready .reads v below) ∙
           ap (costWith (isXor h v) (wordCosts h (inner h) (treeCost h) v) (readers h (node h v))) (odd-root z) ∙ root-is h (inner h) (treeCost h) v)
-          refl found
+          found
 
       -- the move stored
       module _ (sc′ : List ℕ) (st : Stored v 4 m sc sc′) where

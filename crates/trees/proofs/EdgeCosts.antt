@@ -12,12 +12,13 @@ use Rattle.graph.specs.Finite.{ifEqual}
 use Rattle.graph.specs.Graph.{Graph, mark, node, word, isEdge, isXor}
 use Rattle.moves.specs.Cost.{edgeCost, turnedCost, wordCosts, bitCost}
 use Rattle.choice.specs.Choice.{FirstBelow}
-use Rattle.moves.specs.Rows.{arity}
-use Rattle.moves.specs.Decide.{Numbers, numbersOf, costWith}
+use Rattle.moves.specs.Rows.{movesAt}
+use Rattle.moves.specs.Decide.{Numbers, MovesOf, numbersOf, costWith}
 use Rattle.moves.proofs.Deciding as deciding
+use Rattle.moves.proofs.Moves.{moves-of}
 use Rattle.moves.proofs.Shown.{shown-both}
 use Rattle.state.specs.State.{field, stands, Ordered}
-use Rattle.state.proofs.Alike.{alike-xor, alike-readers}
+use Rattle.state.proofs.Alike.{alike-xor, alike-movesAt, alike-readers}
 use Rattle.state.proofs.Stands.{stands-alike, stands-admitted}
 use Rattle.trees.specs.Costing.{innerAt, costAt, CostBits}
 use Rattle.moves.proofs.NodeCosts.{numbers-low}
@@ -83,17 +84,23 @@ numbers-now g sc o v l z a b e ea eb =
     let n = deciding.numbers-low g v (o .admitted) in
     numbers-low h (innerAt (g .I) sc) (costAt (g .I) sc) v (costs-low (g .I) sc) z a b e
     (omega (arith, o .reads v l, o .odd v l, shown-both h (node g v)))
-    (omega (arith, o .reads v l, n .few))
+    (omega (arith, o .reads v l, n .numbers .few))
 
-pub decided-by : (x y : Bool) (z w : List ℕ) (a b c d m : ℕ) → x ≡ y → z ≡ w → a ≡ c → b ≡ d → FirstBelow (costWith x z a b) (arity x) m → FirstBelow (costWith y w c d) (arity y) m
-decided-by x y z w a b c d m p q s t f = rw (← p, ← q, ← s, ← t) f
+pub decided-by : (x y : Bool) (n k : ℕ) (z w : List ℕ) (a b c d m : ℕ) → x ≡ y → n ≡ k → z ≡ w → a ≡ c → b ≡ d → FirstBelow (costWith x z a b) n m → FirstBelow (costWith y w c d) k m
+decided-by x y n k z w a b c d m p u q s t f = rw (← p, ← u, ← q, ← s, ← t) f
+
+-- the kind and the moves of a node, as they are read
+pub moves-read : (g : Graph) (v : ℕ) (x : Bool) (n : ℕ) → x ≡ isXor g v → n ≡ movesAt g (node g v) → MovesOf x n
+moves-read g v x n e q = rw (e, q) (moves-of g v)
 
 -- the stored bits of a node
-pub bits-of : (g : Graph) (sc : List ℕ) → Ordered g sc → (v : ℕ) (x : Bool) (z : List ℕ) (r : ℕ) → z ≡ wordCosts (stands g sc) (innerAt (g .I) sc) (costAt (g .I) sc) v
-    → x ≡ isXor g v → CostBits x z r
+pub bits-of : (g : Graph) (sc : List ℕ) → Ordered g sc → (v : ℕ) (x : Bool) (n : ℕ) (z : List ℕ) (r : ℕ) → z ≡ wordCosts (stands g sc) (innerAt (g .I) sc) (costAt (g .I) sc) v
+    → x ≡ isXor g v → n ≡ movesAt g (node g v) → CostBits x n z r
     → (r % 2 ≡ bitCost (stands g sc) (innerAt (g .I) sc) (costAt (g .I) sc) v 0) × (r / 2 % 2 ≡ bitCost (stands g sc) (innerAt (g .I) sc) (costAt (g .I) sc) v 1)
-bits-of g sc o v x z r e k cb =
-    let q : x ≡ isXor (stands g sc) v = k ∙ sym (alike-xor g (stands g sc) (stands-alike g sc (o .admitted)) v) in
-    let c : CostBits (isXor (stands g sc) v) (wordCosts (stands g sc) (innerAt (g .I) sc) (costAt (g .I) sc) v) r = rw (← q, ← e) cb in
+bits-of g sc o v x n z r e k j cb =
+    let a = stands-alike g sc (o .admitted) in
+    let q : x ≡ isXor (stands g sc) v = k ∙ sym (alike-xor g (stands g sc) a v) in
+    let u : n ≡ movesAt (stands g sc) (node (stands g sc) v) = j ∙ sym (alike-movesAt g (stands g sc) a v) in
+    let c : CostBits (isXor (stands g sc) v) (movesAt (stands g sc) (node (stands g sc) v)) (wordCosts (stands g sc) (innerAt (g .I) sc) (costAt (g .I) sc) v) r = rw (← q, ← u, ← e) cb in
     bits-are (stands g sc) (innerAt (g .I) sc) (costAt (g .I) sc) v (c .zero-least .move) (c .one-least .move) (c .zero-cost) (c .one-cost)
     (c .zero-least .least) (c .one-least .least) (c .zero-least .cost) (c .one-least .cost) r _ _ refl refl (c .bits)

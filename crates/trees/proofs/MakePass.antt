@@ -11,7 +11,7 @@ use borrow.Author.Tests.{eq-eqb, ne-eqb, lt-ltb, le-ltb}
 use Rattle.graph.specs.Graph.{Graph, node, isXor}
 use Rattle.graph.specs.Admission.{Admitted}
 use Rattle.graph.proofs.Cases.{eq-or-ne, lt-or-le}
-use Rattle.moves.specs.Rows.{arity, combined}
+use Rattle.moves.specs.Rows.{movesAt}
 use Rattle.moves.specs.Apply.{Choice, Permitted, none, at, put, apply, compose}
 use Rattle.moves.specs.Tree.{isRoot, rootOf, tree}
 use Rattle.moves.specs.Call.{moved, bestAt}
@@ -20,23 +20,13 @@ use Rattle.moves.proofs.Compose.{apply-apply}
 use Rattle.moves.proofs.Kept.{apply-idle}
 use Rattle.moves.proofs.Potential.{Off}
 use Rattle.moves.proofs.Readers.{rootOf-above}
-use Rattle.moves.proofs.TreeBest.{arity-pos}
+use Rattle.moves.proofs.Moves.{moves-pos, has-row, node-row}
 use Rattle.moves.proofs.Written.{within, put-tree}
 use Rattle.state.specs.State.{field, stands, Ordered}
 use Rattle.state.specs.Step.{TreesKept, Became}
+use Rattle.state.proofs.Pairs.{combined-left, combined-right}
 use Rattle.trees.specs.Deciding.{movesIn, TreeDecided}
 use Rattle.trees.proofs.DecidePass.{moves-at}
-
--- a move joined to none
-join-left : (x : Bool) (m : ℕ) → m < arity x → combined x 0 m ≡ m
-unfolding combined arity
-join-left true m l = omega arith
-join-left false m l = omega arith
-
-join-right : (x : Bool) (m : ℕ) → m < arity x → combined x m 0 ≡ m
-unfolding combined arity
-join-right true m l = omega arith
-join-right false m l = omega arith
 
 -- a choice that is m in the tree of r and moves nothing outside
 in-or-out : (h : Graph) (r : ℕ) (m d : Choice) (u : ℕ) → (h .I < u → u < node h (h .N) → rootOf h u ≡ r → m u ≡ d u) → (rootOf h u ≢ r → d u ≡ 0) → (u ≤ h .I → d u ≡ 0)
@@ -76,7 +66,7 @@ module _ (h : Graph) (sc₁ : List ℕ) (adm : Admitted h) (r : ℕ) (rn : r < h
         ordered = o;
         stands-for = e ∙ sym (apply-idle h none adm (λ u. refl));
         kept = record { long = refl; others = λ v f l p q. refl };
-        permitted = λ v l. arity-pos (isXor h v);
+        permitted = λ v l. moves-pos h (node h v);
         off = λ u q. refl;
         low = λ u q. refl;
         high = λ u q. refl;
@@ -115,7 +105,7 @@ module _ (h : Graph) (sc₁ : List ℕ) (adm : Admitted h) (r : ℕ) (rn : r < h
       only-tree = fun-ext (λ u. in-or-out h (node h r) (movesIn (h .I) sc₁) (mf .d) u (inside u) (mf .off u) (λ l. mf .low u (omega arith)) (mf .high u))
 
   -- the move m at node v of the tree, those above it made
-  module _ (v : ℕ) (vn : v < h .N) (here : rootOf h (node h v) ≡ node h r) (g : Graph) (sc : List ℕ) (mf : MadeFrom h sc₁ r (suc v) g sc) (m : ℕ) (fits : m < arity (isXor h v)) (em : m ≡ field sc₁ v 4)
+  module _ (v : ℕ) (vn : v < h .N) (here : rootOf h (node h v) ≡ node h r) (g : Graph) (sc : List ℕ) (mf : MadeFrom h sc₁ r (suc v) g sc) (m : ℕ) (fits : m < movesAt h (node h v)) (em : m ≡ field sc₁ v 4)
       (i : ℕ) (ei : i ≡ h .I) where
     d′ : Choice
     d′ = at (mf .d) (node h v) m
@@ -123,15 +113,15 @@ module _ (h : Graph) (sc₁ : List ℕ) (adm : Admitted h) (r : ℕ) (rn : r < h
     still-own : mf .d (node h v) ≡ 0
     still-own = mf .low (node h v) (omega arith)
 
-    all-fit : (u : ℕ) → mf .d u < arity (isXor h (u - (h .I + 1)))
+    all-fit : (u : ℕ) → mf .d u < movesAt h u
     all-fit u =
         ⊎-elim
         (λ (a : h .I < u).
         ⊎-elim
         (λ (b : u < node h (h .N)). let q : node h (u - (h .I + 1)) ≡ u = omega arith in (rw q at (mf .permitted (u - (h .I + 1)) (omega arith))))
-        (λ (b : node h (h .N) ≤ u). rw (mf .high u b) (arity-pos _))
+        (λ (b : node h (h .N) ≤ u). rw (mf .high u b) (moves-pos h u))
         (lt-or-le u (node h (h .N))))
-        (λ (a : u ≤ h .I). rw (mf .low u (omega arith)) (arity-pos _))
+        (λ (a : u ≤ h .I). rw (mf .low u (omega arith)) (moves-pos h u))
         (lt-or-le (h .I) u)
 
     joined : compose h (mf .d) (at none (node h v) m) ≡ d′
@@ -141,9 +131,9 @@ module _ (h : Graph) (sc₁ : List ℕ) (adm : Admitted h) (r : ℕ) (rn : r < h
         ⊎-elim
         (λ (e : u ≡ node h v).
         let q : node h v - (h .I + 1) ≡ v = omega arith in
-        rw (e, at-same none (node h v) m, at-same (mf .d) (node h v) m, still-own, q) (join-left (isXor h v) m fits))
+        rw (e, at-same none (node h v) m, at-same (mf .d) (node h v) m, still-own, q) (combined-right (isXor h v) m (node-row h v m fits)))
         (λ (e : u ≢ node h v).
-        rw (at-other none (node h v) m u e, at-other (mf .d) (node h v) m u e) (join-right (isXor h (u - (h .I + 1))) (mf .d u) (all-fit u)))
+        rw (at-other none (node h v) m u e, at-other (mf .d) (node h v) m u e) (combined-left (isXor h (u - (h .I + 1))) (mf .d u) (has-row h u (mf .d u) (all-fit u))))
         (eq-or-ne u (node h v)))
 
     permitted-with : (d : Choice) → Permitted h d → Permitted h (at d (node h v) m)
@@ -156,7 +146,7 @@ module _ (h : Graph) (sc₁ : List ℕ) (adm : Admitted h) (r : ℕ) (rn : r < h
     moved-to : apply (stands g sc) (at none (i + 1 + v) m) ≡ apply h d′
     moved-to =
         ap (λ y. apply y (at none (i + 1 + v) m)) (mf .stands-for) ∙ ap (λ y. apply (apply h (mf .d)) (at none (y + 1 + v) m)) ei ∙
-        apply-apply h (mf .d) (at none (node h v) m) (mf .permitted) (permitted-with none (λ w l. arity-pos (isXor h w))) adm ∙ ap (apply h) joined
+        apply-apply h (mf .d) (at none (node h v) m) (mf .permitted) (permitted-with none (λ w l. moves-pos h (node h w))) adm ∙ ap (apply h) joined
 
     pub made-step : (g′ : Graph) (sc′ : List ℕ) → Became sc g′ sc′ (apply (stands g sc) (at none (i + 1 + v) m)) → MadeFrom h sc₁ r v g′ sc′
     unfolding d′

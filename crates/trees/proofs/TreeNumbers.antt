@@ -3,15 +3,15 @@ use mathlib.Core.Path.{_≡_}
 use mathlib.Core.Bool.{Bool}
 use Prim.Native.Nat.{ℕ, _+_, _-_, _*_, _/_, _%_, _≤_}
 use native.Mathlib.Omega.{arith}
-use Rattle.graph.specs.Graph.{Graph, isXor}
+use Rattle.graph.specs.Graph.{Graph, node, isXor}
 use Rattle.choice.specs.Choice.{FirstBelow}
-use Rattle.moves.specs.Rows.{arity}
+use Rattle.moves.specs.Rows.{movesAt}
 use Rattle.moves.specs.Cost.{wordCosts, nodeCost, baseCost, bitCost}
 use Rattle.moves.specs.Decide.{costWith}
 use Rattle.moves.proofs.NodeCosts.{node-found, nodes-near}
 
-module _ (h : Graph) (t : ℕ → Bool) (c : ℕ → ℕ → ℕ) (v m₀ m₁ a b : ℕ) (f₀ : FirstBelow (costWith (isXor h v) (wordCosts h t c v) 1 0) (arity (isXor h v)) m₀)
-    (f₁ : FirstBelow (costWith (isXor h v) (wordCosts h t c v) 1 1) (arity (isXor h v)) m₁)
+module _ (h : Graph) (t : ℕ → Bool) (c : ℕ → ℕ → ℕ) (v m₀ m₁ a b : ℕ) (f₀ : FirstBelow (costWith (isXor h v) (wordCosts h t c v) 1 0) (movesAt h (node h v)) m₀)
+    (f₁ : FirstBelow (costWith (isXor h v) (wordCosts h t c v) 1 1) (movesAt h (node h v)) m₁)
     (e₀ : a ≡ costWith (isXor h v) (wordCosts h t c v) 1 0 m₀) (e₁ : b ≡ costWith (isXor h v) (wordCosts h t c v) 1 1 m₁) where
   a-is : a ≡ nodeCost h t c v 0
   a-is = node-found h t c v 0 m₀ a (omega arith) f₀ e₀

@@ -11,7 +11,6 @@ use Rattle.graph.specs.Finite.{ifEqual}
 use Rattle.graph.specs.Graph.{Graph, mark, node, word, isEdge}
 use Rattle.moves.specs.Tree.{rootOf}
 use Rattle.choice.specs.Choice.{FirstBelow}
-use Rattle.moves.specs.Rows.{arity}
 use Rattle.moves.specs.Cost.{inner, bitCost}
 use Rattle.moves.specs.Decide.{costWith}
 use Rattle.state.specs.State.{field}
@@ -24,19 +23,19 @@ innerAt i sc u = ltb i u && not (eqb (field sc (u - (i + 1)) 3) mark)
 unfoldable pub costAt : ℕ → List ℕ → ℕ → ℕ → ℕ
 costAt i sc u s = ifEqual s 0 (field sc (u - (i + 1)) 4 % 2) (field sc (u - (i + 1)) 4 / 2 % 2)
 
--- r is what the least move of a kind x with numbers z of its words and one reader costs, shown the bit s
-pub record LeastCost (x : Bool) (z : List ℕ) (s r : ℕ) : Type 0 where
+-- r is what the least of the n moves of a kind x with numbers z of its words and one reader costs, shown the bit s
+pub record LeastCost (x : Bool) (n : ℕ) (z : List ℕ) (s r : ℕ) : Type 0 where
   pub move : ℕ
-  pub least : FirstBelow (costWith x z 1 s) (arity x) move
+  pub least : FirstBelow (costWith x z 1 s) n move
   pub cost : r ≡ costWith x z 1 s move
   pub low : r ≤ 4
 
 -- r has, in two bits, how much each of the two costs exceeds the other
-pub record CostBits (x : Bool) (z : List ℕ) (r : ℕ) : Type 0 where
+pub record CostBits (x : Bool) (n : ℕ) (z : List ℕ) (r : ℕ) : Type 0 where
   pub zero-cost : ℕ
   pub one-cost : ℕ
-  pub zero-least : LeastCost x z 0 zero-cost
-  pub one-least : LeastCost x z 1 one-cost
+  pub zero-least : LeastCost x n z 0 zero-cost
+  pub one-least : LeastCost x n z 1 one-cost
   pub bits : r ≡ (zero-cost - one-cost) + 2 * (one-cost - zero-cost)
 
 -- two costs a node, in a list

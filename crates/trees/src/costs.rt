@@ -6,7 +6,7 @@ ghost use lib.Dec.{eqb};
 ghost use lib.ListN.{length};
 ghost use Rattle.graph.specs.Finite.{ifEqual};
 ghost use Rattle.graph.specs.Graph.{graphOf, mark};
-ghost use Rattle.moves.specs.Decide.{Numbers};
+ghost use Rattle.moves.specs.Decide.{Numbers, MovesOf};
 ghost use Rattle.moves.specs.Tree.{isRoot};
 ghost use Rattle.moves.specs.Cost.{edgeCost, turnedCost, wordCosts, bitCost};
 ghost use Rattle.state.specs.State.{stands, Ordered};
@@ -110,21 +110,21 @@ pub fn tree_numbers(
 }
 
 // What a node with these numbers and one reader costs at least, shown the bit s.
-pub fn least_cost(xor: bool, z: [u32; 6], s: u32) -> u32
-    requires { ⌜ Numbers z 1 s ⌝ }
-    ensures { λ r. ⌜ LeastCost xor z s r ⌝ }
+pub fn least_cost(xor: bool, moves: u32, z: [u32; 6], s: u32) -> u32
+    requires { ⌜ Numbers z 1 s × MovesOf xor moves ⌝ }
+    ensures { λ r. ⌜ LeastCost xor moves z s r ⌝ }
 {
-    let least = decide::least_move(xor, z, 1, s);
+    let least = decide::least_move(xor, moves, z, 1, s);
     least.cost
 }
 
 // The two bits of a node's costs: how much each exceeds the other.
-pub fn cost_bits(xor: bool, z: [u32; 6]) -> u32
-    requires { ⌜ Numbers z 1 0 × Numbers z 1 1 ⌝ }
-    ensures { λ r. ⌜ CostBits xor z r ⌝ }
+pub fn cost_bits(xor: bool, moves: u32, z: [u32; 6]) -> u32
+    requires { ⌜ Numbers z 1 0 × Numbers z 1 1 × MovesOf xor moves ⌝ }
+    ensures { λ r. ⌜ CostBits xor moves z r ⌝ }
 {
-    let a = least_cost(xor, z, 0);
-    let b = least_cost(xor, z, 1);
+    let a = least_cost(xor, moves, z, 0);
+    let b = least_cost(xor, moves, z, 1);
     over(a, b) + 2 * over(b, a)
 }
 
@@ -142,7 +142,11 @@ pub fn node_costs(
     ensures { λ r. ⌜ (r % 2 ≡ bitCost (stands (graphOf inputs nodes outputs (now («node_table» .entry)) (now («output_table» .entry))) (now (scratch .entry))) (innerAt inputs (now (scratch .entry))) (costAt inputs (now (scratch .entry))) v 0) × (r / 2 % 2 ≡ bitCost (stands (graphOf inputs nodes outputs (now («node_table» .entry)) (now («output_table» .entry))) (now (scratch .entry))) (innerAt inputs (now (scratch .entry))) (costAt inputs (now (scratch .entry))) v 1) ⌝ }
 {
     let z = tree_numbers(inputs, nodes, outputs, node_table, output_table, v, scratch);
-    cost_bits(rows::is_xor(node_table, v), z)
+    cost_bits(
+        rows::is_xor(node_table, v),
+        rows::moves_at(node_table, v),
+        z,
+    )
 }
 
 // The costs of the tree of node `root`, by rising index: all its nodes but the root.

@@ -4,7 +4,7 @@ ghost use mathlib.Core.Bool.{true};
 ghost use Prim.Native.Nat.{_+_, _*_, _/_, _<_};
 ghost use Rattle.graph.specs.Graph.{graphOf, isXor};
 ghost use Rattle.choice.specs.Choice.{FirstBelow};
-ghost use Rattle.moves.specs.Rows.{arity};
+ghost use Rattle.moves.specs.Rows.{movesAt};
 ghost use Rattle.moves.specs.Tree.{isRoot};
 ghost use Rattle.moves.specs.Cost.{wordCosts};
 ghost use Rattle.moves.specs.Decide.{costWith};
@@ -31,7 +31,7 @@ pub fn shown_bit(
     p: usize,
     scratch: &[u32],
 ) -> u32
-    requires { ⌜ Ordered (graphOf inputs nodes outputs (now «node_table») (now «output_table»)) (now scratch) × (p < 3 * nodes) × (field (now scratch) (p / 3) 4 < arity (isXor (graphOf inputs nodes outputs (now «node_table») (now «output_table»)) (p / 3))) ⌝ }
+    requires { ⌜ Ordered (graphOf inputs nodes outputs (now «node_table») (now «output_table»)) (now scratch) × (p < 3 * nodes) × (field (now scratch) (p / 3) 4 < movesAt (graphOf inputs nodes outputs (now «node_table») (now «output_table»)) (inputs + 1 + p / 3)) ⌝ }
     ensures { λ r. ⌜ r ≡ showsAt (graphOf inputs nodes outputs (now («node_table» .entry)) (now («output_table» .entry))) (now (scratch .entry)) p ⌝ }
 {
     let w = p / 3;
@@ -80,12 +80,18 @@ pub fn decide_at(
     scratch: &[u32],
 ) -> u32
     requires { ⌜ Ordered (graphOf inputs nodes outputs (now «node_table») (now «output_table»)) (now scratch) × (v < nodes) × ReaderDecided (graphOf inputs nodes outputs (now «node_table») (now «output_table»)) (now scratch) v ⌝ }
-    ensures { λ r. ⌜ FirstBelow (costWith (isXor (graphOf inputs nodes outputs (now («node_table» .entry)) (now («output_table» .entry))) v) (wordCosts (stands (graphOf inputs nodes outputs (now («node_table» .entry)) (now («output_table» .entry))) (now (scratch .entry))) (innerAt inputs (now (scratch .entry))) (costAt inputs (now (scratch .entry))) v) (field (now (scratch .entry)) v 0) (oddAt (graphOf inputs nodes outputs (now («node_table» .entry)) (now («output_table» .entry))) (now (scratch .entry)) v)) (arity (isXor (graphOf inputs nodes outputs (now («node_table» .entry)) (now («output_table» .entry))) v)) r ⌝ }
+    ensures { λ r. ⌜ FirstBelow (costWith (isXor (graphOf inputs nodes outputs (now («node_table» .entry)) (now («output_table» .entry))) v) (wordCosts (stands (graphOf inputs nodes outputs (now («node_table» .entry)) (now («output_table» .entry))) (now (scratch .entry))) (innerAt inputs (now (scratch .entry))) (costAt inputs (now (scratch .entry))) v) (field (now (scratch .entry)) v 0) (oddAt (graphOf inputs nodes outputs (now («node_table» .entry)) (now («output_table» .entry))) (now (scratch .entry)) v)) (movesAt (graphOf inputs nodes outputs (now («node_table» .entry)) (now («output_table» .entry))) (inputs + 1 + v)) r ⌝ }
 {
     let z = costs::tree_numbers(inputs, nodes, outputs, node_table, output_table, v, scratch);
     let readers = read(scratch, v, 0);
     let odd = odd_at(inputs, nodes, outputs, node_table, output_table, v, scratch);
-    decide::first_least(rows::is_xor(node_table, v), z, readers, odd)
+    decide::first_least(
+        rows::is_xor(node_table, v),
+        rows::moves_at(node_table, v),
+        z,
+        readers,
+        odd,
+    )
 }
 
 // The moves of the tree of node `root`, whose costs are stored, by falling index: each in the place of the node's costs.

@@ -2,7 +2,7 @@
 use native.Mathlib.Omega.{arith}
 use borrow.Author.Needs.{needs}
 use Rattle.graph.specs.Graph.{Graph, graphOf}
-use Rattle.moves.proofs.Deciding.{arity-low}
+use Rattle.moves.proofs.Moves.{arity-pos, moves-row}
 use Rattle.node_call.proofs.Outcomes.{counted, move-fits, no-more, node-outcome}
 use Rattle.node_call.proofs.rewrite.rewrite_node.Statement.{statement}
 use Rattle.node_call.proofs.rewrite.rewrite_node.Tie as tie
@@ -16,7 +16,8 @@ first-least-requires c κs =
     let a = s .args in
     let g : Graph = graphOf (a .inputs) (a .nodes) (a .outputs) (a .node-table .now) (a .output-table .now) in
     let n = c .before .numbers-of in
-    counted g (a .v) (n .result) (s .pre .0) (n .ensures)
+    let k = counted g (a .v) (n .result) (s .pre .0) (n .ensures) in
+    (k .numbers, k .has)
 
 move-cost-requires : tie.Need-move-cost-requires
 move-cost-requires c κs =
@@ -24,7 +25,7 @@ move-cost-requires c κs =
     let a = s .args in
     let g : Graph = graphOf (a .inputs) (a .nodes) (a .outputs) (a .node-table .now) (a .output-table .now) in
     let n = c .before .before .numbers-of in
-    (counted g (a .v) (n .result) (s .pre .0) (n .ensures), omega (arith, arity-low (n .result .xor)))
+    (counted g (a .v) (n .result) (s .pre .0) (n .ensures) .numbers, arity-pos _)
 
 move-cost-requires-2 : tie.Need-move-cost-requires-2
 move-cost-requires-2 c κs =
@@ -32,7 +33,8 @@ move-cost-requires-2 c κs =
     let a = s .args in
     let g : Graph = graphOf (a .inputs) (a .nodes) (a .outputs) (a .node-table .now) (a .output-table .now) in
     let n = c .before .before .before .numbers-of in
-    (counted g (a .v) (n .result) (s .pre .0) (n .ensures), c .before .first-least .ensures .below)
+    let k = counted g (a .v) (n .result) (s .pre .0) (n .ensures) in
+    (k .numbers, moves-row _ _ _ (k .has) (c .before .first-least .ensures .below))
 
 write-moves-requires : tie.Need-write-moves-requires
 write-moves-requires c κs =

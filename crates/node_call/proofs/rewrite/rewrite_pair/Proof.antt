@@ -3,7 +3,7 @@ use native.Mathlib.Omega.{arith}
 use borrow.Author.Needs.{needs}
 use Prim.Native.Nat.{_<_}
 use Rattle.graph.specs.Graph.{Graph, graphOf}
-use Rattle.moves.proofs.Deciding.{arity-low}
+use Rattle.moves.proofs.Moves.{moves-some}
 use Rattle.node_call.proofs.Outcomes.{counted, naming-bits, both-fit, both-no-more, pair-outcome}
 use Rattle.node_call.proofs.rewrite.rewrite_pair.Statement.{statement}
 use Rattle.node_call.proofs.rewrite.rewrite_pair.Tie as tie
@@ -43,7 +43,9 @@ pair-cost-requires c κs =
     let n = c .before .before .before .numbers-of2 in
     let w = c .before .which-name in
     let wn = w .ensures (a .inputs) (a .nodes) (a .outputs) (a .output-table .now) in
-    (counted g (a .p) (p .result) (s .pre .0) (p .ensures), counted g (a .v) (n .result) (s .pre .0) (n .ensures), naming-bits g (a .v) _ (w .result) wn, omega (arith, arity-low (p .result .xor)), omega (arith, arity-low (n .result .xor)))
+    let i = counted g (a .p) (p .result) (s .pre .0) (p .ensures) in
+    let j = counted g (a .v) (n .result) (s .pre .0) (n .ensures) in
+    (i, j, naming-bits g (a .v) _ (w .result) wn, moves-some _ _ (i .has), moves-some _ _ (j .has))
 
 pair-cost-requires-2 : tie.Need-pair-cost-requires-2
 pair-cost-requires-2 c κs =

@@ -5,6 +5,7 @@ use mathlib.Core.Bool.{Bool}
 use Prim.Native.Nat.{ℕ, _+_, _≤_}
 use lib.ListN.{getD}
 use Rattle.graph.specs.Graph.{Graph, graphOf}
+use Rattle.moves.proofs.Moves.{node-row}
 use Rattle.node_call.specs.Write.{moveWith}
 use Rattle.node_call.specs.declared.write.NodeMove.{NodeMove}
 use Rattle.node_call.proofs.Flags.{with-bits, both-written}
@@ -27,7 +28,7 @@ move-with-requires : tie.Need-move-with-requires
 move-with-requires c κs =
     let s = c .before .before .before .before in
     let a = s .args in
-    rw (c .is-xor .ensures (a .inputs) (a .nodes) (a .outputs) (a .output-table .now)) (s .pre .3)
+    rw (c .is-xor .ensures (a .inputs) (a .nodes) (a .outputs) (a .output-table .now)) (node-row (graphOf (a .inputs) (a .nodes) (a .outputs) (a .node-table .now) (a .output-table .now)) (a .p) (a .k) (s .pre .3))
 
 is-xor-requires-2 : tie.Need-is-xor-requires-2
 is-xor-requires-2 c κs = search needs
@@ -42,7 +43,7 @@ move-with-requires-2 : tie.Need-move-with-requires-2
 move-with-requires-2 c κs =
     let s = c .before .before .before .before .before .before .before in
     let a = s .args in
-    rw (c .is-xor2 .ensures (a .inputs) (a .nodes) (a .outputs) (a .output-table .now)) (s .pre .4)
+    rw (c .is-xor2 .ensures (a .inputs) (a .nodes) (a .outputs) (a .output-table .now)) (node-row (graphOf (a .inputs) (a .nodes) (a .outputs) (a .node-table .now) (a .output-table .now)) (a .v) (a .m) (s .pre .4))
 
 write-nodes-requires : tie.Need-write-nodes-requires
 write-nodes-requires c κs =

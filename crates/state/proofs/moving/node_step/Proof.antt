@@ -15,7 +15,8 @@ first-least-requires : tie.Need-first-least-requires
 first-least-requires c κs =
     let n = c .before in
     let s = n .before .before .before .before .before .before in
-    counted-now (graph-of s) (s .args .scratch .now) (s .pre .0) (s .args .v) (s .pre .1) (n .numbers-now .result) (n .numbers-now .ensures)
+    let k = counted-now (graph-of s) (s .args .scratch .now) (s .pre .0) (s .args .v) (s .pre .1) (n .numbers-now .result) (n .numbers-now .ensures) in
+    (k .numbers, k .has)
 
 make-move-requires : tie.Need-make-move-requires
 make-move-requires c κs =

@@ -5,6 +5,7 @@ use Prim.Native.Nat.{ℕ, _<_}
 use native.Mathlib.Omega.{arith}
 use Rattle.graph.specs.Graph.{Graph, graphOf, isXor}
 use Rattle.moves.specs.Rows.{arity, flag}
+use Rattle.moves.proofs.Moves.{node-row}
 use Rattle.state.proofs.Made.{first-edge, second-edge, third-edge, made}
 use borrow.Author.Needs.{needs}
 use Rattle.state.proofs.turning.turn_node.Statement.{statement}
@@ -27,7 +28,7 @@ kind : (c : tie.After-is-xor) → c .is-xor .result ≡ isXor (graph-of (start c
 kind c = let a = start c .args in c .is-xor .ensures (a .inputs) (a .nodes) (a .outputs) (a .output-table .now)
 
 has : (c : tie.After-is-xor) → start c .args .m < arity (c .is-xor .result)
-has c = omega (arith, ap arity (kind c), start c .pre .2)
+has c = let s = start c in omega (arith, ap arity (kind c), node-row (graph-of s (s .args .node-table .now)) (s .args .v) (s .args .m) (s .pre .2))
 
 flag-of-requires : tie.Need-flag-of-requires
 flag-of-requires c κs = (has c, omega arith)

@@ -16,7 +16,7 @@ returns c =
       move = l .result .number;
       least = l .ensures .found;
       cost = l .ensures .cost;
-      low = omega (arith, l .ensures .cost, cost-le (s .args .xor) (s .args .z) 1 (s .args .s) (l .result .number) (s .pre));
+      low = omega (arith, l .ensures .cost, cost-le (s .args .xor) (s .args .z) 1 (s .args .s) (l .result .number) (s .pre .0));
     }
 
 pub least-cost-spec : {M : Type 1} → statement M

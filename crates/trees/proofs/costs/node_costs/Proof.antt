@@ -1,5 +1,5 @@
 -- `node_costs` meets its contract. From the laws on a node's numbers.
-use Rattle.trees.proofs.EdgeCosts.{numbers-of, bits-of}
+use Rattle.trees.proofs.EdgeCosts.{numbers-of, moves-read, bits-of}
 use native.Mathlib.Omega.{arith}
 use borrow.Author.Needs.{needs}
 use Rattle.trees.proofs.costs.node_costs.Statement.{statement}
@@ -11,12 +11,21 @@ tree-numbers-requires c κs = search needs
 is-xor-requires : tie.Need-is-xor-requires
 is-xor-requires c κs = search needs
 
+moves-at-requires : tie.Need-moves-at-requires
+moves-at-requires c κs = search needs
+
 cost-bits-requires : tie.Need-cost-bits-requires
-cost-bits-requires c κs = (numbers-of _ _ _ _ _ 0 (c .before .tree-numbers .ensures) (omega arith), numbers-of _ _ _ _ _ 1 (c .before .tree-numbers .ensures) (omega arith))
+cost-bits-requires c κs =
+    let t = c .before .before .tree-numbers in
+    let a = c .before .before .before .before .before .before .args in (
+      numbers-of _ _ _ _ _ 0 (t .ensures) (omega arith),
+      numbers-of _ _ _ _ _ 1 (t .ensures) (omega arith),
+      moves-read _ _ _ _ (c .before .is-xor .ensures (a .inputs) (a .nodes) (a .outputs) (a .output-table .now)) (c .moves-at .ensures (a .inputs) (a .nodes) (a .outputs) (a .output-table .now)),
+    )
 
 returns : tie.Need-returns
-returns c = bits-of _ _ (c .before .before .before .before .before .before .pre .0) _ _ _ _ (c .before .before .tree-numbers .ensures) (c .before .is-xor .ensures _ _ _ _) (c .cost-bits .ensures)
+returns c = bits-of _ _ (c .before .before .before .before .before .before .before .pre .0) _ _ _ _ _ (c .before .before .before .tree-numbers .ensures) (c .before .before .is-xor .ensures _ _ _ _) (c .before .moves-at .ensures _ _ _ _) (c .cost-bits .ensures)
 
 pub node-costs-spec : {M : Type 1} → statement M
 node-costs-spec =
-    tie.close (tie.spec tree-numbers-requires is-xor-requires cost-bits-requires returns)
+    tie.close (tie.spec tree-numbers-requires is-xor-requires moves-at-requires cost-bits-requires returns)

@@ -6,7 +6,7 @@ use mathlib.Core.Logic.{_≢_}
 use Prim.Native.Nat.{ℕ, suc, _≤_, _<_}
 use Rattle.graph.specs.Graph.{Graph, graphOf, mark, node, isXor}
 use Rattle.choice.specs.Choice.{FirstBelow}
-use Rattle.moves.specs.Rows.{arity}
+use Rattle.moves.specs.Rows.{movesAt}
 use Rattle.moves.specs.Tree.{isRoot, rootOf}
 use Rattle.moves.specs.Cost.{wordCosts}
 use Rattle.moves.specs.Decide.{costWith}
@@ -66,11 +66,11 @@ module _ (g : Graph) (sc₁ : List ℕ) (o : Ordered g sc₁) (r : ℕ) (h : r <
     unfolding stands
     decided-above = reader-decided k sc₁ ready r within root-now g o refl cd w low in-tree sc passed
 
-    again : (m x : ℕ) (sc′ : List ℕ) → FirstBelow (costWith (isXor g w) (wordCosts (stands g sc) (innerAt (g .I) sc) (costAt (g .I) sc) w) (field sc w 0) (oddAt g sc w)) (arity (isXor g w)) m
+    again : (m x : ℕ) (sc′ : List ℕ) → FirstBelow (costWith (isXor g w) (wordCosts (stands g sc) (innerAt (g .I) sc) (costAt (g .I) sc) w) (field sc w 0) (oddAt g sc w)) (movesAt g (node g w)) m
         → Stored w 4 m sc sc′ → x ≡ field sc′ w 5 → Inv g sc₁ r sc′ x × (boundOf x < boundOf v)
     unfolding stands
     again m x sc′ fb st q =
-        let ms = moves-step k sc₁ ready r within root-now g o refl cd w low in-tree sc passed m (g .I) (isXor g w) refl refl fb sc′ st in
+        let ms = moves-step k sc₁ ready r within root-now g o refl cd w low in-tree sc passed m (g .I) (isXor g w) (movesAt g (node g w)) refl refl refl fb sc′ st in
         let b : w < k .N = omega (arith, low, within) in
         let n = next-lower k sc₁ ready r w x b in-tree (q ∙ ms .only .kept _ (λ z. omega arith)) in (
           record {

@@ -12,7 +12,7 @@ read-requires : tie.Need-read-requires
 read-requires c κs = search needs
 
 flag-of-requires : tie.Need-flag-of-requires
-flag-of-requires c κs = (fits-kind _ _ _ _ (c .before .is-xor .ensures _ _ _ _) (c .read .ensures) (c .before .before .before .before .before .pre .2), omega arith)
+flag-of-requires c κs = (fits-kind _ _ _ _ _ (c .before .is-xor .ensures _ _ _ _) (c .read .ensures) (c .before .before .before .before .before .pre .2), omega arith)
 
 word-now-requires : tie.Need-word-now-requires
 word-now-requires c κs = search needs

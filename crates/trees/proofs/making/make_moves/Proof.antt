@@ -5,17 +5,17 @@ use mathlib.Core.List.{List}
 use mathlib.Core.Logic.{_≢_}
 use Prim.Native.Nat.{ℕ, suc, _+_, _≤_, _<_}
 use lib.ListN.{length}
-use Rattle.graph.specs.Graph.{Graph, graphOf, mark, node, isXor}
+use Rattle.graph.specs.Graph.{Graph, graphOf, mark, node}
 use Rattle.graph.specs.Count.{C}
-use Rattle.moves.specs.Rows.{arity}
+use Rattle.moves.specs.Rows.{movesAt}
 use Rattle.moves.specs.Apply.{apply, at, none}
 use Rattle.moves.specs.Tree.{isRoot, rootOf, tree}
 use Rattle.moves.specs.Call.{moved, bestAt}
-use Rattle.moves.proofs.Apply.{same-xor}
 use Rattle.moves.proofs.Readers.{rootOf-root}
 use Rattle.state.specs.State.{field, stands, Ordered}
 use Rattle.state.specs.Step.{Made}
-use Rattle.state.proofs.Alike.{alike-isRoot, alike-xor}
+use Rattle.state.proofs.Alike.{alike-isRoot, alike-movesAt}
+use Rattle.state.proofs.Turned.{apply-alike}
 use Rattle.state.proofs.Stands.{stands-alike}
 use Rattle.trees.specs.Deciding.{TreeDecided}
 use Rattle.trees.proofs.Ready.{Ready, ordered-ready, stands-I}
@@ -70,13 +70,13 @@ module _ (g₀ : Graph) (sc₁ : List ℕ) (o : Ordered g₀ sc₁) (r : ℕ) (h
     stored : m ≡ field sc₁ w 4
     stored = em ∙ passed .kept .others w 4 (omega arith) (λ z. omega arith) (λ z. omega arith)
 
-    fits : m < arity (isXor k w)
+    fits : m < movesAt k (node k w)
     fits = rw stored (td .permitted w (omega (arith, low, within)) in-tree)
 
-    fits-now : m < arity (isXor g w)
+    fits-now : m < movesAt g (node g w)
     fits-now =
-        let q : isXor g w ≡ isXor k w =
-        sym (alike-xor g (stands g sc) (stands-alike g sc (passed .ordered .admitted)) w) ∙ ap (λ z. isXor z w) (passed .stands-for) ∙ same-xor k (passed .d) (ready .admitted) w in
+        let q : movesAt g (node g w) ≡ movesAt k (node k w) =
+        sym (alike-movesAt g (stands g sc) (stands-alike g sc (passed .ordered .admitted)) w) ∙ ap (λ z. movesAt z (node z w)) (passed .stands-for) ∙ alike-movesAt k (apply k (passed .d)) (apply-alike k (passed .d) (ready .admitted)) w in
         rw q fits
 
     same-I : g .I ≡ k .I
