@@ -2,6 +2,7 @@ pub mod Cases
 pub mod Finite
 pub mod Sweep
 pub mod Turn
+pub mod Alike
 pub mod Turned
 pub mod Tests
 pub mod Steps

@@ -1,18 +1,23 @@
 -- Laws of a turned table and a turned graph, and of a sweep half done. From the laws of one turned literal.
 use mathlib.Core.Path.{_≡_, refl, sym, ap, _∙_}
+use mathlib.Core.Bool.{true, false}
 use mathlib.Core.Logic.{⊎-elim, _≢_}
 use mathlib.Core.List.{List}
-use Prim.Native.Nat.{ℕ, suc, _+_, _≤_, _<_}
+use Prim.Native.Nat.{ℕ, suc, _+_, _*_, _/_, _%_, _≤_, _<_}
 use native.Mathlib.Omega.{arith}
+use borrow.Author.Tests.{ne-eqb}
+use lib.Dec.{eqb}
 use lib.Seq.{ext-getD, getD-set-same, getD-set-other}
-use lib.ListN.{length, getD, set, length-set}
+use lib.ListN.{length, getD, set, length-set, List·getD-eq-default}
+use Rattle.graph.specs.Admission.{Admitted}
 use Rattle.graph.specs.Finite.{tab, ifLess, ifEqual}
-use Rattle.graph.specs.Graph.{Graph, graphOf, turn}
-use Rattle.graph.proofs.Cases.{lt-or-le, eq-or-ne}
+use Rattle.graph.specs.Graph.{Graph, graphOf, mark, word, output, index, isEdge, turn}
+use Rattle.graph.proofs.Alike.{Alike}
+use Rattle.graph.proofs.Cases.{lt-or-le, eq-or-ne, true-or-false}
 use Rattle.graph.proofs.Finite.{length-tab, getD-tab, tab-same}
 use Rattle.graph.proofs.Tests.{less, no-less, equal, unequal}
-use Rattle.graph.proofs.Turn.{turn-zero, turn-turn}
-use Rattle.graph.specs.Turned.{turnedTable, turnedBy, only, upTo}
+use Rattle.graph.proofs.Turn.{turn-half, turn-zero, turn-turn, turn-same}
+use Rattle.graph.specs.Turned.{turnedTable, turnedBy, only, upTo, Low}
 
 pub same-graph : (i n o : ℕ) {ns ns′ os os′ : List ℕ} → ns ≡ ns′ → os ≡ os′ → graphOf i n o ns os ≡ graphOf i n o ns′ os′
 same-graph i n o p q = λ k. record { I = i; N = n; O = o; nodes = p k; outputs = q k }
@@ -62,9 +67,25 @@ module _ (l : List ℕ) where
   pub turned-by : (t : ℕ → ℕ) (m : List ℕ) → length m ≡ length l → ((j : ℕ) → j < length l → getD m j 0 ≡ turn (t j) (getD l j 0)) → m ≡ turnedTable l t
   turned-by t m e f = ext-getD 0 _ _ (e ∙ sym (turned-length t)) (λ j h. let k : j < length l = omega arith in f j k ∙ sym (turned-at t j k))
 
-  pub turned-same : (t s : ℕ → ℕ) → ((j : ℕ) → j < length l → t j ≡ s j) → turnedTable l t ≡ turnedTable l s
+  -- only the turns' parity counts
+  pub turned-even : (t s : ℕ → ℕ) → ((j : ℕ) → j < length l → t j % 2 ≡ s j % 2) → turnedTable l t ≡ turnedTable l s
   unfolding turnedTable
-  turned-same t s e = tab-same _ _ _ (λ j h. ap (λ (x : ℕ). turn x (getD l j 0)) (e j h))
+  turned-even t s e = tab-same _ _ _ (λ j h. turn-same (t j) (s j) (getD l j 0) (e j h))
+
+  pub turned-same : (t s : ℕ → ℕ) → ((j : ℕ) → j < length l → t j ≡ s j) → turnedTable l t ≡ turnedTable l s
+  turned-same t s e = turned-even t s (λ j h. ap (λ (x : ℕ). x % 2) (e j h))
+
+  pub turned-never : (t : ℕ → ℕ) → ((j : ℕ) → t j ≡ 0) → turnedTable l t ≡ l
+  turned-never t z = sym (turned-by t l refl (λ j h. rw (z j) (sym (turn-zero (getD l j 0)))))
+
+  -- at every place, where nothing is turned from place n of the table on
+  pub turned-any : (t : ℕ → ℕ) (n : ℕ) → n ≤ length l → ((j : ℕ) → n ≤ j → t j ≡ 0) → (j : ℕ) → getD (turnedTable l t) j 0 ≡ turn (t j) (getD l j 0)
+  turned-any t n b z j =
+      ⊎-elim
+      (λ (h : j < length l). turned-at t j h)
+      (λ (h : length l ≤ j).
+      List·getD-eq-default (turnedTable l t) 0 {n = j} (rw (turned-length t) h) ∙ sym (rw (List·getD-eq-default l 0 h, z j (omega arith)) (turn-zero 0)))
+      (lt-or-le j (length l))
 
 -- turns one after the other
 pub turned-turned : (l : List ℕ) (t s : ℕ → ℕ) → turnedTable (turnedTable l t) s ≡ turnedTable l (λ j. t j + s j)
@@ -72,6 +93,71 @@ turned-turned l t s =
     turned-by l (λ j. t j + s j) (turnedTable (turnedTable l t) s)
     (turned-length (turnedTable l t) s ∙ turned-length l t)
     (λ j h. turned-at (turnedTable l t) s j (rw (turned-length l t) h) ∙ ap (λ (x : ℕ). turn (s j) x) (turned-at l t j h) ∙ turn-turn (s j) (t j) (getD l j 0))
+
+-- the same of a graph
+pub by-by : (g : Graph) (t o t′ o′ : ℕ → ℕ) → turnedBy (turnedBy g t o) t′ o′ ≡ turnedBy g (λ j. t j + t′ j) (λ j. o j + o′ j)
+unfolding turnedBy
+by-by g t o t′ o′ = same-graph (g .I) (g .N) (g .O) (turned-turned (g .nodes) t t′) (turned-turned (g .outputs) o o′)
+
+pub by-same : (g : Graph) (t o t′ o′ : ℕ → ℕ) → ((j : ℕ) → t j % 2 ≡ t′ j % 2) → ((j : ℕ) → o j % 2 ≡ o′ j % 2) → turnedBy g t o ≡ turnedBy g t′ o′
+unfolding turnedBy
+by-same g t o t′ o′ p q = same-graph (g .I) (g .N) (g .O) (turned-even (g .nodes) t t′ (λ j h. p j)) (turned-even (g .outputs) o o′ (λ j h. q j))
+
+pub by-never : (g : Graph) (t o : ℕ → ℕ) → ((j : ℕ) → t j ≡ 0) → ((j : ℕ) → o j ≡ 0) → turnedBy g t o ≡ g
+unfolding turnedBy
+by-never g t o p q = same-graph (g .I) (g .N) (g .O) (turned-never (g .nodes) t p) (turned-never (g .outputs) o q)
+
+-- neither marks nor what stands past the graph are turned
+pub record Sparing (g : Graph) (t o : ℕ → ℕ) : Type 0 where
+  pub past : (j : ℕ) → 3 * g .N ≤ j → t j ≡ 0
+  pub at-mark : (j : ℕ) → isEdge g j ≡ false → t j ≡ 0
+  pub out-past : (j : ℕ) → g .O ≤ j → o j ≡ 0
+
+low-mark : (g : Graph) (adm : Admitted g) (j x : ℕ) → j < 3 * g .N → x / 2 < g .I + 1 + j / 3 → eqb x mark ≡ false
+low-mark g adm j x h b = ne-eqb x mark (omega (arith, adm .few-inputs, adm .few-nodes))
+
+-- then every word is the turned one, and the wiring is left
+module _ (g : Graph) (t o : ℕ → ℕ) (adm : Admitted g) (s : Sparing g t o) where
+  pub by-word : (j : ℕ) → word (turnedBy g t o) j ≡ turn (t j) (word g j)
+  unfolding turnedBy
+  by-word = turned-any (g .nodes) t (3 * g .N) (adm .long-nodes) (s .past)
+
+  pub by-out : (j : ℕ) → output (turnedBy g t o) j ≡ turn (o j) (output g j)
+  unfolding turnedBy
+  by-out = turned-any (g .outputs) o (g .O) (adm .long-outputs) (s .out-past)
+
+  by-wired : (j : ℕ) → word (turnedBy g t o) j / 2 ≡ word g j / 2
+  by-wired j = rw (by-word j) (turn-half _ _)
+
+  by-still : (j : ℕ) → t j ≡ 0 → word (turnedBy g t o) j ≡ word g j
+  by-still j e = rw (by-word j, e) (turn-zero _)
+
+  by-marked : (j : ℕ) → eqb (word (turnedBy g t o) j) mark ≡ eqb (word g j) mark
+  by-marked j =
+      ⊎-elim
+      (λ (h : j < 3 * g .N).
+      ⊎-elim
+      (λ (e : isEdge g j ≡ true).
+      let b = adm .below j h e in
+      low-mark g adm j (word (turnedBy g t o) j) h (rw (by-wired j) b) ∙ sym (low-mark g adm j (word g j) h b))
+      (λ (e : isEdge g j ≡ false). rw (by-still j (s .at-mark j e)))
+      (true-or-false (isEdge g j)))
+      (λ (h : 3 * g .N ≤ j). rw (by-still j (s .past j h)))
+      (lt-or-le j (3 * g .N))
+
+  pub by-alike : Alike g (turnedBy g t o)
+  unfolding turnedBy
+  by-alike =
+      record {
+        same-I = refl;
+        same-N = refl;
+        same-O = refl;
+        same-nodes = turned-length (g .nodes) t;
+        same-outputs = turned-length (g .outputs) o;
+        wired = by-wired;
+        out-wired = λ j. rw (by-out j) (turn-half _ _);
+        marked = by-marked;
+      }
 
 -- a sweep: the words of l below j are turned, each as often as a function of its place and the word says
 abbrev pub SweptTo : (ℕ → ℕ → ℕ) → List ℕ → ℕ → List ℕ → Type 0
@@ -91,6 +177,14 @@ module _ (τ : ℕ → ℕ → ℕ) (l : List ℕ) where
   swept-left j m e h =
       ap (λ (r : List ℕ). getD r j 0) e ∙ turned-at l (upTo j often) j h
       ∙ rw (upTo-past j often j (omega arith)) (turn-zero (getD l j 0))
+
+  -- what turning the word at place j asks
+  pub swept-turn : (n j x t : ℕ) (m : List ℕ) → j < n → n ≤ length l → Low τ n l → SweptTo τ l j m → x ≡ getD m j 0 → t ≡ τ j x → t ≤ 2
+      → (t ≤ 2) × (j < length m) × ((0 < t) → index (getD m j 0) < 2147483647)
+  swept-turn n j x t m h b low e r q two =
+      let k : j < length l = omega arith in
+      let w = swept-left j m e k in
+      (two, omega (arith, swept-length j m e), (λ p. rw w (low j h (rw (q, r, w) at p))))
 
   -- what the leaves say of place j: the sweep is one place further
   pub swept-next : (j x t : ℕ) (m k : List ℕ) → j < length l → SweptTo τ l j m → x ≡ getD m j 0 → t ≡ τ j x → k ≡ turnedTable m (only j t) → SweptTo τ l (j + 1) k
