@@ -89,8 +89,8 @@ module _ (g : Graph) (d : Choice) where
 
         go : (b : Bool) → eqb (j % 3) 2 && eqb (word g j) mark ≡ b → cond b 0 (adds y) ≡ cond (not b) (plain (word g j / 2) (word g j + own g d j)) 0
         go true e = refl
-        go false e = rw (node-at g d (adm .long-nodes) j, turns-edge g d j h (ap not e)) (adds-turn (word g j) _ (word g j + own g d j) (omega arith))
+        go false e = rw (node-at g d adm j, turns-edge g d j h (ap not e)) (adds-turn (word g j) _ (word g j + own g d j) (omega arith))
 
     pub out-adds : (j : ℕ) → j < g .O → outputAdds (apply g d) j ≡ plain (output g j / 2) (output g j)
     unfolding outputAdds
-    out-adds j h = rw (out-at g d (adm .long-outputs) j, outputTurns-at g d j h) (adds-turn (output g j) _ (output g j) refl)
+    out-adds j h = rw (out-at g d adm j, outputTurns-at g d j h) (adds-turn (output g j) _ (output g j) refl)

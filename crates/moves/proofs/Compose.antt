@@ -1,22 +1,21 @@
 -- Two choices one after the other.
-use mathlib.Core.Path.{_≡_, refl, sym, ap, _∙_}
-use mathlib.Core.Bool.{Bool, true, false, cond}
+use mathlib.Core.Path.{_≡_, sym, ap, _∙_}
+use mathlib.Core.Bool.{true, false}
 use mathlib.Core.Logic.{⊎-elim}
-use mathlib.Core.List.{List}
-use Prim.Native.Nat.{ℕ, zero, suc, _+_, _-_, _*_, _/_, _%_, _≤_, _<_}
+use Prim.Native.Nat.{ℕ, _+_, _-_, _*_, _/_, _%_, _≤_, _<_}
 use native.Mathlib.Omega.{arith}
 use borrow.Author.Tests.{lt-ltb, le-ltb}
-use lib.Dec.{ltb, eqb}
-use lib.Seq.{ext-getD}
-use lib.ListN.{length, getD}
+use lib.ListN.{getD}
 use Rattle.graph.specs.Admission.{Admitted}
-use Rattle.graph.specs.Graph.{Graph, turn, isEdge, isXor}
+use Rattle.graph.specs.Graph.{Graph, isEdge, isXor}
+use Rattle.graph.specs.Turned.{turnedBy}
 use Rattle.moves.specs.Apply.{Choice, apply, turns, outputTurns, own, seen, compose, Permitted}
 use Rattle.moves.specs.Rows.{flag, combined}
-use Rattle.graph.proofs.Cases.{lt-or-le, true-or-false, cond-same}
-use Rattle.graph.proofs.Turn.{turn-half, turn-zero, turn-turn, turn-same}
 use Rattle.moves.proofs.Moves.{node-row}
-use Rattle.moves.proofs.Apply.{length-nodes, length-outputs, node-at, out-at, wiring, out-wiring, same-xor, same-edge, admitted, turns-past, turns-mark, turns-edge, outputTurns-past, outputTurns-at}
+use Rattle.graph.proofs.Cases.{lt-or-le, true-or-false}
+pub use Rattle.graph.proofs.Turned.{same-graph}
+use Rattle.graph.proofs.Turned.{by-by, by-same}
+use Rattle.moves.proofs.Apply.{apply-alike, same-xor, same-edge, turns-past, turns-mark, turns-edge, outputTurns-past, outputTurns-at}
 use Rattle.moves.proofs.Flags.{flag-both}
 
 module _ (g : Graph) (m : Choice) where
@@ -50,27 +49,24 @@ by-index g P other node u =
 
 -- moves leave kinds and wiring, so turns too
 module _ (g : Graph) (m : Choice) (adm : Admitted g) (n : Choice) where
-  pub same-seen : (u : ℕ) → seen (apply g m) n u ≡ seen g n u
-  unfolding seen apply
+  same-seen : (u : ℕ) → seen (apply g m) n u ≡ seen g n u
+  unfolding seen apply turnedBy
   same-seen u = rw (same-xor g m adm)
 
-  pub same-own : (j : ℕ) → own (apply g m) n j ≡ own g n j
-  unfolding own apply
+  same-own : (j : ℕ) → own (apply g m) n j ≡ own g n j
+  unfolding own apply turnedBy
   same-own j = rw (same-xor g m adm)
 
-  pub same-turns : (j : ℕ) → turns (apply g m) n j ≡ turns g n j
-  unfolding turns apply
-  same-turns j = rw (same-edge g m adm j, wiring g m adm j, same-own j, same-seen)
+  same-turns : (j : ℕ) → turns (apply g m) n j ≡ turns g n j
+  unfolding turns apply turnedBy
+  same-turns j = rw (same-edge g m adm j, apply-alike g m adm .wired j, same-own j, same-seen)
 
-  pub same-outTurns : (j : ℕ) → outputTurns (apply g m) n j ≡ outputTurns g n j
-  unfolding outputTurns apply
-  same-outTurns j = rw (out-wiring g m adm j, same-seen)
+  same-outTurns : (j : ℕ) → outputTurns (apply g m) n j ≡ outputTurns g n j
+  unfolding outputTurns apply turnedBy
+  same-outTurns j = rw (apply-alike g m adm .out-wired j, same-seen)
 
 parity : (a b c d : ℕ) → ((a + b) % 2 + (c + d) % 2) % 2 ≡ (a + c + (b + d)) % 2
 parity a b c d = omega arith
-
-pub same-graph : (i n o : ℕ) {ns ns′ os os′ : List ℕ} → ns ≡ ns′ → os ≡ os′ → _≡_ {A = Graph} (record { I = i; N = n; O = o; nodes = ns; outputs = os }) (record { I = i; N = n; O = o; nodes = ns′; outputs = os′ })
-same-graph i n o p q = λ k. record { I = i; N = n; O = o; nodes = p k; outputs = q k }
 
 module _ (g : Graph) (m n : Choice) where
   join-at : (v : ℕ) → compose g m n (g .I + 1 + v) ≡ combined (isXor g v) (m (g .I + 1 + v)) (n (g .I + 1 + v))
@@ -109,20 +105,10 @@ module _ (g : Graph) (m n : Choice) (vm : Permitted g m) (vn : Permitted g n) wh
       (λ (h : g .O ≤ j). rw (outputTurns-past g m j h, outputTurns-past g n j h, outputTurns-past g (compose g m n) j h))
       (lt-or-le j (g .O))
 
-  module _ (adm : Admitted g) where
-    pub compose-node : (j : ℕ) → getD (apply (apply g m) n .nodes) j 0 ≡ getD (apply g (compose g m n) .nodes) j 0
-    compose-node j =
-        rw (node-at (apply g m) n (admitted g m adm .long-nodes) j, node-at g m (adm .long-nodes) j, node-at g (compose g m n) (adm .long-nodes) j, same-turns g m adm n j, turn-turn)
-        (turn-same _ _ _ (sym (turns-join j)))
-
-    pub compose-out : (j : ℕ) → getD (apply (apply g m) n .outputs) j 0 ≡ getD (apply g (compose g m n) .outputs) j 0
-    compose-out j =
-        rw (out-at (apply g m) n (admitted g m adm .long-outputs) j, out-at g m (adm .long-outputs) j, out-at g (compose g m n) (adm .long-outputs) j, same-outTurns g m adm n j, turn-turn)
-        (turn-same _ _ _ (sym (outputTurns-join j)))
-
-    pub apply-apply : apply (apply g m) n ≡ apply g (compose g m n)
-    unfolding apply
-    apply-apply =
-        same-graph (g .I) (g .N) (g .O)
-        (ext-getD 0 _ _ (length-nodes (apply g m) n ∙ length-nodes g m ∙ sym (length-nodes g (compose g m n))) (λ j h. compose-node j))
-        (ext-getD 0 _ _ (length-outputs (apply g m) n ∙ length-outputs g m ∙ sym (length-outputs g (compose g m n))) (λ j h. compose-out j))
+  pub apply-apply : Admitted g → apply (apply g m) n ≡ apply g (compose g m n)
+  unfolding apply
+  apply-apply adm =
+      by-same (apply g m) (turns (apply g m) n) (outputTurns (apply g m) n) (turns g n) (outputTurns g n)
+      (λ j. ap (λ x. x % 2) (same-turns g m adm n j)) (λ j. ap (λ x. x % 2) (same-outTurns g m adm n j))
+      ∙ by-by g (turns g m) (outputTurns g m) (turns g n) (outputTurns g n)
+      ∙ by-same g _ _ _ _ (λ j. sym (turns-join j)) (λ j. sym (outputTurns-join j))

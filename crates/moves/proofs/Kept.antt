@@ -1,36 +1,26 @@
 -- What rewriting keeps: an admitted graph stays one, with its wiring and the value of every output, and C falls by the saving.
 -- The best list of moves is least; where it saves nothing, nothing changes. From the laws of `apply`, of values and of `best`.
-use mathlib.Core.Path.{_≡_, refl, sym, ap, _∙_}
-use mathlib.Core.Bool.{Bool, true, false, cond}
+use mathlib.Core.Path.{_≡_, refl, ap, _∙_}
 use mathlib.Core.List.{List, [], _∷_, map}
 use mathlib.Core.Logic.{⊎-elim, _≢_}
-use Prim.Native.Nat.{ℕ, zero, suc, _+_, _-_, _*_, _/_, _≤_, _<_}
+use Prim.Native.Nat.{ℕ, _+_, _-_, _/_, _≤_, _<_}
 use native.Mathlib.Omega.{arith}
-use lib.Seq.{ext-getD}
-use lib.ListN.{length, getD}
-use Rattle.graph.specs.Finite.{tab}
-use Rattle.graph.specs.Graph.{Graph, Wiring, node, word, output, isXor, isEdge, index, mark, turn, wire, outputWire, wiring}
+use Rattle.graph.specs.Graph.{Graph, node, word, output, wiring}
 use Rattle.graph.specs.Value.{Assignment, outputValue}
 use Rattle.graph.specs.Count.{C}
 use Rattle.graph.specs.Admission.{Admitted}
-use Rattle.graph.specs.Answer.{Answer, Outcome}
-use Rattle.graph.proofs.Cases.{lt-or-le, eq-or-ne, true-or-false}
-use Rattle.graph.proofs.Finite.{tab-same}
-use Rattle.graph.proofs.Turn.{turn-zero}
+use Rattle.graph.proofs.Cases.{eq-or-ne, cond-same}
+use Rattle.graph.proofs.Alike.{alike-wiring}
+use Rattle.graph.proofs.Turned.{by-never}
 use Rattle.choice.specs.Choice.{best, Fits, zeros}
 use Rattle.choice.proofs.Best.{best-is, best-zeros}
 use Rattle.moves.specs.Rows.{movesAt}
 use Rattle.moves.specs.Apply.{Choice, none, at, put, Permitted, turns, outputTurns, apply}
 use Rattle.moves.specs.Call.{moved, movedC, bestAt, rewrite}
 use Rattle.moves.proofs.Apply as applied
-use Rattle.moves.proofs.Compose.{same-graph}
 use Rattle.moves.proofs.Changed.{at-same, at-other, seen-none, own-none}
 use Rattle.moves.proofs.Values.{out-kept}
 use Rattle.moves.proofs.Moves.{movesAt-fit}
-
-same-wiring : (i n o : ℕ) {ns ns′ os os′ : List ℕ} → ns ≡ ns′ → os ≡ os′
-    → _≡_ {A = Wiring} (record { I = i; N = n; O = o; nodes = ns; outputs = os }) (record { I = i; N = n; O = o; nodes = ns′; outputs = os′ })
-same-wiring i n o p q = λ k. record { I = i; N = n; O = o; nodes = p k; outputs = q k }
 
 -- h comes from g by moves that save so much
 pub record Kept (g h : Graph) (saved : ℕ) : Type 0 where
@@ -59,28 +49,15 @@ kept-then g h k s t p q =
     }
 
 module _ (g : Graph) (m : Choice) (adm : Admitted g) where
-  wire-kept : (j : ℕ) → wire (apply g m) j ≡ wire g j
-  unfolding wire
-  wire-kept j = rw (applied.same-edge g m adm j, applied.wiring g m adm j)
-
-  outputWire-kept : (j : ℕ) → outputWire (apply g m) j ≡ outputWire g j
-  unfolding outputWire
-  outputWire-kept j = applied.out-wiring g m adm j
-
-  pub wiring-kept : wiring (apply g m) ≡ wiring g
-  unfolding wiring apply
-  wiring-kept =
-      same-wiring (g .I) (g .N) (g .O) (tab-same (3 * g .N) _ _ (λ j h. wire-kept j)) (tab-same (g .O) _ _ (λ j h. outputWire-kept j))
-
   pub apply-kept : C (apply g m) ≤ C g → Kept g (apply g m) (C g - C (apply g m))
-  unfolding apply
   apply-kept h =
+      let a = applied.apply-alike g m adm in
       record {
         admitted = applied.admitted g m adm;
-        same-I = refl;
-        same-N = refl;
-        same-O = refl;
-        wired = wiring-kept;
+        same-I = a .same-I;
+        same-N = a .same-N;
+        same-O = a .same-O;
+        wired = alike-wiring g (apply g m) a;
         outputs = λ a j l. out-kept g m adm a j l;
         count = omega arith;
       }
@@ -88,30 +65,16 @@ module _ (g : Graph) (m : Choice) (adm : Admitted g) where
 -- a choice that moves nothing changes nothing
 module _ (g : Graph) (m : Choice) (adm : Admitted g) (idle : (u : ℕ) → m u ≡ 0) where
   turns-idle : (j : ℕ) → turns g m j ≡ 0
-  turns-idle j =
-      ⊎-elim
-      (λ (h : j < 3 * g .N).
-      ⊎-elim
-      (λ (e : isEdge g j ≡ true).
-      applied.turns-edge g m j h e ∙ omega (arith, own-none g m j (idle (node g (j / 3))), seen-none g m (word g j / 2) (idle (word g j / 2))))
-      (λ (e : isEdge g j ≡ false). applied.turns-mark g m j e)
-      (true-or-false (isEdge g j)))
-      (λ (h : 3 * g .N ≤ j). applied.turns-past g m j h)
-      (lt-or-le j (3 * g .N))
+  unfolding turns
+  turns-idle j = rw (own-none g m j (idle (node g (j / 3))), seen-none g m (word g j / 2) (idle (word g j / 2)), cond-same, cond-same)
 
   outputTurns-idle : (j : ℕ) → outputTurns g m j ≡ 0
-  outputTurns-idle j =
-      ⊎-elim
-      (λ (h : j < g .O). applied.outputTurns-at g m j h ∙ seen-none g m (output g j / 2) (idle (output g j / 2)))
-      (λ (h : g .O ≤ j). applied.outputTurns-past g m j h)
-      (lt-or-le j (g .O))
+  unfolding outputTurns
+  outputTurns-idle j = rw (seen-none g m (output g j / 2) (idle (output g j / 2)), cond-same)
 
   pub apply-idle : apply g m ≡ g
   unfolding apply
-  apply-idle =
-      same-graph (g .I) (g .N) (g .O)
-      (ext-getD 0 _ _ (applied.length-nodes g m) (λ j h. applied.node-at g m (adm .long-nodes) j ∙ rw (turns-idle j) (turn-zero _)))
-      (ext-getD 0 _ _ (applied.length-outputs g m) (λ j h. applied.out-at g m (adm .long-outputs) j ∙ rw (outputTurns-idle j) (turn-zero _)))
+  apply-idle = by-never g (turns g m) (outputTurns g m) turns-idle outputTurns-idle
 
 put-zeros : (ns us : List ℕ) (d : Choice) → ((u : ℕ) → d u ≡ 0) → (u : ℕ) → put d us (zeros ns) u ≡ 0
 unfolding put

@@ -11,6 +11,7 @@ use Rattle.graph.specs.Admission.{Admitted}
 use Rattle.graph.specs.Count.{nodeAdds, outputAdds, C, named}
 use Rattle.graph.specs.Finite.{sum}
 use Rattle.graph.specs.Graph.{Graph, isEdge, isXor, node, word, output}
+use Rattle.graph.specs.Turned.{turnedBy}
 use Rattle.moves.specs.Apply.{Choice, own, seen, apply, at}
 use Rattle.moves.specs.Cost.{inner, edgeCost, turnedCost, wordCost, ownCost, moveCost, shows}
 use Rattle.moves.specs.Rows.{flag}
@@ -88,7 +89,7 @@ module _ (g : Graph) (c : ℕ → ℕ → ℕ) (r : ℕ) (adm : Admitted g) wher
       (sym (node-adds g d adm j h))
 
   pub Φ-zero : (d : Choice) → Φ g c r 0 d ≡ C (apply g d)
-  unfolding Φ C apply
+  unfolding Φ C apply turnedBy
   Φ-zero d = ap (λ x. x + sum (g .O) (outputAdds (apply g d))) (sum-same (3 * g .N) _ _ (term-zero d))
 
   -- a node outside the tree

@@ -13,6 +13,7 @@ use Rattle.graph.specs.Admission.{Admitted}
 use Rattle.graph.specs.Count.{nodeAdds, outputAdds, C, named, outputNamed, readers}
 use Rattle.graph.specs.Finite.{sum, ifEqual}
 use Rattle.graph.specs.Graph.{Graph, isEdge, isXor, node, word, output}
+use Rattle.graph.specs.Turned.{turnedBy}
 use Rattle.moves.specs.Apply.{Choice, own, apply, at}
 use Rattle.moves.specs.Cost.{shown}
 use Rattle.moves.specs.Decide.{costBy, costWith}
@@ -139,7 +140,7 @@ module _ (g : Graph) (adm : Admitted g) (d : Choice) (v : ℕ) (h : v < g .N) (q
   at-flag i f p l m e = rw e (at-bit i f l m)
 
   pub cost-step : C (apply g (at d (node g v) k)) ≡ costWith (isXor g v) (costsAfter g d v) (readers g (node g v)) (shown g (node g v) 0) k + restOf g d v
-  unfolding C costWith costBy restOf shown apply read outputRead
+  unfolding C costWith costBy restOf shown apply turnedBy read outputRead
   cost-step =
       let x : Bool = isXor g v in
       let w = sum-but-node (3 * g .N) (λ j. read j + fixed g d v j) (nodeAdds (apply g (at d (node g v) k))) v (omega arith) (λ j l p. apart j l p) in

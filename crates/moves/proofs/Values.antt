@@ -8,19 +8,20 @@ use Prim.Native.Nat.{ℕ, zero, suc, _+_, _-_, _*_, _/_, _%_, _≤_, _<_}
 use native.Mathlib.Omega.{arith}
 use native.Mathlib.Nat.{eq-or-lt-of-le, le-of-suc-le-suc, not-suc-le-zero, mod-add-mod, add-mod-mod}
 use lib.Dec.{ltb, eqb, eqb→eq}
-use borrow.Author.Tests.{ne-eqb}
 use lib.Seq.{getD-at}
 use lib.ListN.{length, getD, length-append, List·getD-append, List·getD-eq-default}
 use Rattle.graph.specs.Admission.{Admitted}
 use Rattle.graph.specs.Graph.{Graph, turn, isEdge, isXor, mark}
+use Rattle.graph.specs.Turned.{turnedBy}
 use Rattle.graph.specs.Value.{exclusive, majority, literalValue, nodeValue, values, value, outputValue}
 use Rattle.moves.specs.Apply.{Choice, apply, turns, outputTurns, own, seen}
 use Rattle.graph.proofs.Values.{literal-bit, length-values, values-old, values-new, input-bit}
 use Rattle.moves.specs.Rows.{flag}
-use Rattle.graph.proofs.Cases.{lt-or-le, true-or-false, cond-same}
-use Rattle.graph.proofs.Finite.{length-tab, getD-tab}
+use Rattle.graph.proofs.Cases.{lt-or-le, true-or-false}
+use Rattle.graph.proofs.Edge.{edge-early}
 use Rattle.graph.proofs.Turn.{turn-half, turn-bit}
-use Rattle.moves.proofs.Apply.{node-at, out-at, wiring, out-wiring, same-xor, turns-edge, outputTurns-at}
+use Rattle.moves.proofs.Apply.{node-at, out-at, same-xor, turns-edge, outputTurns-at}
+use Rattle.moves.proofs.Changed.{own-at}
 use Rattle.moves.proofs.Compose.{seen-node, seen-low, seen-high}
 use Rattle.moves.proofs.Flags.{flag-maj, flag-xor, all3-at}
 
@@ -42,21 +43,9 @@ pub lit-turn : (vs ws : List ℕ) (x t s o : ℕ) → getD ws (x / 2) 0 ≡ (get
 unfolding literalValue
 lit-turn vs ws x t s o e q = rw (turn-half t x, e, q) (simp (mod-add-mod, add-mod-mod, turn-bit) (omega arith))
 
-module _ (g : Graph) where
-  edge-first : (j : ℕ) → j % 3 < 2 → isEdge g j ≡ true
-  unfolding isEdge
-  edge-first j h = rw (ne-eqb (j % 3) 2 (omega arith))
-
-  edge-third : (v : ℕ) → isXor g v ≡ false → isEdge g (3 * v + 2) ≡ true
-  unfolding isEdge isXor
-  edge-third v e = rw (e, and-false)
-
-  own-at : (m : Choice) (v k : ℕ) → k < 3 → own g m (3 * v + k) ≡ flag (isXor g v) (m (g .I + 1 + v)) k
-  unfolding own
-  own-at m v k h =
-      let d : (3 * v + k) / 3 ≡ v = omega arith in
-      let r : (3 * v + k) % 3 ≡ k = omega arith in
-      rw (d, r)
+edge-third : (g : Graph) (v : ℕ) → isXor g v ≡ false → isEdge g (3 * v + 2) ≡ true
+unfolding isEdge isXor
+edge-third g v e = rw (e, and-false)
 
 module _ (g : Graph) (m : Choice) (adm : Admitted g) where
   module _ (vs ws : List ℕ) (v : ℕ) (h : v < g .N) (ih : (i : ℕ) → i < g .I + 1 + v → getD ws i 0 ≡ (getD vs i 0 + seen g m i) % 2) where
@@ -65,14 +54,14 @@ module _ (g : Graph) (m : Choice) (adm : Admitted g) where
     lit-at k l e =
         let x : ℕ = getD (g .nodes) (3 * v + k) 0 in
         let b : x / 2 < g .I + 1 + v = omega (arith, adm .below (3 * v + k) (omega arith) e) in
-        rw (node-at g m (adm .long-nodes) (3 * v + k))
+        rw (node-at g m adm (3 * v + k))
         (lit-turn vs ws x _ (seen g m (x / 2)) _ (ih (x / 2) b) (turns-edge g m (3 * v + k) (omega arith) e ∙ ap (λ z. z + seen g m (x / 2)) (own-at g m v k l)))
 
     node-turn : nodeValue (apply g m) ws v ≡ (nodeValue g vs v + seen g m (g .I + 1 + v)) % 2
     unfolding nodeValue exclusive
     node-turn =
-        let e₀ : isEdge g (3 * v + 0) ≡ true = edge-first g (3 * v + 0) (omega arith) in
-        let e₁ : isEdge g (3 * v + 1) ≡ true = edge-first g (3 * v + 1) (omega arith) in
+        let e₀ : isEdge g (3 * v + 0) ≡ true = edge-early g (3 * v + 0) (λ z. omega arith) in
+        let e₁ : isEdge g (3 * v + 1) ≡ true = edge-early g (3 * v + 1) (λ z. omega arith) in
         let r = flag-maj (m (g .I + 1 + v)) in
         ⊎-elim
         (λ (e : isXor g v ≡ true). rw (lit-at 0 (omega arith) e₀, lit-at 1 (omega arith) e₁, same-xor g m adm v, seen-node g m v h, e) (xor-turn _ _ _ _ _ (flag-xor _)))
@@ -83,11 +72,11 @@ module _ (g : Graph) (m : Choice) (adm : Admitted g) where
 
   module _ (a : ℕ → ℕ) where
     same-inputs : values (apply g m) a 0 ≡ values g a 0
-    unfolding values apply
+    unfolding values apply turnedBy
     same-inputs = refl
 
     pub values-turn : (n : ℕ) → n ≤ g .N → (i : ℕ) → i < g .I + 1 + n → getD (values (apply g m) a n) i 0 ≡ (getD (values g a n) i 0 + seen g m i) % 2
-    unfolding apply
+    unfolding apply turnedBy
     values-turn zero l i h = rw (seen-low g m i (omega arith), same-inputs) (omega (arith, input-bit g a i (omega arith)))
     values-turn (suc n) l i h =
         let ih = values-turn n (omega arith) in
@@ -98,12 +87,12 @@ module _ (g : Graph) (m : Choice) (adm : Admitted g) where
         (eq-or-lt-of-le (le-of-suc-le-suc h′))
 
     pub value-turn : (i : ℕ) → i < g .I + 1 + g .N → value (apply g m) a i ≡ (value g a i + seen g m i) % 2
-    unfolding value apply
+    unfolding value apply turnedBy
     value-turn i h = values-turn (g .N) (omega arith) i h
 
     -- past the last node both are 0
     pub value-turn-all : (i : ℕ) → value (apply g m) a i ≡ (value g a i + seen g m i) % 2
-    unfolding value apply
+    unfolding value apply turnedBy
     value-turn-all i =
         ⊎-elim
         (λ (h : i < g .I + 1 + g .N). values-turn (g .N) (omega arith) i h)
@@ -112,10 +101,10 @@ module _ (g : Graph) (m : Choice) (adm : Admitted g) where
         (lt-or-le i (g .I + 1 + g .N))
 
     pub out-kept : (j : ℕ) → j < g .O → outputValue (apply g m) a j ≡ outputValue g a j
-    unfolding outputValue apply
+    unfolding outputValue apply turnedBy
     out-kept j h =
         let x : ℕ = getD (g .outputs) j 0 in
-        rw (out-at g m (adm .long-outputs) j)
+        rw (out-at g m adm j)
         (lit-turn (values g a (g .N)) _ x _ (seen g m (x / 2)) 0
         (values-turn (g .N) (omega arith) (x / 2) (adm .output-below j h))
         (omega (arith, outputTurns-at g m j h)) ∙ omega (arith, literal-bit (values g a (g .N)) x))

@@ -3,9 +3,8 @@ use mathlib.Core.Bool.{Bool, cond, _&&_}
 use mathlib.Core.List.{List, [], _∷_}
 use Prim.Native.Nat.{ℕ, _+_, _-_, _*_, _/_, _%_, _<_}
 use lib.Dec.{ltb, eqb}
-use lib.ListN.{length}
-use Rattle.graph.specs.Finite.{tab}
-use Rattle.graph.specs.Graph.{Graph, node, word, output, index, turn, isXor, isEdge}
+use Rattle.graph.specs.Graph.{Graph, node, word, output, index, isXor, isEdge}
+use Rattle.graph.specs.Turned.{turnedBy}
 use Rattle.moves.specs.Rows.{flag, movesAt, combined}
 
 -- a choice gives each node, by index, a move number; a node that is not concerned has move 0
@@ -46,14 +45,7 @@ unfoldable pub outputTurns : Graph → Choice → ℕ → ℕ
 outputTurns g m j = cond (ltb j (g .O)) (seen g m (index (output g j))) 0
 
 unfoldable pub apply : Graph → Choice → Graph
-apply g m =
-    record {
-      I = g .I;
-      N = g .N;
-      O = g .O;
-      nodes = tab (length (g .nodes)) (λ j. turn (turns g m j) (word g j));
-      outputs = tab (length (g .outputs)) (λ j. turn (outputTurns g m j) (output g j));
-    }
+apply g m = turnedBy g (turns g m) (outputTurns g m)
 
 -- two choices, made one after the other, are one choice
 unfoldable pub compose : Graph → Choice → Choice → Choice

@@ -10,6 +10,7 @@ use lib.Dec.{eqb, ltb}
 use lib.ListN.{getD}
 use Rattle.graph.specs.Finite.{ifEqual}
 use Rattle.graph.specs.Graph.{Graph, graphOf, mark, node, word, output, turn, isEdge, isXor}
+use Rattle.graph.specs.Turned.{turnedBy, turnedTable}
 use Rattle.graph.proofs.Cases.{eq-or-ne}
 use Rattle.graph.proofs.Finite.{tab-same}
 use Rattle.moves.specs.Apply.{Choice, none, at, own, seen, turns, outputTurns, apply}
@@ -106,7 +107,7 @@ module _ (g : Graph) (p k v m : ℕ) (hp : p < g .N) (hv : v < g .N) where
   -- both tables are those after the choice
   pub both-written : (ns os : List ℕ) → ns ≡ nodesAfter (g .I) (g .N) earlier later (g .nodes) → os ≡ outputsAfter (g .O) earlier later (g .outputs)
       → graphOf (g .I) (g .N) (g .O) ns os ≡ apply g two
-  unfolding apply nodesAfter outputsAfter
+  unfolding apply turnedBy turnedTable nodesAfter outputsAfter
   both-written ns os e f =
       same-graph (g .I) (g .N) (g .O)
       (e ∙ tab-same _ _ _ (λ j h. ap (λ (t : ℕ). turn t (word g j)) (sym (turns-are j))))

@@ -14,6 +14,7 @@ use Rattle.graph.specs.Admission.{Admitted}
 use Rattle.graph.specs.Count.{named, outputNamed}
 use Rattle.graph.specs.Finite.{tab}
 use Rattle.graph.specs.Graph.{Graph, mark, word, output, isEdge, turn}
+use Rattle.graph.specs.Turned as turned
 use Rattle.graph.proofs.Cases.{lt-or-le, eq-or-ne, true-or-false, cond-same}
 use Rattle.graph.proofs.Finite.{length-tab, getD-tab, getD-tab-past, tab-same}
 use Rattle.graph.proofs.Turn.{turn-half, turn-zero, turn-turn, turn-same}
@@ -118,7 +119,7 @@ by-same g t o t′ o′ p q =
 
 -- a choice of moves
 pub apply-by : (g : Graph) (m : Choice) → apply g m ≡ turnedBy g (turns g m) (outputTurns g m)
-unfolding turnedBy apply
+unfolding turnedBy apply turned.turnedBy turned.turnedTable
 apply-by g m = refl
 
 -- what is pending

@@ -6,6 +6,7 @@ use mathlib.Core.Logic.{_≢_}
 use Prim.Native.Nat.{ℕ, suc, _+_, _≤_, _<_}
 use lib.ListN.{length}
 use Rattle.graph.specs.Graph.{Graph, graphOf, mark, node}
+use Rattle.graph.specs.Turned.{turnedBy}
 use Rattle.graph.specs.Count.{C}
 use Rattle.moves.specs.Rows.{movesAt}
 use Rattle.moves.specs.Apply.{apply, at, none}
@@ -80,7 +81,7 @@ module _ (g₀ : Graph) (sc₁ : List ℕ) (o : Ordered g₀ sc₁) (r : ℕ) (h
         rw q fits
 
     same-I : g .I ≡ k .I
-    unfolding apply
+    unfolding apply turnedBy
     same-I = sym (stands-I g sc) ∙ ap (λ x. x .I) (passed .stands-for)
 
     again : (g′ : Graph) (sc′ : List ℕ) (c x : ℕ) → Made sc g′ sc′ (apply (stands g sc) (at none (g .I + 1 + w) m)) c → length (g′ .nodes) ≡ length (g .nodes) → x ≡ field sc′ w 5
