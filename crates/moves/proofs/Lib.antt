@@ -21,4 +21,3 @@ pub mod Tally
 pub mod Step
 pub mod NodeBest
 pub mod NodeCosts
-pub mod Sweeping

@@ -1,24 +1,25 @@
 -- Two moves by their flags: bounds, and that they are the choice of both moves. From the laws of a changed move.
-use mathlib.Core.Path.{_≡_, refl, sym, ap, _∙_}
+use mathlib.Core.Path.{_≡_, refl, sym, _∙_}
 use mathlib.Core.Bool.{Bool, true, false, not, cond, _&&_}
 use mathlib.Core.List.{List}
 use mathlib.Core.Logic.{⊎-elim, _≢_}
 use Prim.Native.Nat.{ℕ, zero, suc, _+_, _*_, _/_, _%_, _<_}
 use native.Mathlib.Omega.{arith}
 use borrow.Author.Tests.{eq-eqb, ne-eqb}
-use lib.Dec.{eqb, ltb}
+use lib.Dec.{eqb}
 use lib.ListN.{getD}
-use Rattle.graph.specs.Finite.{ifEqual}
-use Rattle.graph.specs.Graph.{Graph, graphOf, mark, node, word, output, turn, isEdge, isXor}
-use Rattle.graph.specs.Turned.{turnedBy, turnedTable}
+use Rattle.graph.specs.Admission.{Admitted}
+use Rattle.graph.specs.Finite.{ifEqual, ifLess}
+use Rattle.graph.specs.Graph.{Graph, graphOf, mark, node, word, output, isEdge, isXor}
+use Rattle.graph.specs.Turned.{upTo, Low}
 use Rattle.graph.proofs.Cases.{eq-or-ne}
-use Rattle.graph.proofs.Finite.{tab-same}
+use Rattle.graph.proofs.Turned.{turned-both, turned-same}
 use Rattle.moves.specs.Apply.{Choice, none, at, own, seen, turns, outputTurns, apply}
 use Rattle.moves.specs.Rows.{flag}
 use Rattle.moves.proofs.Changed.{at-same, seen-other, own-other, seen-none, own-none}
-use Rattle.moves.proofs.Compose.{seen-node, same-graph}
+use Rattle.moves.proofs.Compose.{seen-node}
 use Rattle.moves.proofs.Flags.{flag-bit}
-use Rattle.node_call.specs.Write.{moveWith, Bits, flagAt, wordTurns, nodesAfter, outputsAfter}
+use Rattle.node_call.specs.Write.{moveWith, Bits, flagAt, wordTurns, readTurns, nodesAfter, outputsAfter}
 use Rattle.node_call.specs.declared.write.NodeMove.{NodeMove}
 
 pub with-bits : (x : Bool) (u m : ℕ) → Bits (moveWith x u m)
@@ -51,6 +52,19 @@ module _ (i : ℕ) (a b : NodeMove) (j x : ℕ) where
   pub turns-mark : (t : Bool) → t ≡ not (eqb (j % 3) 2 && eqb x mark) → t ≡ false → 0 ≡ wordTurns i a b j x
   unfolding wordTurns
   turns-mark t e q = rw (sym e ∙ q)
+
+-- what is turned in an admitted graph names an index below the mark's
+module _ (g : Graph) (a b : NodeMove) (adm : Admitted g) where
+  pub words-low : Low (wordTurns (g .I) a b) (3 * g .N) (g .nodes)
+  unfolding wordTurns isEdge
+  words-low j h p = omega (arith, adm .few-inputs, adm .few-nodes, adm .below j h (edge (isEdge g j) _ p))
+    where
+      edge : (t : Bool) (y : ℕ) → 0 < cond t y 0 → t ≡ true
+      edge true y h = refl
+      edge false y h = absurd (omega arith)
+
+  pub outputs-low : Low (readTurns a b) (g .O) (g .outputs)
+  outputs-low j h p = omega (arith, adm .few-inputs, adm .few-nodes, adm .output-below j h)
 
 at-node : (g : Graph) (d : Choice) (w n j : ℕ) → node g (j / 3) ≡ node g w → d (node g w) ≡ n → own g d j ≡ flag (isXor g w) n (j % 3)
 unfolding own
@@ -96,19 +110,19 @@ module _ (g : Graph) (p k v m : ℕ) (hp : p < g .N) (hv : v < g .N) where
       (λ e f. own-other (at none (node g p) k) (node g v) m g j e ∙ at-node g (at none (node g p) k) p k j f (at-same none (node g p) k))
       (λ e f. own-other (at none (node g p) k) (node g v) m g j e ∙ own-other none (node g p) k g j f ∙ own-none g none j refl)
 
-  turns-are : (j : ℕ) → turns g two j ≡ cond (ltb j (3 * g .N)) (wordTurns (g .I) earlier later j (word g j)) 0
-  unfolding turns wordTurns isEdge
+  turns-are : (j : ℕ) → turns g two j ≡ upTo (3 * g .N) (λ i. wordTurns (g .I) earlier later i (word g i)) j
+  unfolding turns wordTurns isEdge upTo ifLess
   turns-are j = rw (own-is j, seen-is (word g j / 2))
 
-  out-turns-are : (j : ℕ) → outputTurns g two j ≡ cond (ltb j (g .O)) (flagAt earlier later (output g j / 2) 3) 0
-  unfolding outputTurns
+  out-turns-are : (j : ℕ) → outputTurns g two j ≡ upTo (g .O) (λ i. readTurns earlier later i (output g i)) j
+  unfolding outputTurns readTurns upTo ifLess
   out-turns-are j = rw (seen-is (output g j / 2))
 
   -- both tables are those after the choice
   pub both-written : (ns os : List ℕ) → ns ≡ nodesAfter (g .I) (g .N) earlier later (g .nodes) → os ≡ outputsAfter (g .O) earlier later (g .outputs)
       → graphOf (g .I) (g .N) (g .O) ns os ≡ apply g two
-  unfolding apply turnedBy turnedTable nodesAfter outputsAfter
+  unfolding apply nodesAfter outputsAfter
   both-written ns os e f =
-      same-graph (g .I) (g .N) (g .O)
-      (e ∙ tab-same _ _ _ (λ j h. ap (λ (t : ℕ). turn t (word g j)) (sym (turns-are j))))
-      (f ∙ tab-same _ _ _ (λ j h. ap (λ (t : ℕ). turn t (output g j)) (sym (out-turns-are j))))
+      turned-both g (turns g two) (outputTurns g two) ns os
+      (e ∙ turned-same (g .nodes) _ _ (λ j h. sym (turns-are j)))
+      (f ∙ turned-same (g .outputs) _ _ (λ j h. sym (out-turns-are j)))

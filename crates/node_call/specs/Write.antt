@@ -2,10 +2,11 @@
 use mathlib.Core.Bool.{Bool, not, cond, _&&_}
 use mathlib.Core.List.{List, [], _∷_}
 use Prim.Native.Nat.{ℕ, _+_, _*_, _/_, _%_, _≤_}
-use lib.Dec.{eqb, ltb}
-use lib.ListN.{getD, length}
-use Rattle.graph.specs.Finite.{ifEqual, tab}
-use Rattle.graph.specs.Graph.{mark, turn, index}
+use lib.Dec.{eqb}
+use lib.ListN.{getD}
+use Rattle.graph.specs.Finite.{ifEqual}
+use Rattle.graph.specs.Graph.{mark, index}
+use Rattle.graph.specs.Turned.{turnedTable, upTo}
 use Rattle.moves.specs.Rows.{flag}
 use Rattle.node_call.specs.declared.write.NodeMove.{NodeMove}
 
@@ -21,13 +22,16 @@ Bits a = (i : ℕ) → getD (a .flags) i 0 ≤ 1
 unfoldable pub flagAt : NodeMove → NodeMove → ℕ → ℕ → ℕ
 flagAt a b u k = ifEqual u (b .node) (getD (b .flags) k 0) (ifEqual u (a .node) (getD (a .flags) k 0) 0)
 
--- how often two moves turn the word x at place j of the node table, i being the inputs; and a literal of the output table
+-- how often two moves turn the word x at place j of the node table, i being the inputs; and of the output table
 unfoldable pub wordTurns : ℕ → NodeMove → NodeMove → ℕ → ℕ → ℕ
 wordTurns i a b j x = cond (not (eqb (j % 3) 2 && eqb x mark)) (flagAt a b (i + 1 + j / 3) (j % 3) + flagAt a b (index x) 3) 0
 
+unfoldable pub readTurns : NodeMove → NodeMove → ℕ → ℕ → ℕ
+readTurns a b j x = flagAt a b (index x) 3
+
 -- both tables with their first words turned so
 unfoldable pub nodesAfter : ℕ → ℕ → NodeMove → NodeMove → List ℕ → List ℕ
-nodesAfter i n a b l = tab (length l) (λ j. turn (cond (ltb j (3 * n)) (wordTurns i a b j (getD l j 0)) 0) (getD l j 0))
+nodesAfter i n a b l = turnedTable l (upTo (3 * n) (λ j. wordTurns i a b j (getD l j 0)))
 
 unfoldable pub outputsAfter : ℕ → NodeMove → NodeMove → List ℕ → List ℕ
-outputsAfter n a b l = tab (length l) (λ j. turn (cond (ltb j n) (flagAt a b (index (getD l j 0)) 3) 0) (getD l j 0))
+outputsAfter n a b l = turnedTable l (upTo n (λ j. readTurns a b j (getD l j 0)))

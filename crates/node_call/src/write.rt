@@ -4,10 +4,12 @@ ghost use Prim.Native.Nat.{_+_, _*_, _≤_, _<_};
 ghost use lib.ListN.{length};
 ghost use Rattle.graph.specs.Admission.{Admitted};
 ghost use Rattle.graph.specs.Graph.{graphOf, node};
+ghost use Rattle.graph.specs.Turned.{Low};
 ghost use Rattle.moves.specs.Apply.{none, at, apply};
 ghost use Rattle.moves.specs.Rows.{arity, movesAt};
-ghost use Rattle.node_call.specs.Write.{moveWith, Bits, flagAt, wordTurns, nodesAfter, outputsAfter};
+ghost use Rattle.node_call.specs.Write.{moveWith, Bits, flagAt, wordTurns, readTurns, nodesAfter, outputsAfter};
 use graph::literal;
+use graph::table;
 use moves::rows;
 
 // A node's index, and what its move turns: words 1 to 3, and every reader.
@@ -61,27 +63,27 @@ pub fn word_turns(inputs: u32, a: NodeMove, b: NodeMove, j: usize, x: u32) -> u3
 }
 
 pub fn write_nodes(inputs: u32, nodes: u32, node_table: &mut [u32], a: NodeMove, b: NodeMove)
-    requires { ⌜ Bits a × Bits b × (inputs ≤ 4096) × (nodes ≤ 100000) × (3 * nodes ≤ length (now «node_table»)) ⌝ }
+    requires { ⌜ Bits a × Bits b × (inputs ≤ 4096) × (nodes ≤ 100000) × (3 * nodes ≤ length (now «node_table»)) × Low (wordTurns inputs a b) (3 * nodes) (now «node_table») ⌝ }
     ensures { λ _. ⌜ now («node_table» .exit) ≡ nodesAfter inputs nodes a b (now («node_table» .entry)) ⌝ }
 {
     let end = 3 * nodes as usize;
     let mut j: usize = 0;
     while j < end {
-        let x = node_table[j];
-        node_table[j] = literal::turned(word_turns(inputs, a, b, j, x), x);
+        let t = word_turns(inputs, a, b, j, table::word_at(node_table, j));
+        table::turn_word(node_table, j, t);
         j += 1;
     }
 }
 
 pub fn write_outputs(outputs: u32, output_table: &mut [u32], a: NodeMove, b: NodeMove)
-    requires { ⌜ Bits a × Bits b × (outputs ≤ length (now «output_table»)) ⌝ }
+    requires { ⌜ Bits a × Bits b × (outputs ≤ length (now «output_table»)) × Low (readTurns a b) outputs (now «output_table») ⌝ }
     ensures { λ _. ⌜ now («output_table» .exit) ≡ outputsAfter outputs a b (now («output_table» .entry)) ⌝ }
 {
     let end = outputs as usize;
     let mut j: usize = 0;
     while j < end {
-        let x = output_table[j];
-        output_table[j] = literal::turned(flag_at(a, b, literal::index_of(x), 3), x);
+        let t = flag_at(a, b, table::index_at(output_table, j), 3);
+        table::turn_word(output_table, j, t);
         j += 1;
     }
 }

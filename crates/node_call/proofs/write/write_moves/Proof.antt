@@ -8,7 +8,7 @@ use Rattle.graph.specs.Graph.{Graph, graphOf}
 use Rattle.moves.proofs.Moves.{node-row}
 use Rattle.node_call.specs.Write.{moveWith}
 use Rattle.node_call.specs.declared.write.NodeMove.{NodeMove}
-use Rattle.node_call.proofs.Flags.{with-bits, both-written}
+use Rattle.node_call.proofs.Flags.{with-bits, words-low, outputs-low, both-written}
 use Rattle.node_call.proofs.write.write_moves.Statement.{statement}
 use Rattle.node_call.proofs.write.write_moves.Tie as tie
 
@@ -49,12 +49,12 @@ write-nodes-requires : tie.Need-write-nodes-requires
 write-nodes-requires c κs =
     let s = c .before .before .before .before .before .before .before .before .before in
     let d = s .pre .0 in
-    (bits-of _ _ _ _ (c .before .before .before .before .move-with .ensures), bits-of _ _ _ _ (c .before .move-with2 .ensures), d .few-inputs, d .few-nodes, d .long-nodes)
+    (bits-of _ _ _ _ (c .before .before .before .before .move-with .ensures), bits-of _ _ _ _ (c .before .move-with2 .ensures), d .few-inputs, d .few-nodes, d .long-nodes, words-low _ _ _ d)
 
 write-outputs-requires : tie.Need-write-outputs-requires
 write-outputs-requires c κs =
     let s = c .before .before .before .before .before .before .before .before .before .before .before .before .before in
-    (bits-of _ _ _ _ (c .before .before .before .before .before .before .before .before .move-with .ensures), bits-of _ _ _ _ (c .before .before .before .before .before .move-with2 .ensures), s .pre .0 .long-outputs)
+    (bits-of _ _ _ _ (c .before .before .before .before .before .before .before .before .move-with .ensures), bits-of _ _ _ _ (c .before .before .before .before .before .move-with2 .ensures), s .pre .0 .long-outputs, outputs-low _ _ _ (s .pre .0))
 
 same-length : tie.Need-same-length
 same-length c = search needs
