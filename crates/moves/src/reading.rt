@@ -8,6 +8,7 @@ ghost use Rattle.moves.specs.Decide.{Tallied, Read, numbersOf};
 use crate::decide::NodeNumbers;
 use crate::rows;
 use crate::words;
+use graph::table;
 
 // How many words of a table name an index, and how many of these are complemented.
 pub struct Tally {
@@ -30,8 +31,9 @@ pub fn count_names(table: &[u32], n: usize, u: u32) -> Tally
     let mut odd: u32 = 0;
     let mut j: usize = 0;
     while j < n {
-        count += words::names(table[j], u);
-        odd += words::names_odd(table[j], u);
+        let x = table::word_at(table, j);
+        count += words::names(x, u);
+        odd += words::names_odd(x, u);
         j += 1;
     }
     Tally { count, odd }

@@ -5,7 +5,7 @@ ghost use Prim.Native.Nat.{ℕ, _+_, _*_, _≤_, _<_};
 ghost use lib.ListN.{length, getD};
 ghost use Rattle.graph.specs.Graph.{graphOf, isXor};
 ghost use Rattle.moves.specs.Rows.{rows, firstRow, arity, flag, movesAt};
-use graph::literal::MARK;
+use graph::table;
 
 // Whether words 1 to 3, and every reader, are turned: a majority's two rows, then an XOR's four.
 const ROWS: [[u32; 4]; 6] = [
@@ -30,7 +30,7 @@ pub fn is_xor(node_table: &[u32], v: usize) -> bool
     ensures { λ r. ⌜ ((i n o : ℕ) (os : List ℕ) → r ≡ isXor (graphOf i n o (now («node_table» .entry)) os) v) ⌝ }
 {
     let at = 3 * v + 2;
-    node_table[at] == MARK
+    table::is_mark_at(node_table, at)
 }
 
 // How many moves node v has.

@@ -10,6 +10,7 @@ ghost use Rattle.moves.specs.Decide.{wordsAdd, ownCosts, naming};
 use graph::edges;
 use graph::literal;
 use graph::literal::MARK;
+use graph::table;
 
 // What a literal adds, turned t times.
 pub fn turned_adds(x: u32, t: u32) -> u32
@@ -50,7 +51,10 @@ pub fn own_costs(node_table: &[u32], v: usize) -> [u32; 6]
     ensures { λ r. ⌜ ((i n o : ℕ) (os : List ℕ) → r ≡ ownCosts (graphOf i n o (now («node_table» .entry)) os) v) ⌝ }
 {
     let at = 3 * v;
-    costs_of(node_table[at], node_table[at + 1], node_table[at + 2])
+    let x = table::word_at(node_table, at);
+    let y = table::word_at(node_table, at + 1);
+    let z = table::word_at(node_table, at + 2);
+    costs_of(x, y, z)
 }
 
 // 1 where the literal x names index u.
@@ -79,9 +83,9 @@ pub fn which_name(node_table: &[u32], v: usize, u: u32) -> [u32; 3]
     ensures { λ r. ⌜ ((i n o : ℕ) (os : List ℕ) → r ≡ naming (graphOf i n o (now («node_table» .entry)) os) v u) ⌝ }
 {
     let at = 3 * v;
-    let x = node_table[at];
-    let y = node_table[at + 1];
-    let z = node_table[at + 2];
+    let x = table::word_at(node_table, at);
+    let y = table::word_at(node_table, at + 1);
+    let z = table::word_at(node_table, at + 2);
     [names(x, u), names(y, u), names(z, u)]
 }
 

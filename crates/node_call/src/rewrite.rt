@@ -8,7 +8,7 @@ ghost use Rattle.graph.specs.Answer.{accepted, outcome};
 ghost use Rattle.graph.specs.Graph.{graphOf};
 ghost use Rattle.moves.specs.Call.{rewrite, pairNumber, namedBy, pairRewrite};
 use crate::write;
-use graph::literal;
+use graph::table;
 use moves::decide;
 use moves::reading;
 use moves::words;
@@ -66,7 +66,7 @@ pub fn named_by(inputs: u32, node_table: &[u32], node: u32, word: u32) -> u32
 {
     let v = node - (inputs + 1);
     let at = 3 * v as usize + (word - 1) as usize;
-    literal::index_of(node_table[at])
+    table::index_at(node_table, at)
 }
 
 // The best moves of a node and of the node that one of its words names, if it names one; what they save.

@@ -3,7 +3,6 @@ use native.Mathlib.Omega.{arith}
 use borrow.Author.Needs.{needs}
 use mathlib.Core.Path.{_≡_}
 use Prim.Native.Nat.{_-_, _≤_, _/_, _%_}
-use lib.ListN.{getD}
 use Rattle.moves.specs.Decide.{Tallied}
 use Rattle.moves.proofs.Tally.{tally-zero, tally-suc, tally-le, if-bit}
 use Rattle.moves.proofs.reading.count_names.Statement.{statement}
@@ -18,11 +17,8 @@ abbrev μ-loop : tie.MeasureT-loop
 loop-holds : tie.Need-loop-holds Inv-loop μ-loop
 loop-holds c = let a = c .before .args in (omega arith, tally-zero (a .table .now) (a .u))
 
-mul-names : tie.Need-mul-names Inv-loop μ-loop
-mul-names c = search needs
-
-shared-slice-read-names : tie.Need-shared-slice-read-names Inv-loop μ-loop
-shared-slice-read-names c = search needs
+word-at-requires : tie.Need-word-at-requires Inv-loop μ-loop
+word-at-requires c κs = search needs
 
 names-requires : tie.Need-names-requires Inv-loop μ-loop
 names-requires c κs = search needs
@@ -31,22 +27,16 @@ add-count : tie.Need-add-count Inv-loop μ-loop
 add-count c =
     let l = c .before .before .before in
     let a = l .before .before .args in
-    omega (arith, c .names .ensures, tally-le (a .table .now) (a .u) (l .loop .j) (l .loop .count) (l .loop .odd) (l .loop .inv .1), if-bit (getD (a .table .now) (l .loop .j) 0 / 2) (a .u) 1 (omega arith))
-
-mul-names-odd : tie.Need-mul-names-odd Inv-loop μ-loop
-mul-names-odd c = search needs
-
-shared-slice-read-names-odd : tie.Need-shared-slice-read-names-odd Inv-loop μ-loop
-shared-slice-read-names-odd c = search needs
+    omega (arith, c .names .ensures, tally-le (a .table .now) (a .u) (l .loop .j) (l .loop .count) (l .loop .odd) (l .loop .inv .1), if-bit (c .before .word-at .result / 2) (a .u) 1 (omega arith))
 
 names-odd-requires : tie.Need-names-odd-requires Inv-loop μ-loop
 names-odd-requires c κs = search needs
 
 add-odd : tie.Need-add-odd Inv-loop μ-loop
 add-odd c =
-    let l = c .before .before .before .before .before in
+    let l = c .before .before .before .before in
     let a = l .before .before .args in
-    let x = getD (a .table .now) (l .loop .j) 0 in
+    let x = c .before .before .word-at .result in
     omega (arith, c .names-odd .ensures, tally-le (a .table .now) (a .u) (l .loop .j) (l .loop .count) (l .loop .odd) (l .loop .inv .1), if-bit (x / 2) (a .u) (x % 2) (omega arith))
 
 add-j : tie.Need-add-j Inv-loop μ-loop
@@ -57,9 +47,10 @@ loop-less c = omega arith
 
 loop-again : tie.Need-loop-again Inv-loop μ-loop
 loop-again c =
-    let l = c .before .before .before .before .before in
+    let w = c .before .before in
+    let l = w .before .before in
     let a = l .before .before .args in
-    (omega arith, tally-suc (a .table .now) (a .u) (l .loop .j) (l .loop .count) (l .loop .odd) _ _ (l .loop .inv .1) (c .before .before .names .ensures) (c .names-odd .ensures))
+    (omega arith, tally-suc (a .table .now) (a .u) (l .loop .j) (l .loop .count) (l .loop .odd) _ _ (l .loop .inv .1) (rw (w .word-at .ensures) at (c .before .names .ensures)) (rw (w .word-at .ensures) at (c .names-odd .ensures)))
 
 returns : tie.Need-returns Inv-loop μ-loop
 returns c =
@@ -74,12 +65,9 @@ count-names-spec =
     Inv-loop
     μ-loop
     loop-holds
-    mul-names
-    shared-slice-read-names
+    word-at-requires
     names-requires
     add-count
-    mul-names-odd
-    shared-slice-read-names-odd
     names-odd-requires
     add-odd
     add-j

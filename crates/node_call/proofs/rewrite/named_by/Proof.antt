@@ -1,6 +1,6 @@
 -- `named_by` meets its contract. Assumes nothing.
-use borrow.Author.Needs.{needs}
 use Rattle.moves.specs.Call.{namedBy}
+use borrow.Author.Needs.{needs}
 use Rattle.node_call.proofs.rewrite.named_by.Statement.{statement}
 use Rattle.node_call.proofs.rewrite.named_by.Tie as tie
 
@@ -25,31 +25,14 @@ cast-at-2 c = search needs
 add-at : tie.Need-add-at
 add-at c = search needs
 
-mul-index-of : tie.Need-mul-index-of
-mul-index-of c = search needs
-
-shared-slice-read-index-of : tie.Need-shared-slice-read-index-of
-shared-slice-read-index-of c = search needs
-
-index-of-requires : tie.Need-index-of-requires
-index-of-requires c κs = search needs
+index-at-requires : tie.Need-index-at-requires
+index-at-requires c κs = search needs
 
 returns : tie.Need-returns
 unfolding namedBy
-returns c = λ n o os. c .index-of .ensures
+returns c = λ n o os. c .index-at .ensures
 
 pub named-by-spec : {M : Type 1} → statement M
 named-by-spec =
     tie.close
-    (tie.spec
-    add-v
-    sub-v
-    cast-at
-    mul-at
-    sub-at
-    cast-at-2
-    add-at
-    mul-index-of
-    shared-slice-read-index-of
-    index-of-requires
-    returns)
+    (tie.spec add-v sub-v cast-at mul-at sub-at cast-at-2 add-at index-at-requires returns)
