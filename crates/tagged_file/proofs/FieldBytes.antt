@@ -1,12 +1,12 @@
 -- The bytes of a field: how many there are, and the stores that write them. From the laws on runs of stores.
-use Prim.Native.Nat.{ℕ, _+_}
+use Prim.Native.Nat.{ℕ, _+_, _*_}
 use mathlib.Core.Path.{_≡_, refl, sym, ap, _∙_}
 use mathlib.Core.List.{List, [], _∷_, _++_}
-use lib.ListN.{length}
+use lib.ListN.{length, getD}
 use lib.Seq.{sets}
 use Rattle.graph.specs.Graph.{mark}
 use Rattle.graph.proofs.Tests.{equal, unequal}
-use Rattle.tagged_file.specs.Write.{big, fieldOf, nodeField, outputField, outputFieldAt, endField}
+use Rattle.tagged_file.specs.Write.{big, fieldOf, nodeField, outputField, nodeFieldAt, outputFieldAt, endField}
 use Rattle.tagged_file.proofs.Stores.{then}
 
 pub length-big : (x : ℕ) → length (big 4 x) ≡ 4
@@ -64,6 +64,11 @@ module _ (t t₁ t₂ t₃ : List ℕ) (at : ℕ) where
 pub output-stored : (t t₁ t₂ : List ℕ) (at x : ℕ) → t₁ ≡ sets t at (4 ∷ 0 ∷ 4 ∷ []) → t₂ ≡ sets t₁ (at + 3) (big 4 x) → t₂ ≡ sets t at (outputField x)
 unfolding outputField fieldOf big
 output-stored t t₁ t₂ at x e₁ e₂ = then t t₁ t₂ (4 ∷ 0 ∷ 4 ∷ []) (big 4 x) at (at + 3) e₁ e₂ refl
+
+-- a node's field by the words that were read
+pub node-at : (ns : List ℕ) (v x y z : ℕ) → x ≡ getD ns (3 * v) 0 → y ≡ getD ns (3 * v + 1) 0 → z ≡ getD ns (3 * v + 2) 0 → nodeField x y z ≡ nodeFieldAt ns v
+unfolding nodeFieldAt
+node-at ns v x y z p q r = rw (p, q, r)
 
 pub length-output-at : (os : List ℕ) (j : ℕ) → length (outputFieldAt os j) ≡ 7
 unfolding outputFieldAt

@@ -29,20 +29,20 @@ module _ (n : ℕ) (bytes t₀ t s : List ℕ) (at : ℕ) where
   nodes-left-room zero h i = absurd (omega arith)
   nodes-left-room (suc left) h i = i .room .0
 
-  pub nodes-left-more : (left : ℕ) → 0 < left → NodesLeft n bytes t₀ t s at left → (s′ : List ℕ) (x y z : ℕ) → s′ ≡ drop (nodeSize s) s
-      → x ≡ be4 s 3 → y ≡ be4 s 7 → z ≡ third s → NodesLeft n bytes t₀ (set (set (set t at x) (at + 1) y) (at + 2) z) s′ (at + 3) (left - 1)
-  nodes-left-more zero h i s′ x y z es ex ey ez = absurd (omega arith)
-  nodes-left-more (suc left) h i s′ x y z es ex ey ez =
+  pub nodes-left-more : (left : ℕ) → 0 < left → NodesLeft n bytes t₀ t s at left → (s′ t₁ t₂ t₃ : List ℕ) (x y z : ℕ) → s′ ≡ drop (nodeSize s) s
+      → x ≡ be4 s 3 → y ≡ be4 s 7 → z ≡ third s → t₁ ≡ set t at x → t₂ ≡ set t₁ (at + 1) y → t₃ ≡ set t₂ (at + 2) z → NodesLeft n bytes t₀ t₃ s′ (at + 3) (left - 1)
+  nodes-left-more zero h i s′ t₁ t₂ t₃ x y z es ex ey ez e₁ e₂ e₃ = absurd (omega arith)
+  nodes-left-more (suc left) h i s′ t₁ t₂ t₃ x y z es ex ey ez e₁ e₂ e₃ =
       let e : suc left - 1 ≡ left = omega arith in
       let q₁ : at + 1 ≡ suc at = omega arith in
       let q₂ : at + 2 ≡ suc (suc at) = omega arith in
       let q₃ : at + 3 ≡ suc (suc (suc at)) = omega arith in
-      let d : length (set (set (set t at x) (at + 1) y) (at + 2) z) ≡ length t = simp length-set in
+      let d : length t₃ ≡ length t = rw (e₃, e₂, e₁, length-set, length-set, length-set) in
       record {
         room = rw (e, es) (i .room .1);
         fits = omega (arith, i .fits);
         same = d ∙ i .same;
-        words = rw (e, es, ex, ey, ez, q₁, q₂, q₃) (i .words);
+        words = rw (e, es, e₃, e₂, e₁, ex, ey, ez, q₁, q₂, q₃) (i .words);
         after = rw (e, es) (i .after);
       }
 
@@ -62,18 +62,18 @@ module _ (n : ℕ) (bytes t₀ t s : List ℕ) (at : ℕ) where
   outputs-left-room zero h i = absurd (omega arith)
   outputs-left-room (suc left) h i = i .room .0
 
-  pub outputs-left-more : (left : ℕ) → 0 < left → OutputsLeft n bytes t₀ t s at left → (s′ : List ℕ) (x : ℕ) → s′ ≡ drop 7 s → x ≡ be4 s 3
-      → OutputsLeft n bytes t₀ (set t at x) s′ (at + 1) (left - 1)
-  outputs-left-more zero h i s′ x es ex = absurd (omega arith)
-  outputs-left-more (suc left) h i s′ x es ex =
+  pub outputs-left-more : (left : ℕ) → 0 < left → OutputsLeft n bytes t₀ t s at left → (s′ t₁ : List ℕ) (x : ℕ) → s′ ≡ drop 7 s → x ≡ be4 s 3 → t₁ ≡ set t at x
+      → OutputsLeft n bytes t₀ t₁ s′ (at + 1) (left - 1)
+  outputs-left-more zero h i s′ t₁ x es ex e₁ = absurd (omega arith)
+  outputs-left-more (suc left) h i s′ t₁ x es ex e₁ =
       let e : suc left - 1 ≡ left = omega arith in
       let q₁ : at + 1 ≡ suc at = omega arith in
-      let d : length (set t at x) ≡ length t = simp length-set in
+      let d : length t₁ ≡ length t = rw (e₁, length-set) in
       record {
         room = rw (e, es) (i .room .1);
         fits = omega (arith, i .fits);
         same = d ∙ i .same;
-        words = rw (e, es, ex, q₁) (i .words);
+        words = rw (e, es, e₁, ex, q₁) (i .words);
       }
 
   pub outputs-left-none : (left : ℕ) → left ≤ 0 → n ≤ length t₀ → OutputsLeft n bytes t₀ t s at left → t ≡ outputWords n bytes ++ drop n t₀

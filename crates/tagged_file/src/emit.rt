@@ -7,6 +7,7 @@ ghost use lib.Seq.{sets};
 ghost use Rattle.graph.specs.Graph.{graphOf};
 ghost use Rattle.tagged_file.specs.Write.{big, fieldOf, nodeField, outputField, nodeFieldAt, outputFieldAt, inOrder, fileOf};
 use graph::literal::MARK;
+use graph::table::word_at;
 
 pub fn put_number(buffer: &mut [u8], at: usize, number: u32)
     requires { ⌜ at + 4 ≤ length (now buffer) ⌝ }
@@ -84,9 +85,9 @@ pub fn put_nodes(buffer: &mut [u8], start: usize, nodes: u32, node_table: &[u32]
         at = put_node(
             buffer,
             at,
-            node_table[word],
-            node_table[word + 1],
-            node_table[word + 2],
+            word_at(node_table, word),
+            word_at(node_table, word + 1),
+            word_at(node_table, word + 2),
         );
         v += 1;
         left -= 1;
@@ -104,7 +105,7 @@ pub fn put_outputs(buffer: &mut [u8], start: usize, outputs: u32, output_table: 
     let mut v = 0;
     let mut left = outputs;
     while 0 < left {
-        put_output(buffer, at, output_table[v]);
+        put_output(buffer, at, word_at(output_table, v));
         at += 7;
         v += 1;
         left -= 1;

@@ -6,6 +6,7 @@ ghost use lib.ListN.{length};
 ghost use Rattle.graph.specs.Graph.{graphOf};
 ghost use Rattle.tagged_file.specs.Write.{nodeField, nodeFieldAt, inOrder, fileOf, writeNumber};
 use graph::literal::MARK;
+use graph::table::word_at;
 
 // The field of a node that has this third word.
 pub fn node_bytes(z: u32) -> usize
@@ -26,7 +27,7 @@ pub fn nodes_bytes(nodes: u32, node_table: &[u32]) -> usize
     let mut left = nodes;
     while 0 < left {
         let third = 3 * v + 2;
-        size += node_bytes(node_table[third]);
+        size += node_bytes(word_at(node_table, third));
         v += 1;
         left -= 1;
     }

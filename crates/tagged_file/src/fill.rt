@@ -7,6 +7,7 @@ ghost use Rattle.file_checks.specs.File.{nodeWords, outputWords, afterNodes};
 ghost use Rattle.file_checks.specs.Walk.{Nodes, Outputs};
 use file_checks::bytes;
 use file_checks::fields;
+use graph::table::set_word;
 
 pub fn fill_nodes<'a>(rest: &'a [u8], nodes: u32, node_table: &mut [u32]) -> &'a [u8]
     requires { ⌜ Nodes nodes (now rest) ⌝ }
@@ -18,9 +19,9 @@ pub fn fill_nodes<'a>(rest: &'a [u8], nodes: u32, node_table: &mut [u32]) -> &'a
     let mut at = 0;
     let mut left = nodes;
     while 0 < left {
-        node_table[at] = bytes::four(s, 3);
-        node_table[at + 1] = bytes::four(s, 7);
-        node_table[at + 2] = fields::third_word(s);
+        set_word(node_table, at, bytes::four(s, 3));
+        set_word(node_table, at + 1, bytes::four(s, 7));
+        set_word(node_table, at + 2, fields::third_word(s));
         let size = fields::node_size(s);
         s = &s[size..];
         at += 3;
@@ -38,7 +39,7 @@ pub fn fill_outputs(rest: &[u8], outputs: u32, output_table: &mut [u32])
     let mut at = 0;
     let mut left = outputs;
     while 0 < left {
-        output_table[at] = bytes::four(s, 3);
+        set_word(output_table, at, bytes::four(s, 3));
         s = &s[7..];
         at += 1;
         left -= 1;

@@ -1,8 +1,11 @@
 -- `put_nodes` stores the nodes' fields one after another: those that are left come to the whole. From the laws on fields in a row.
 use native.Mathlib.Omega.{arith}
-use mathlib.Core.Path.{refl}
+use mathlib.Core.Path.{refl, ap, _∙_}
+use lib.ListN.{length}
+use lib.Seq.{sets}
 use Rattle.tagged_file.proofs.Emitted.{Left, left-room, left-more, left-none}
 use Rattle.tagged_file.specs.Write.{nodeFieldAt}
+use Rattle.tagged_file.proofs.FieldBytes.{node-at}
 use Rattle.tagged_file.proofs.emit.put_nodes.Statement.{statement}
 use Rattle.tagged_file.proofs.emit.put_nodes.Tie as tie
 
@@ -18,33 +21,29 @@ loop-holds c = record { counted = omega arith; fits = refl; same = refl; bytes =
 mul-word : tie.Need-mul-word Inv-loop μ-loop
 mul-word c = omega arith
 
-mul-put-node : tie.Need-mul-put-node Inv-loop μ-loop
-mul-put-node c = omega arith
+word-at-requires : tie.Need-word-at-requires Inv-loop μ-loop
+word-at-requires c κs = omega arith
 
-shared-slice-read-put-node : tie.Need-shared-slice-read-put-node Inv-loop μ-loop
-shared-slice-read-put-node c = omega arith
+add-word-at : tie.Need-add-word-at Inv-loop μ-loop
+add-word-at c = omega arith
 
-add-put-node : tie.Need-add-put-node Inv-loop μ-loop
-add-put-node c = omega arith
+word-at-requires-2 : tie.Need-word-at-requires-2 Inv-loop μ-loop
+word-at-requires-2 c κs = omega arith
 
-mul-put-node-2 : tie.Need-mul-put-node-2 Inv-loop μ-loop
-mul-put-node-2 c = omega arith
+add-word-at-2 : tie.Need-add-word-at-2 Inv-loop μ-loop
+add-word-at-2 c = omega arith
 
-shared-slice-read-put-node-2 : tie.Need-shared-slice-read-put-node-2 Inv-loop μ-loop
-shared-slice-read-put-node-2 c = omega arith
-
-add-put-node-2 : tie.Need-add-put-node-2 Inv-loop μ-loop
-add-put-node-2 c = omega arith
-
-mul-put-node-3 : tie.Need-mul-put-node-3 Inv-loop μ-loop
-mul-put-node-3 c = omega arith
-
-shared-slice-read-put-node-3 : tie.Need-shared-slice-read-put-node-3 Inv-loop μ-loop
-shared-slice-read-put-node-3 c = omega arith
+word-at-requires-3 : tie.Need-word-at-requires-3 Inv-loop μ-loop
+word-at-requires-3 c κs = omega arith
 
 put-node-requires : tie.Need-put-node-requires Inv-loop μ-loop
-unfolding nodeFieldAt
-put-node-requires c κs = let l = c .before .before .before .before .before .loop in left-room _ _ _ _ (l .buffer) (l .at) (l .v) (l .left) (l .inv) (omega arith) (c .before .before .before .before .before .before .before .before .pre .1)
+put-node-requires c κs =
+    let y = c .before in
+    let x = y .before in
+    let l = x .before .before .before .loop in
+    let s = x .before .before .before .before .before .before in
+    let e = node-at (s .args .node-table .now) (l .v) _ _ _ (x .word-at .ensures) (y .word-at2 .ensures) (c .word-at3 .ensures) in
+    omega (arith, ap length e, left-room _ _ _ _ (l .buffer) (l .at) (l .v) (l .left) (l .inv) (omega arith) (s .pre .1))
 
 add-v : tie.Need-add-v Inv-loop μ-loop
 add-v c = omega arith
@@ -56,8 +55,15 @@ loop-less : tie.Need-loop-less Inv-loop μ-loop
 loop-less c = omega arith
 
 loop-again : tie.Need-loop-again Inv-loop μ-loop
-unfolding nodeFieldAt
-loop-again c = let l = c .before .before .before .before .before .before .before .before .loop in left-more _ _ _ _ (l .buffer) (l .at) (l .v) (l .left) (l .inv) (omega arith) _ _ (c .before .before .put-node .ensures .1) (c .before .before .put-node .ensures .0)
+loop-again c =
+    let r = c .before .before in
+    let z = r .before in
+    let y = z .before in
+    let x = y .before in
+    let l = x .before .before .before .loop in
+    let e = node-at (x .before .before .before .before .before .before .args .node-table .now) (l .v) _ _ _ (x .word-at .ensures) (y .word-at2 .ensures) (z .word-at3 .ensures) in
+    left-more _ _ _ _ (l .buffer) (l .at) (l .v) (l .left) (l .inv) (omega arith) _ _
+    (r .put-node .ensures .1 ∙ ap (sets (l .buffer) (l .at)) e) (omega (arith, r .put-node .ensures .0, ap length e))
 
 same-length : tie.Need-same-length Inv-loop μ-loop
 same-length c = c .before .loop .inv .same
@@ -73,14 +79,11 @@ put-nodes-spec =
     μ-loop
     loop-holds
     mul-word
-    mul-put-node
-    shared-slice-read-put-node
-    add-put-node
-    mul-put-node-2
-    shared-slice-read-put-node-2
-    add-put-node-2
-    mul-put-node-3
-    shared-slice-read-put-node-3
+    word-at-requires
+    add-word-at
+    word-at-requires-2
+    add-word-at-2
+    word-at-requires-3
     put-node-requires
     add-v
     sub-left

@@ -1,8 +1,10 @@
 -- `put_outputs` stores the outputs' fields one after another. From the laws on fields in a row.
 use native.Mathlib.Omega.{arith}
-use mathlib.Core.Path.{refl}
+use mathlib.Core.Path.{refl, ap, _∙_}
+use Prim.Native.Nat.{ℕ}
+use lib.Seq.{sets}
 use Rattle.tagged_file.proofs.Emitted.{Left, left-room, left-more, left-none}
-use Rattle.tagged_file.specs.Write.{outputFieldAt}
+use Rattle.tagged_file.specs.Write.{outputField, outputFieldAt}
 use Rattle.tagged_file.proofs.FieldBytes.{length-output-at}
 use Rattle.tagged_file.proofs.emit.put_outputs.Statement.{statement}
 use Rattle.tagged_file.proofs.emit.put_outputs.Tie as tie
@@ -16,11 +18,8 @@ abbrev μ-loop : tie.MeasureT-loop
 loop-holds : tie.Need-loop-holds Inv-loop μ-loop
 loop-holds c = record { counted = omega arith; fits = refl; same = refl; bytes = refl }
 
-mul-put-output : tie.Need-mul-put-output Inv-loop μ-loop
-mul-put-output c = omega arith
-
-shared-slice-read-put-output : tie.Need-shared-slice-read-put-output Inv-loop μ-loop
-shared-slice-read-put-output c = omega arith
+word-at-requires : tie.Need-word-at-requires Inv-loop μ-loop
+word-at-requires c κs = omega arith
 
 put-output-requires : tie.Need-put-output-requires Inv-loop μ-loop
 unfolding outputFieldAt
@@ -40,7 +39,7 @@ loop-less c = omega arith
 
 loop-again : tie.Need-loop-again Inv-loop μ-loop
 unfolding outputFieldAt
-loop-again c = let l = c .before .before .before .before .before .before .loop in left-more _ _ _ _ (l .buffer) (l .at) (l .v) (l .left) (l .inv) (omega arith) _ _ (c .before .before .put-output .ensures) (omega (arith, length-output-at (c .before .before .before .before .before .before .before .before .before .args .output-table .now) (l .v)))
+loop-again c = let l = c .before .before .before .before .before .before .loop in left-more _ _ _ _ (l .buffer) (l .at) (l .v) (l .left) (l .inv) (omega arith) _ _ (c .before .before .put-output .ensures ∙ ap (λ (x : ℕ). sets (l .buffer) (l .at) (outputField x)) (c .before .before .before .word-at .ensures)) (omega (arith, length-output-at (c .before .before .before .before .before .before .before .before .before .args .output-table .now) (l .v)))
 
 same-length : tie.Need-same-length Inv-loop μ-loop
 same-length c = c .before .loop .inv .same
@@ -55,8 +54,7 @@ put-outputs-spec =
     Inv-loop
     μ-loop
     loop-holds
-    mul-put-output
-    shared-slice-read-put-output
+    word-at-requires
     put-output-requires
     add-at
     add-v

@@ -1,12 +1,12 @@
 -- `nodes_bytes` adds up the lengths of the nodes' fields. From the laws on fields in a row.
 use native.Mathlib.Omega.{arith}
 use native.Mathlib.Nat.{zero-add}
-use mathlib.Core.Path.{_≡_}
-use Prim.Native.Nat.{_+_, _*_, _≤_}
+use mathlib.Core.Path.{_≡_, ap, _∙_}
+use Prim.Native.Nat.{ℕ, _+_, _*_, _≤_}
 use lib.ListN.{length, getD}
 use borrow.Author.Needs.{needs}
 use Rattle.tagged_file.proofs.WholeWrite.{size-more, size-none}
-use Rattle.tagged_file.specs.Write.{nodeFieldAt, inOrder}
+use Rattle.tagged_file.specs.Write.{nodeField, nodeFieldAt, inOrder}
 use Rattle.tagged_file.proofs.faults.nodes_bytes.Statement.{statement}
 use Rattle.tagged_file.proofs.faults.nodes_bytes.Tie as tie
 
@@ -25,11 +25,8 @@ mul-third c = omega arith
 add-third : tie.Need-add-third Inv-loop μ-loop
 add-third c = omega arith
 
-mul-node-bytes : tie.Need-mul-node-bytes Inv-loop μ-loop
-mul-node-bytes c = omega arith
-
-shared-slice-read-node-bytes : tie.Need-shared-slice-read-node-bytes Inv-loop μ-loop
-shared-slice-read-node-bytes c = omega arith
+word-at-requires : tie.Need-word-at-requires Inv-loop μ-loop
+word-at-requires c κs = omega arith
 
 node-bytes-requires : tie.Need-node-bytes-requires Inv-loop μ-loop
 node-bytes-requires c κs = search needs
@@ -48,7 +45,13 @@ loop-less c = omega arith
 
 loop-again : tie.Need-loop-again Inv-loop μ-loop
 unfolding nodeFieldAt
-loop-again c = let l = c .before .before .before .loop in (omega arith, size-more _ _ (l .size) _ (l .v) (l .left) (omega arith) (l .inv .1) (omega (arith, c .node-bytes .ensures .0 (getD (c .before .before .before .before .before .args .node-table .now) (3 * l .v) 0) (getD (c .before .before .before .before .before .args .node-table .now) (3 * l .v + 1) 0))), omega arith)
+loop-again c =
+    let l = c .before .before .before in
+    let ns = l .before .before .args .node-table .now in
+    let x = getD ns (3 * l .loop .v) 0 in
+    let y = getD ns (3 * l .loop .v + 1) 0 in
+    let e = c .node-bytes .ensures .0 x y ∙ ap (λ (z : ℕ). length (nodeField x y z)) (c .before .word-at .ensures) in
+    (omega arith, size-more _ _ (l .loop .size) _ (l .loop .v) (l .loop .left) (omega arith) (l .loop .inv .1) (omega (arith, e)), omega arith)
 
 returns : tie.Need-returns Inv-loop μ-loop
 returns c = let l = c .before .loop in (size-none _ _ (l .size) (l .v) (l .left) (omega arith) (l .inv .1), omega arith)
@@ -62,8 +65,7 @@ nodes-bytes-spec =
     loop-holds
     mul-third
     add-third
-    mul-node-bytes
-    shared-slice-read-node-bytes
+    word-at-requires
     node-bytes-requires
     add-size
     add-v

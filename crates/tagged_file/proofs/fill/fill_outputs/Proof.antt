@@ -1,4 +1,4 @@
--- `fill_outputs` stores what `outWords` says. From the laws of the fill pass.
+-- `fill_outputs` stores what `outputWords` says. From the laws of the fill pass.
 use native.Mathlib.Omega.{arith}
 use mathlib.Core.Path.{refl}
 use denote.Ref.{now}
@@ -17,19 +17,16 @@ loop-holds : tie.Need-loop-holds Inv-loop μ-loop
 loop-holds c = record { room = c .before .before .pre .0; fits = omega arith; same = refl; words = refl }
 
 four-requires : tie.Need-four-requires Inv-loop μ-loop
-four-requires c κs = let l = c .before .loop in omega (arith, outputs-left-room _ _ _ (l .output-table) (now (l .s)) (l .at) (l .left) (omega arith) (l .inv))
+four-requires c κs = let l = c .before .before .loop in omega (arith, outputs-left-room _ _ _ (l .output-table) (now (l .s)) (l .at) (l .left) (omega arith) (l .inv))
 
-mul-output-table : tie.Need-mul-output-table Inv-loop μ-loop
-mul-output-table c = omega arith
-
-slice-write-output-table : tie.Need-slice-write-output-table Inv-loop μ-loop
-slice-write-output-table c = omega arith
+set-word-requires : tie.Need-set-word-requires Inv-loop μ-loop
+set-word-requires c κs = omega (arith, c .before .before .before .loop .inv .fits)
 
 sub-s : tie.Need-sub-s Inv-loop μ-loop
-sub-s c = let l = c .before .before .loop in omega (arith, outputs-left-room _ _ _ (l .output-table) (now (l .s)) (l .at) (l .left) (omega arith) (l .inv))
+sub-s c = let l = c .before .before .before .before .before .before .loop in omega (arith, outputs-left-room _ _ _ (l .output-table) (now (l .s)) (l .at) (l .left) (omega arith) (l .inv))
 
 part-s-start : tie.Need-part-s-start Inv-loop μ-loop
-part-s-start c = let l = c .before .before .loop in omega (arith, outputs-left-room _ _ _ (l .output-table) (now (l .s)) (l .at) (l .left) (omega arith) (l .inv))
+part-s-start c = let l = c .before .before .before .before .before .before .loop in omega (arith, outputs-left-room _ _ _ (l .output-table) (now (l .s)) (l .at) (l .left) (omega arith) (l .inv))
 
 part-s-end : tie.Need-part-s-end Inv-loop μ-loop
 part-s-end c = omega arith
@@ -44,7 +41,11 @@ loop-less : tie.Need-loop-less Inv-loop μ-loop
 loop-less c = omega arith
 
 loop-again : tie.Need-loop-again Inv-loop μ-loop
-loop-again c = let l = c .before .before .before .loop in outputs-left-more _ _ _ (l .output-table) (now (l .s)) (l .at) (l .left) (omega arith) (l .inv) _ _ (rest 7 (now (l .s))) (c .before .four .ensures)
+loop-again c =
+    let x = c .before .before .before in
+    let l = x .before .before .before .before .loop in
+    outputs-left-more _ _ _ (l .output-table) (now (l .s)) (l .at) (l .left) (omega arith) (l .inv) _ (x .set-word .last .0) (x .before .four .result)
+    (rest 7 (now (l .s))) (x .before .four .ensures) (x .set-word .ensures)
 
 same-length : tie.Need-same-length Inv-loop μ-loop
 same-length c = c .before .loop .inv .same
@@ -60,8 +61,7 @@ fill-outputs-spec =
     μ-loop
     loop-holds
     four-requires
-    mul-output-table
-    slice-write-output-table
+    set-word-requires
     sub-s
     part-s-start
     part-s-end
