@@ -13,11 +13,11 @@ use Rattle.graph.specs.Admission.{Admitted}
 use Rattle.graph.specs.Finite.{tab, ifLess, ifEqual}
 use Rattle.graph.specs.Graph.{Graph, graphOf, mark, word, output, index, isEdge, turn}
 use Rattle.graph.proofs.Alike.{Alike}
-use Rattle.graph.proofs.Cases.{lt-or-le, eq-or-ne, true-or-false}
+use Rattle.graph.proofs.Cases.{lt-or-le, eq-or-ne, true-or-false, cond-same}
 use Rattle.graph.proofs.Finite.{length-tab, getD-tab, tab-same}
 use Rattle.graph.proofs.Tests.{less, no-less, equal, unequal}
 use Rattle.graph.proofs.Turn.{turn-half, turn-zero, turn-turn, turn-same}
-use Rattle.graph.specs.Turned.{turnedTable, turnedBy, only, upTo, Low}
+use Rattle.graph.specs.Turned.{turnedTable, turnedBy, never, only, upTo, Low}
 
 pub same-graph : (i n o : ℕ) {ns ns′ os os′ : List ℕ} → ns ≡ ns′ → os ≡ os′ → graphOf i n o ns os ≡ graphOf i n o ns′ os′
 same-graph i n o p q = λ k. record { I = i; N = n; O = o; nodes = p k; outputs = q k }
@@ -206,3 +206,28 @@ table-set l j t x h e =
     (λ (q : i ≡ j). rw (q, only-at j t) (getD-set-same l j x 0 h ∙ e))
     (λ (q : i ≢ j). rw (only-off j t i q) (getD-set-other l j i x 0 q ∙ sym (turn-zero (getD l i 0))))
     (eq-or-ne i j))
+
+-- What a graph's turns are made of: up to a place, and at one place.
+pub upTo-zero : (k : ℕ) (t : ℕ → ℕ) (i : ℕ) → t i ≡ 0 → upTo k t i ≡ 0
+unfolding upTo ifLess
+upTo-zero k t i e = rw (e, cond-same)
+
+pub upTo-adds : (k : ℕ) (a b c : ℕ → ℕ) (i : ℕ) → a i % 2 ≡ (b i + c i) % 2 → upTo k a i % 2 ≡ (upTo k b i + upTo k c i) % 2
+upTo-adds k a b c i e =
+    ⊎-elim
+    (λ (h : i < k). rw (upTo-in k a i h, upTo-in k b i h, upTo-in k c i h) e)
+    (λ (h : k ≤ i). rw (upTo-past k a i h, upTo-past k b i h, upTo-past k c i h))
+    (lt-or-le i k)
+
+pub only-zero : (j i : ℕ) → only j 0 i ≡ 0
+unfolding only ifEqual
+only-zero j i = cond-same (eqb i j) 0
+
+-- one word turned, and no mark: marks and tails are spared
+pub only-sparing : (g : Graph) (j f : ℕ) → j < 3 * g .N → (isEdge g j ≡ false → f ≡ 0) → Sparing g (only j f) never
+only-sparing g j f h e =
+    record {
+      past = λ i l. only-off j f i (omega arith);
+      at-mark = λ i q. ⊎-elim (λ (w : i ≡ j). rw (w, only-at j f) (e (rw w at q))) (λ (w : i ≢ j). only-off j f i w) (eq-or-ne i j);
+      out-past = λ i l. refl;
+    }

@@ -1,5 +1,5 @@
 -- What `apply` turns, and what it keeps. From the laws of a turned graph.
-use mathlib.Core.Path.{_≡_}
+use mathlib.Core.Path.{_≡_, refl}
 use mathlib.Core.Bool.{true, false}
 use Prim.Native.Nat.{ℕ, _+_, _*_, _/_, _≤_, _<_}
 use borrow.Author.Tests.{lt-ltb, le-ltb}
@@ -7,6 +7,7 @@ use lib.Dec.{eqb}
 use lib.ListN.{getD}
 use Rattle.graph.specs.Admission.{Admitted}
 use Rattle.graph.specs.Graph.{Graph, mark, turn, isEdge, isXor}
+use Rattle.graph.specs.Turned.{turnedBy}
 use Rattle.graph.proofs.Alike.{Alike, alike-xor, alike-edge, alike-admitted}
 use Rattle.graph.proofs.Cases.{cond-same}
 use Rattle.graph.proofs.Turned.{Sparing, by-word, by-out, by-alike}
@@ -32,6 +33,10 @@ module _ (g : Graph) (m : Choice) where
   pub outputTurns-at : (j : ℕ) → j < g .O → outputTurns g m j ≡ seen g m (getD (g .outputs) j 0 / 2)
   unfolding outputTurns
   outputTurns-at j h = rw (lt-ltb j (g .O) h)
+
+  pub apply-by : apply g m ≡ turnedBy g (turns g m) (outputTurns g m)
+  unfolding apply
+  apply-by = refl
 
   sparing : Sparing g (turns g m) (outputTurns g m)
   sparing = record { past = turns-past; at-mark = turns-mark; out-past = outputTurns-past }

@@ -7,6 +7,7 @@ use native.Mathlib.Omega.{arith}
 use native.Mathlib.Numerals.{add-one}
 use lib.ListN.{length}
 use Rattle.graph.specs.Graph.{Graph}
+use Rattle.graph.specs.Turned.{turnedBy}
 use Rattle.graph.specs.Count.{C}
 use Rattle.graph.specs.Admission.{Admitted}
 use Rattle.graph.proofs.Adds.{C-le}
@@ -53,7 +54,7 @@ count-few g sc o = let a = stands-admitted g sc (o .admitted) in omega (arith, C
 module _ (s : ℕ) (g : Graph) (sc : List ℕ) (o : Ordered g sc) where
   -- what the three phases make of a state is a round
   round-here : (g′ : Graph) (sc′ : List ℕ) (c : ℕ) → Phase (phases s (g .N)) g sc g′ sc′ c → round s (stands g sc) .graph ≡ stands g′ sc′
-  unfolding round start stands
+  unfolding round start stands turnedBy
   round-here g′ sc′ c p = p .makes (start (stands g sc)) refl
 
   -- before the first round

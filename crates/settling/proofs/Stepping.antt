@@ -11,6 +11,7 @@ use borrow.Author.Tests.{eq-eqb, ne-eqb}
 use lib.Dec.{eqb, leb}
 use lib.ListN.{length}
 use Rattle.graph.specs.Graph.{Graph, node, word, isXor, mark}
+use Rattle.graph.specs.Turned.{turnedBy}
 use Rattle.graph.specs.Count.{C}
 use Rattle.graph.specs.Admission.{Admitted}
 use Rattle.graph.proofs.Cases.{true-or-false}
@@ -58,11 +59,11 @@ module _ (g : Graph) (sc : List ℕ) (o : Ordered g sc) where
   here p e = rw e (stands-admitted g sc (o .admitted))
 
   same-N : (p : Progress) → p .graph ≡ stands g sc → p .graph .N ≡ g .N
-  unfolding stands
+  unfolding stands turnedBy
   same-N p e = ap (λ (x : Graph). x .N) e
 
   same-node : (p : Progress) → p .graph ≡ stands g sc → (v : ℕ) → node (p .graph) v ≡ node g v
-  unfolding stands
+  unfolding stands turnedBy
   same-node p e v = ap (λ (x : Graph). x .I + 1 + v) e
 
   -- a step whose graph is h, once it is said of the state's graph

@@ -12,19 +12,22 @@ use Rattle.graph.specs.Admission.{Admitted}
 use Rattle.graph.specs.Count.{named, outputNamed}
 use Rattle.graph.specs.Finite.{sum}
 use Rattle.graph.specs.Graph.{Graph, mark, node, word, output, isEdge}
+use Rattle.graph.specs.Turned.{turnedBy, only, never}
+use Rattle.graph.proofs.Alike.{Alike, alike-admitted, alike-edge, alike-named, alike-outNamed, alike-readers}
 use Rattle.graph.proofs.Cases.{eq-or-ne}
 use Rattle.graph.proofs.Finite.{sum-same, sum-but-one, sum-le}
 use Rattle.graph.proofs.Turn.{turn-bit}
+use Rattle.graph.proofs.Turned.{Sparing, by-word, by-out, by-alike, only-at, only-off, only-sparing}
 use Rattle.moves.specs.Cost.{shown}
 use Rattle.moves.specs.Tree.{isRoot, place}
 use Rattle.moves.proofs.Count.{clash}
 use Rattle.moves.proofs.Readers.{names}
 use Rattle.moves.proofs.Shown.{shown-both}
 use Rattle.state.specs.State.{field, stands, Ordered}
-use Rattle.state.specs.Step.{wordTurned, readersTurned, TreesKept}
-use Rattle.state.proofs.Alike.{Alike, alike-admitted, alike-edge, alike-named, alike-outNamed, alike-readers, alike-isRoot, alike-place, alike-linked}
-use Rattle.state.proofs.Turned.{turnedBy, Sparing, by-word, by-out, by-alike, only, only-at, only-off, never, word-by, only-sparing, readTurns, outputReadTurns, readers-by, readTurns-at, outputReadTurns-at, readers-sparing}
-use Rattle.state.proofs.Stands.{stands-alike, stands-admitted, word-alike, stands-wordTurned, Flipped, stands-readersTurned}
+use Rattle.state.specs.Step.{wordTurned, readTurns, outputReadTurns, readersTurned, TreesKept}
+use Rattle.state.proofs.Alike.{alike-isRoot, alike-place, alike-linked}
+use Rattle.state.proofs.Turned.{readTurns-at, outputReadTurns-at, readers-sparing}
+use Rattle.state.proofs.Stands.{itself, stands-alike, stands-admitted, word-alike, stands-wordTurned, Flipped, stands-readersTurned}
 
 cond-le : (b : Bool) (x : ℕ) → x ≤ 1 → cond b x 0 ≤ 1
 cond-le true x h = h
@@ -62,7 +65,7 @@ module _ (h : Graph) (adm : Admitted h) (j f : ℕ) (l : j < 3 * h .N) (e : isEd
   pub shown-word : shown (wordTurned h j f) u 0 + cond (named h u j) ((word h j + 0) % 2) 0 ≡ shown h u 0 + cond (named h u j) ((word h j + f) % 2) 0
   unfolding shown
   shown-word =
-      let a = ap (λ x. shown x u 0) (word-by h j f) ∙ shown-by h (only j f) never adm (only-sparing h j f l e) u in
+      let a = shown-by h (only j f) never adm (only-sparing h j f l e) u in
       let b =
       sum-but-one (3 * h .N) (λ i. cond (named h u i) ((word h i + only j f i) % 2) 0) (λ i. cond (named h u i) ((word h i + 0) % 2) 0) j l
       (λ i p q. rw (only-off j f i q)) in
@@ -79,7 +82,7 @@ module _ (h : Graph) (adm : Admitted h) (u : ℕ) where
       let os =
       sum-same (h .O) (λ j. cond (outputNamed h u j) ((output h j + outputReadTurns h u 1 j) % 2) 0) (λ j. cond (outputNamed h u j) ((output h j + 1) % 2) 0)
       (λ j l. rw (outputReadTurns-at h u 1 j l) (both (outputNamed h u j) (output h j))) in
-      omega (arith, ap (λ x. shown x u 0) (readers-by h u 1), shown-by h (readTurns h u 1) (outputReadTurns h u 1) adm (readers-sparing h u 1) u, ns, os)
+      omega (arith, shown-by h (readTurns h u 1) (outputReadTurns h u 1) adm (readers-sparing h u 1) u, ns, os)
     where
       both : (b : Bool) (x : ℕ) → cond b ((x + cond b 1 0) % 2) 0 ≡ cond b ((x + 1) % 2) 0
       both true x = refl
@@ -111,7 +114,7 @@ module _ (h : Graph) (adm : Admitted h) (u : ℕ) where
         let os =
         sum-same (h .O) (λ j. cond (outputNamed h w j) ((output h j + outputReadTurns h u 1 j) % 2) 0) (λ j. cond (outputNamed h w j) ((output h j + 0) % 2) 0)
         (λ j l. rw (outputReadTurns-at h u 1 j l) (apart (outputNamed h w j) (outputNamed h u j) (output h j) (outputNamed-apart j))) in
-        omega (arith, ap (λ x. shown x w 0) (readers-by h u 1), shown-by h (readTurns h u 1) (outputReadTurns h u 1) adm (readers-sparing h u 1) w, ns, os)
+        omega (arith, shown-by h (readTurns h u 1) (outputReadTurns h u 1) adm (readers-sparing h u 1) w, ns, os)
 
 -- the state stays in order
 module _ (g : Graph) (sc : List ℕ) (o : Ordered g sc) where
@@ -133,7 +136,7 @@ module _ (g : Graph) (sc : List ℕ) (o : Ordered g sc) where
 
   -- the counts of the nodes, all of them few
   pub odd-le : (v : ℕ) → v < g .N → field sc v 1 ≤ 304096
-  unfolding stands
+  unfolding stands turnedBy
   odd-le v l = omega (arith, o .odd v l, shown-le (stands g sc) (node g v) 0, o .admitted .few-nodes, o .admitted .few-outputs)
 
   pub odd-reads : (v : ℕ) → v < g .N → field sc v 1 ≤ field sc v 0
@@ -174,9 +177,6 @@ module _ (g : Graph) (sc : List ℕ) (o : Ordered g sc) where
 
     pub ordered-readers : Ordered g sc′
     ordered-readers =
-        ordered-by g sc′ itself k
+        ordered-by g sc′ (itself g) k
         (λ w p. odd-readers w p ∙ ap (λ x. shown x (node g w) 0) (sym (stands-readersTurned g (o .admitted) v 1 l sc sc′ flip)))
         (λ w p. ⊎-elim (λ (e : w ≡ v). rw e low) (λ (e : w ≢ v). rw (flip .elsewhere w e) (o .pending w p)) (eq-or-ne w v))
-      where
-        itself : Alike g g
-        itself = record { same-I = refl; same-N = refl; same-O = refl; same-nodes = refl; same-outputs = refl; wired = λ j. refl; out-wired = λ j. refl; marked = λ j. refl }

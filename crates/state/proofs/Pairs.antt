@@ -27,7 +27,7 @@ use Rattle.moves.proofs.Moves.{arity-pos, moves-pos, node-row}
 use Rattle.state.specs.State.{stands, Ordered}
 use Rattle.state.specs.Step.{Made}
 use Rattle.state.proofs.Alike.{Alike, alike-movesAt, alike-isNode}
-use Rattle.state.proofs.Turned.{apply-alike}
+use Rattle.moves.proofs.Apply.{apply-alike}
 use Rattle.state.proofs.Stands.{stands-alike, stands-admitted}
 use Rattle.state.proofs.Stores.{kept-same, kept-then}
 use Rattle.state.proofs.Made.{became-alike}

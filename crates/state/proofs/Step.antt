@@ -5,22 +5,24 @@ use mathlib.Core.Bool.{true, false, cond}
 use mathlib.Core.Logic.{⊎-elim, _≢_}
 use Prim.Native.Nat.{ℕ, zero, suc, _+_, _*_, _/_, _%_, _≤_, _<_}
 use native.Mathlib.Omega.{arith}
-use borrow.Author.Tests.{le-ltb, eq-eqb, ne-eqb, eqb-true, not-false}
+use borrow.Author.Tests.{le-ltb, eq-eqb, ne-eqb}
 use lib.Dec.{eqb}
 use Rattle.graph.specs.Admission.{Admitted}
 use Rattle.graph.specs.Count.{named, outputNamed}
 use Rattle.graph.specs.Finite.{ifLess}
-use Rattle.graph.specs.Graph.{Graph, mark, node, word, output, isEdge, isXor}
+use Rattle.graph.specs.Graph.{Graph, node, word, output, isEdge, isXor}
+use Rattle.graph.specs.Turned.{turnedBy, only, never}
+use Rattle.graph.proofs.Alike.{Alike, alike-then, alike-edge, alike-admitted}
 use Rattle.graph.proofs.Cases.{lt-or-le, eq-or-ne, true-or-false}
+use Rattle.graph.proofs.Edge.{edge-none}
+use Rattle.graph.proofs.Turned.{by-by, by-same, only-at, only-off}
 use Rattle.moves.specs.Rows.{rows, firstRow, arity, flag}
 use Rattle.moves.specs.Apply.{Choice, none, at, own, seen, turns, outputTurns, apply}
-use Rattle.moves.proofs.Apply.{turns-edge, turns-mark, turns-past, outputTurns-at, outputTurns-past}
+use Rattle.moves.proofs.Apply.{apply-by, turns-edge, turns-mark, turns-past, outputTurns-at, outputTurns-past}
 use Rattle.moves.proofs.Compose.{seen-node}
 use Rattle.moves.proofs.Changed.{at-same, seen-other, seen-none, own-other, own-none, own-at}
-use Rattle.moves.proofs.Readers.{both-true}
-use Rattle.state.specs.Step.{wordTurned, readersTurned}
-use Rattle.state.proofs.Alike.{Alike, alike-then, alike-edge, alike-admitted}
-use Rattle.state.proofs.Turned.{turnedBy, by-by, by-same, apply-by, only, only-is, only-off, never, word-by, readTurns, outputReadTurns, readers-by, readTurns-at, outputReadTurns-at, readTurns-alike, outputReadTurns-alike, readers-sparing}
+use Rattle.state.specs.Step.{wordTurned, readTurns, outputReadTurns, readersTurned}
+use Rattle.state.proofs.Turned.{readTurns-at, outputReadTurns-at, readTurns-alike, outputReadTurns-alike, readers-sparing}
 use Rattle.state.proofs.Stands.{word-alike}
 
 -- an XOR's moves leave its third word
@@ -34,11 +36,11 @@ flag-third (suc (suc (suc (suc m)))) = rw (le-ltb (suc (suc (suc (suc m)))) 4 (o
 
 -- a word that is no edge is the third of an XOR
 mark-xor : (g : Graph) (v k : ℕ) → k < 3 → isEdge g (3 * v + k) ≡ false → (k ≡ 2) × (isXor g v ≡ true)
-unfolding isEdge isXor
+unfolding isXor
 mark-xor g v k h e =
-    let b = both-true (eqb ((3 * v + k) % 3) 2) (eqb (word g (3 * v + k)) mark) (not-false _ e) in
-    let q : k ≡ 2 = omega (arith, eqb-true ((3 * v + k) % 3) 2 (b .0)) in
-    (q, ap (λ i. eqb (word g (3 * v + i)) mark) (sym q) ∙ b .1)
+    let b = edge-none g (3 * v + k) e in
+    let q : k ≡ 2 = omega (arith, b .0) in
+    (q, eq-eqb _ _ (ap (λ i. word g (3 * v + i)) (sym q) ∙ b .1))
 
 -- which no move turns
 pub mark-still : (g : Graph) (v k m : ℕ) → k < 3 → isEdge g (3 * v + k) ≡ false → flag (isXor g v) m k ≡ 0
@@ -65,9 +67,11 @@ module _ (h : Graph) (adm : Admitted h) (v m : ℕ) (l : v < h .N) where
       )
 
   here : (k i : ℕ) → k < 3 → i ≡ 3 * v + k → mine i ≡ f k
-  here zero i p e = omega (arith, only-is (3 * v) (f 0) i (omega arith), only-off (3 * v + 1) (f 1) i (omega arith), only-off (3 * v + 2) (f 2) i (omega arith))
-  here (suc zero) i p e = omega (arith, only-is (3 * v + 1) (f 1) i (omega arith), only-off (3 * v) (f 0) i (omega arith), only-off (3 * v + 2) (f 2) i (omega arith))
-  here (suc (suc zero)) i p e = omega (arith, only-is (3 * v + 2) (f 2) i (omega arith), only-off (3 * v) (f 0) i (omega arith), only-off (3 * v + 1) (f 1) i (omega arith))
+  here zero i p e =
+      let q : i ≡ 3 * v = omega arith in
+      rw q (omega (arith, only-at (3 * v) (f 0), only-off (3 * v + 1) (f 1) (3 * v) (omega arith), only-off (3 * v + 2) (f 2) (3 * v) (omega arith)))
+  here (suc zero) i p e = rw e (omega (arith, only-at (3 * v + 1) (f 1), only-off (3 * v) (f 0) (3 * v + 1) (omega arith), only-off (3 * v + 2) (f 2) (3 * v + 1) (omega arith)))
+  here (suc (suc zero)) i p e = rw e (omega (arith, only-at (3 * v + 2) (f 2), only-off (3 * v) (f 0) (3 * v + 2) (omega arith), only-off (3 * v + 1) (f 1) (3 * v + 2) (omega arith)))
   here (suc (suc (suc k))) i p e = absurd (omega arith)
 
   own-is : (i : ℕ) → own h choice i ≡ mine i
@@ -141,14 +145,12 @@ module _ (h : Graph) (adm : Admitted h) (v m : ℕ) (l : v < h .N) where
 
   three-by : three ≡ turnedBy h mine (λ i. 0 + 0 + 0)
   three-by =
-      word-by two (3 * v + 2) (f 2) ∙
-      ap (λ x. turnedBy x (only (3 * v + 2) (f 2)) never) (word-by one (3 * v + 1) (f 1) ∙ ap (λ x. turnedBy x (only (3 * v + 1) (f 1)) never) (word-by h (3 * v) (f 0)) ∙ by-by h (only (3 * v) (f 0)) never (only (3 * v + 1) (f 1)) never) ∙
+      ap (λ x. turnedBy x (only (3 * v + 2) (f 2)) never) (by-by h (only (3 * v) (f 0)) never (only (3 * v + 1) (f 1)) never) ∙
       by-by h (λ i. only (3 * v) (f 0) i + only (3 * v + 1) (f 1) i) (λ i. 0 + 0) (only (3 * v + 2) (f 2)) never
 
   pub step : readersTurned three (node h v) (f 3) ≡ apply h choice
   step =
       let u : ℕ = node h v in
-      readers-by three u (f 3) ∙
       ap (λ x. turnedBy x (readTurns three u (f 3)) (outputReadTurns three u (f 3))) three-by ∙
       by-by h mine (λ i. 0 + 0 + 0) (readTurns three u (f 3)) (outputReadTurns three u (f 3)) ∙
       by-same h _ _ (turns h choice) (outputTurns h choice)

@@ -8,17 +8,18 @@ use Prim.Native.Nat.{ℕ, _+_, _-_, _*_, _/_, _%_, _≤_, _<_}
 use native.Mathlib.Omega.{arith}
 use borrow.Author.Tests.{eq-eqb, ne-eqb}
 use lib.Dec.{eqb}
-use lib.Seq.{getD-set-same, getD-set-other, set-getD}
+use lib.Seq.{getD-set-same, getD-set-other}
 use lib.ListN.{length, set, length-set}
 use Rattle.graph.specs.Count.{named}
-use Rattle.graph.specs.Graph.{Graph, graphOf, node, word, isEdge, turn}
+use Rattle.graph.specs.Graph.{Graph, graphOf, node, word, isEdge}
+use Rattle.graph.specs.Turned.{turnedTable, never, only}
+use Rattle.graph.proofs.Alike.{alike-named, alike-edge}
 use Rattle.graph.proofs.Cases.{eq-or-ne}
-use Rattle.graph.proofs.Turn.{turn-zero}
+use Rattle.graph.proofs.Turned.{turned-both, turned-never, by-never, only-zero}
 use Rattle.moves.proofs.Count.{clash}
 use Rattle.state.specs.State.{field, stands, Ordered}
 use Rattle.state.specs.Step.{wordTurned, readersTurned, TreesKept, Became}
 use Rattle.state.proofs.Turned.{readersTurned-zero}
-use Rattle.state.proofs.Alike.{alike-named, alike-edge}
 use Rattle.state.proofs.Stands.{stands-alike, stands-admitted, stands-wordTurned, Flipped, stands-readersTurned}
 use Rattle.state.proofs.Order.{ordered-word, ordered-readers, shown-word}
 
@@ -45,24 +46,16 @@ kept-stored sc w k x d =
           (inr (⊎-elim (λ (e : k ≡ 1) (z : f ≡ k). q (z ∙ e)) (λ (e : k ≡ 2) (z : f ≡ k). r (z ∙ e)) d));
     }
 
--- a word turned is one store
-stored-is : (g : Graph) (j f y : ℕ) → y ≡ turn f (word g j) → wordTurned g j f ≡ graphOf (g .I) (g .N) (g .O) (set (g .nodes) j y) (g .outputs)
-unfolding wordTurned
-stored-is g j f y e = rw e
-
--- no turn
-pub wordTurned-zero : (g : Graph) (j : ℕ) → wordTurned g j 0 ≡ g
-unfolding wordTurned
-wordTurned-zero g j =
-    let e : set (g .nodes) j (turn 0 (word g j)) ≡ g .nodes = rw (turn-zero (word g j)) (set-getD (g .nodes) j 0) in
-    λ i. record { I = g .I; N = g .N; O = g .O; nodes = e i; outputs = g .outputs }
+-- a word turned in the node table
+stored-is : (g : Graph) (j f : ℕ) (ns : List ℕ) → ns ≡ turnedTable (g .nodes) (only j f) → wordTurned g j f ≡ graphOf (g .I) (g .N) (g .O) ns (g .outputs)
+stored-is g j f ns e = sym (turned-both g (only j f) never ns (g .outputs) e (sym (turned-never (g .outputs) never (λ i. refl))))
 
 module _ (g : Graph) (sc : List ℕ) (o : Ordered g sc) where
   pub names-low : (j : ℕ) → j < 3 * g .N → isEdge g j ≡ true → word g j / 2 < node g (g .N)
   names-low j l e = omega (arith, o .admitted .below j l e)
 
   pub word-still : (j : ℕ) → Became sc g sc (wordTurned (stands g sc) j 0)
-  word-still j = record { ordered = o; stands-for = sym (wordTurned-zero (stands g sc) j); kept = kept-same sc }
+  word-still j = record { ordered = o; stands-for = sym (by-never (stands g sc) (only j 0) never (only-zero j) (λ i. refl)); kept = kept-same sc }
 
   pub readers-still : (u : ℕ) → Became sc g sc (readersTurned (stands g sc) u 0)
   readers-still u = record { ordered = o; stands-for = sym (readersTurned-zero (stands g sc) u); kept = kept-same sc }
@@ -86,18 +79,19 @@ module _ (g : Graph) (sc : List ℕ) (o : Ordered g sc) where
         let s = shown-word (stands g sc) (stands-admitted g sc (o .admitted)) j 1 (rw (a .same-N) l) (λ z. edge (sym (alike-edge g (stands g sc) a j) ∙ z)) (node g v) in
         omega (arith, rw n at s, o .odd v p)
 
+    -- as the table has it
+    pub word-stored : (sc′ ns : List ℕ) → ns ≡ turnedTable (g .nodes) (only j 1) → Became sc (wordTurned g j 1) sc′ (wordTurned (stands g sc) j 1)
+        → Became sc (graphOf (g .I) (g .N) (g .O) ns (g .outputs)) sc′ (wordTurned (stands g sc) j 1)
+    word-stored sc′ ns t b = subst (λ k. Became sc k sc′ (wordTurned (stands g sc) j 1)) (stored-is g j 1 ns t) b
+
     -- it names no node: no count changes
-    word-low : word g j / 2 ≤ g .I → Became sc (wordTurned g j 1) sc (wordTurned (stands g sc) j 1)
+    pub word-low : word g j / 2 ≤ g .I → Became sc (wordTurned g j 1) sc (wordTurned (stands g sc) j 1)
     word-low h =
         record {
           ordered = ordered-word g sc o j l e sc (kept-same sc) (λ v. refl) (λ v p. rw (named-is v, ne-eqb (word g j / 2) (node g v) (omega arith)));
           stands-for = stands-wordTurned g (o .admitted) j 1 l edge sc sc (λ v. refl);
           kept = kept-same sc;
         }
-
-    pub word-low-stored : (y : ℕ) → y ≡ turn 1 (word g j) → word g j / 2 ≤ g .I
-        → Became sc (graphOf (g .I) (g .N) (g .O) (set (g .nodes) j y) (g .outputs)) sc (wordTurned (stands g sc) j 1)
-    word-low-stored y t h = subst (λ k. Became sc k sc (wordTurned (stands g sc) j 1)) (stored-is g j 1 y t) (word-low h)
 
     -- it names node w: that node's count changes by one
     module _ (w x : ℕ) (p : w < g .N) (q : word g j / 2 ≡ node g w) (c : x + b ≡ field sc w 1 + (1 - b)) where
@@ -115,17 +109,13 @@ module _ (g : Graph) (sc : List ℕ) (o : Ordered g sc) where
           (λ (z : v ≢ w). rw (ne-eqb (word g j / 2) (node g v) (λ y. z (omega arith)), field-kept sc w 1 x v 1 (omega arith) (omega arith) (inl z)))
           (eq-or-ne v w))
 
-      word-high : Became sc (wordTurned g j 1) after (wordTurned (stands g sc) j 1)
+      pub word-high : Became sc (wordTurned g j 1) after (wordTurned (stands g sc) j 1)
       word-high =
           record {
             ordered = ordered-word g sc o j l e after (kept-stored sc w 1 x (inl refl)) still-pending counts;
             stands-for = stands-wordTurned g (o .admitted) j 1 l edge sc after still-pending;
             kept = kept-stored sc w 1 x (inl refl);
           }
-
-      pub word-high-stored : (y : ℕ) → y ≡ turn 1 (word g j)
-          → Became sc (graphOf (g .I) (g .N) (g .O) (set (g .nodes) j y) (g .outputs)) after (wordTurned (stands g sc) j 1)
-      word-high-stored y t = subst (λ k. Became sc k after (wordTurned (stands g sc) j 1)) (stored-is g j 1 y t) word-high
 
   -- all readers of node v turned: the count becomes that of the others, and the pending bit its opposite
   module _ (v x y : ℕ) (l : v < g .N) (c : x + field sc v 1 ≡ field sc v 0) (d : y + field sc v 2 ≡ 1) where

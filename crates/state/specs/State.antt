@@ -5,14 +5,13 @@ use mathlib.Core.Bool.{true, cond}
 use mathlib.Core.Logic.{_≢_}
 use mathlib.Core.List.{List}
 use Prim.Native.Nat.{ℕ, _+_, _-_, _*_, _≤_, _<_}
-use lib.Dec.{ltb}
 use lib.ListN.{length, getD}
-use Rattle.graph.specs.Finite.{tab}
-use Rattle.graph.specs.Graph.{Graph, node, word, output, index, turn, mark, isEdge}
+use Rattle.graph.specs.Finite.{ifLess}
+use Rattle.graph.specs.Graph.{Graph, node, index, mark}
+use Rattle.graph.specs.Turned.{turnedBy, upTo}
 use Rattle.graph.specs.Count.{readers}
 use Rattle.graph.specs.Admission.{Admitted}
 use Rattle.moves.specs.Tree.{isRoot, place, rootOf}
-use Rattle.moves.specs.Call.{isNode}
 use Rattle.moves.specs.Cost.{shown}
 
 -- field f of node v:
@@ -22,27 +21,24 @@ use Rattle.moves.specs.Cost.{shown}
 abbrev pub field : List ℕ → ℕ → ℕ → ℕ
 field sc v f = getD sc (8 * v + f) 0
 
--- whether a turn of the readers of index u is pending
-unfoldable pub pendingAt : Graph → List ℕ → ℕ → ℕ
-pendingAt g sc u = cond (isNode g u) (field sc (u - (g .I + 1)) 2) 0
+-- whether a turn of the readers of index u is pending, of a graph with i inputs and n nodes
+unfoldable pub pendingAt : ℕ → ℕ → List ℕ → ℕ → ℕ
+pendingAt i n sc u = ifLess i u (ifLess u (i + 1 + n) (field sc (u - (i + 1)) 2) 0) 0
 
--- how often the word at a place of either table has yet to be turned
+-- how often word j of the table l has yet to be turned; the mark names no node
+abbrev pub dueIn : ℕ → ℕ → List ℕ → List ℕ → ℕ → ℕ
+dueIn i n sc l j = pendingAt i n sc (index (getD l j 0))
+
+-- the same for a graph's tables
 unfoldable pub due : Graph → List ℕ → ℕ → ℕ
-due g sc j = cond (ltb j (3 * g .N)) (cond (isEdge g j) (pendingAt g sc (index (word g j))) 0) 0
+due g sc = upTo (3 * g .N) (dueIn (g .I) (g .N) sc (g .nodes))
 
 unfoldable pub outputDue : Graph → List ℕ → ℕ → ℕ
-outputDue g sc j = cond (ltb j (g .O)) (pendingAt g sc (index (output g j))) 0
+outputDue g sc = upTo (g .O) (dueIn (g .I) (g .N) sc (g .outputs))
 
 -- the graph that the tables and scratch stand for
 unfoldable pub stands : Graph → List ℕ → Graph
-stands g sc =
-    record {
-      I = g .I;
-      N = g .N;
-      O = g .O;
-      nodes = tab (length (g .nodes)) (λ j. turn (due g sc j) (word g j));
-      outputs = tab (length (g .outputs)) (λ j. turn (outputDue g sc j) (output g j));
-    }
+stands g sc = turnedBy g (due g sc) (outputDue g sc)
 
 -- v and w are nodes of one tree, and none of its nodes is between them
 pub record Neighbours (g : Graph) (v w : ℕ) : Type 0 where

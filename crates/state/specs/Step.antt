@@ -4,34 +4,26 @@ use mathlib.Core.Bool.{cond}
 use mathlib.Core.Logic.{_≢_}
 use mathlib.Core.List.{List}
 use Prim.Native.Nat.{ℕ, _*_, _<_}
-use lib.Dec.{ltb}
-use lib.ListN.{length, set}
-use Rattle.graph.specs.Finite.{tab}
-use Rattle.graph.specs.Graph.{Graph, word, output, turn}
+use lib.ListN.{length}
+use Rattle.graph.specs.Graph.{Graph}
 use Rattle.graph.specs.Count.{C, named, outputNamed}
+use Rattle.graph.specs.Turned.{turnedBy, upTo, only, never}
 use Rattle.state.specs.State.{field, stands, Ordered}
 
 -- g, the word at place j of its node table turned f times
-unfoldable pub wordTurned : Graph → ℕ → ℕ → Graph
-wordTurned g j f =
-    record {
-      I = g .I;
-      N = g .N;
-      O = g .O;
-      nodes = set (g .nodes) j (turn f (word g j));
-      outputs = g .outputs;
-    }
+abbrev pub wordTurned : Graph → ℕ → ℕ → Graph
+wordTurned g j f = turnedBy g (only j f) never
+
+-- how often a word is turned when every reader of index u is turned f times
+unfoldable pub readTurns : Graph → ℕ → ℕ → ℕ → ℕ
+readTurns g u f = upTo (3 * g .N) (λ j. cond (named g u j) f 0)
+
+unfoldable pub outputReadTurns : Graph → ℕ → ℕ → ℕ → ℕ
+outputReadTurns g u f = upTo (g .O) (λ j. cond (outputNamed g u j) f 0)
 
 -- g, every reader of index u turned f times
-unfoldable pub readersTurned : Graph → ℕ → ℕ → Graph
-readersTurned g u f =
-    record {
-      I = g .I;
-      N = g .N;
-      O = g .O;
-      nodes = tab (length (g .nodes)) (λ j. turn (cond (ltb j (3 * g .N)) (cond (named g u j) f 0) 0) (word g j));
-      outputs = tab (length (g .outputs)) (λ j. turn (cond (ltb j (g .O)) (cond (outputNamed g u j) f 0) 0) (output g j));
-    }
+abbrev pub readersTurned : Graph → ℕ → ℕ → Graph
+readersTurned g u f = turnedBy g (readTurns g u f) (outputReadTurns g u f)
 
 -- scratch after, as before but for the counts of complemented readers and the pending turns
 pub record TreesKept (before after : List ℕ) : Type 0 where

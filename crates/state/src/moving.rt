@@ -12,6 +12,7 @@ ghost use Rattle.state.specs.State.{stands, Ordered};
 ghost use Rattle.state.specs.Step.{Made};
 use crate::now;
 use crate::turning;
+use graph::table;
 use moves::decide;
 use moves::decide::NodeNumbers;
 use moves::decide::PairMoves;
@@ -177,7 +178,7 @@ pub fn pair_step(
     ensures { λ r. ⌜ Made (now (scratch .entry)) (graphOf inputs nodes outputs (now («node_table» .exit)) (now («output_table» .entry))) (now (scratch .exit)) (pairRewrite (stands (graphOf inputs nodes outputs (now («node_table» .entry)) (now («output_table» .entry))) (now (scratch .entry))) (inputs + 1 + v) k .graph) r ⌝ }
 {
     let at = 3 * v + (k - 1);
-    let u = node_table[at] / 2;
+    let u = table::index_at(node_table, at);
     if u <= inputs {
         return count;
     }

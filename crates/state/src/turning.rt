@@ -8,7 +8,7 @@ ghost use Rattle.moves.specs.Apply.{none, at, apply};
 ghost use Rattle.state.specs.State.{stands, Ordered};
 ghost use Rattle.state.specs.Step.{wordTurned, readersTurned, Became};
 use crate::now;
-use graph::literal;
+use graph::table;
 use moves::rows;
 
 // How many of d complemented readers are left once a reader with the bit b has been turned.
@@ -36,8 +36,8 @@ pub fn turn_word(
     ensures { λ _. ⌜ Became (now (scratch .entry)) (graphOf inputs nodes outputs (now («node_table» .exit)) (now («output_table» .entry))) (now (scratch .exit)) (wordTurned (stands (graphOf inputs nodes outputs (now («node_table» .entry)) (now («output_table» .entry))) (now (scratch .entry))) j 1) ⌝ }
 {
     let shown = now::word_now(inputs, nodes, outputs, node_table, output_table, j, scratch);
-    let x = node_table[j];
-    node_table[j] = literal::turned(1, x);
+    let x = table::word_at(node_table, j);
+    table::turn_word(node_table, j, 1);
     let u = x / 2;
     if u <= inputs {
         return;

@@ -1,44 +1,34 @@
-// What is pending, written out: one sweep of each table.
+// What is pending, written out: one sweep of each table, which stores only where something turns.
 ghost use mathlib.Core.Path.{_≡_};
+ghost use Prim.Native.Nat.{_≤_, _<_};
+ghost use lib.ListN.{length};
 ghost use Rattle.graph.specs.Graph.{graphOf};
-ghost use Rattle.graph.specs.Admission.{Admitted};
-ghost use Rattle.state.specs.State.{stands, Pendings, Ordered};
+ghost use Rattle.graph.specs.Turned.{turnedTable, only, upTo};
+ghost use Rattle.state.specs.State.{dueIn, stands, Pendings, Ordered};
 use crate::now;
+use graph::table;
 
-pub fn write_nodes(
-    inputs: u32,
-    nodes: u32,
-    outputs: u32,
-    node_table: &mut [u32],
-    output_table: &[u32],
-    scratch: &[u32],
-)
-    requires { ⌜ Admitted (graphOf inputs nodes outputs (now «node_table») (now «output_table»)) × Pendings inputs nodes (now scratch) ⌝ }
-    ensures { λ _. ⌜ now («node_table» .exit) ≡ stands (graphOf inputs nodes outputs (now («node_table» .entry)) (now («output_table» .entry))) (now (scratch .entry)) .nodes ⌝ }
+// The word at place j of a table.
+pub fn write_word(inputs: u32, nodes: u32, words: &mut [u32], j: usize, scratch: &[u32])
+    requires { ⌜ Pendings inputs nodes (now scratch) × (j < length (now words)) ⌝ }
+    ensures { λ _. ⌜ now (words .exit) ≡ turnedTable (now (words .entry)) (only j (dueIn inputs nodes (now (scratch .entry)) (now (words .entry)) j)) ⌝ }
 {
-    let end = 3 * nodes as usize;
-    let mut j: usize = 0;
-    while j < end {
-        node_table[j] = now::entry_now(inputs, nodes, j, node_table[j], scratch);
-        j += 1;
+    let u = table::index_at(words, j);
+    let t = now::pending_of(inputs, nodes, u, scratch);
+    if t == 0 {
+        return;
     }
+    table::turn_word(words, j, t);
 }
 
-pub fn write_outputs(
-    inputs: u32,
-    nodes: u32,
-    outputs: u32,
-    node_table: &[u32],
-    output_table: &mut [u32],
-    scratch: &[u32],
-)
-    requires { ⌜ Admitted (graphOf inputs nodes outputs (now «node_table») (now «output_table»)) × Pendings inputs nodes (now scratch) ⌝ }
-    ensures { λ _. ⌜ now («output_table» .exit) ≡ stands (graphOf inputs nodes outputs (now («node_table» .entry)) (now («output_table» .entry))) (now (scratch .entry)) .outputs ⌝ }
+// The first `count` words of a table.
+pub fn write_words(inputs: u32, nodes: u32, words: &mut [u32], count: usize, scratch: &[u32])
+    requires { ⌜ Pendings inputs nodes (now scratch) × (count ≤ length (now words)) ⌝ }
+    ensures { λ _. ⌜ now (words .exit) ≡ turnedTable (now (words .entry)) (upTo count (dueIn inputs nodes (now (scratch .entry)) (now (words .entry)))) ⌝ }
 {
-    let mut j: u32 = 0;
-    while j < outputs {
-        let at = j as usize;
-        output_table[at] = now::literal_now(inputs, nodes, output_table[at], scratch);
+    let mut j: usize = 0;
+    while j < count {
+        write_word(inputs, nodes, words, j, scratch);
         j += 1;
     }
 }
@@ -55,6 +45,7 @@ pub fn write_out(
     requires { ⌜ Ordered (graphOf inputs nodes outputs (now «node_table») (now «output_table»)) (now scratch) ⌝ }
     ensures { λ _. ⌜ graphOf inputs nodes outputs (now («node_table» .exit)) (now («output_table» .exit)) ≡ stands (graphOf inputs nodes outputs (now («node_table» .entry)) (now («output_table» .entry))) (now (scratch .entry)) ⌝ }
 {
-    write_nodes(inputs, nodes, outputs, node_table, output_table, scratch);
-    write_outputs(inputs, nodes, outputs, node_table, output_table, scratch);
+    let end = 3 * nodes as usize;
+    write_words(inputs, nodes, node_table, end, scratch);
+    write_words(inputs, nodes, output_table, outputs as usize, scratch);
 }

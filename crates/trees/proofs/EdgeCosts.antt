@@ -10,6 +10,7 @@ use lib.Dec.{eqb}
 use Rattle.graph.specs.Count.{edgeAdds}
 use Rattle.graph.specs.Finite.{ifEqual}
 use Rattle.graph.specs.Graph.{Graph, mark, node, word, isEdge, isXor}
+use Rattle.graph.specs.Turned.{turnedBy}
 use Rattle.moves.specs.Cost.{edgeCost, turnedCost, wordCosts, bitCost}
 use Rattle.choice.specs.Choice.{FirstBelow}
 use Rattle.moves.specs.Rows.{movesAt}
@@ -60,7 +61,7 @@ module _ (t : ℕ → Bool) (c : ℕ → ℕ → ℕ) (j x f : ℕ) where
 -- a word of the graph that the state stands for
 pub number-fits : (g : Graph) (sc : List ℕ) → Ordered g sc → (j x : ℕ) → j < 3 * g .N → x ≡ word (stands g sc) j
     → not (eqb (j % 3) 2 && eqb x mark) ≡ true → x / 2 < g .I + 1 + g .N
-unfolding isEdge stands
+unfolding isEdge stands turnedBy
 number-fits g sc o j x h e t =
     let a = stands-admitted g sc (o .admitted) in
     let b = a .below j h (rw (← e) t) in

@@ -6,55 +6,42 @@ use mathlib.Core.List.{List}
 use mathlib.Core.Logic.{⊎-elim, _≢_}
 use Prim.Native.Nat.{ℕ, zero, suc, _+_, _-_, _*_, _/_, _%_, _≤_, _<_}
 use native.Mathlib.Omega.{arith}
-use borrow.Author.Tests.{eq-eqb, ne-eqb, ltb-true}
-use lib.Dec.{eqb, ltb}
-use lib.Seq.{ext-getD}
+use borrow.Author.Tests.{eq-eqb, ne-eqb}
+use lib.Dec.{eqb}
 use lib.ListN.{length, getD}
 use Rattle.graph.specs.Finite.{ifEqual, sum}
 use Rattle.graph.specs.Graph.{Graph, mark, node, word, output}
 use Rattle.graph.specs.Count.{named, readers}
 use Rattle.graph.specs.Admission.{Admitted}
-use Rattle.graph.proofs.Cases.{true-or-false, eq-or-ne, cond-same}
-use Rattle.graph.proofs.Finite.{sum-le, length-tab, getD-tab}
-use Rattle.graph.proofs.Turn.{turn-zero}
+use Rattle.graph.proofs.Cases.{true-or-false, lt-or-le, eq-or-ne}
+use Rattle.graph.proofs.Finite.{sum-le}
+use Rattle.graph.proofs.Turned.{by-never, upTo-zero}
 use Rattle.moves.specs.Tree.{last, isRoot, place}
-use Rattle.moves.specs.Call.{isNode}
 use Rattle.moves.specs.Cost.{shown}
 use Rattle.moves.specs.Decide.{Read}
-use Rattle.moves.proofs.Compose.{same-graph}
-use Rattle.moves.proofs.Readers.{both-true}
 use Rattle.moves.proofs.Tally.{names-by, read-is, if-bit}
 use Rattle.state.specs.State.{field, pendingAt, due, outputDue, stands, Ordered}
+use Rattle.state.proofs.Stands.{pending-low, pending-high, pending-node}
 use Rattle.trees.specs.Filling.{Cleared, Noting, Notes, GatheredTo, onlyPlace}
 use Rattle.trees.specs.Linking.{Rising, LowKept, Linking}
 use Rattle.trees.proofs.LinkSteps.{linking-all, placed-rising}
 
 -- nothing pending: the graph itself
 module _ (g : Graph) (sc : List ℕ) (still : (v : ℕ) → v < g .N → field sc v 2 ≡ 0) where
-  none-pending : (u : ℕ) → pendingAt g sc u ≡ 0
-  unfolding pendingAt isNode
+  none-pending : (u : ℕ) → pendingAt (g .I) (g .N) sc u ≡ 0
   none-pending u =
       ⊎-elim
-      (λ (e : (ltb (g .I) u && ltb u (node g (g .N))) ≡ true).
-      let b = both-true (ltb (g .I) u) (ltb u (node g (g .N))) e in
-      rw e (still (u - (g .I + 1)) (omega (arith, ltb-true (g .I) u (b .0), ltb-true u (node g (g .N)) (b .1)))))
-      (λ (e : (ltb (g .I) u && ltb u (node g (g .N))) ≡ false). rw e)
-      (true-or-false (ltb (g .I) u && ltb u (node g (g .N))))
-
-  none-due : (j : ℕ) → due g sc j ≡ 0
-  unfolding due
-  none-due j = rw (none-pending (word g j / 2), cond-same, cond-same)
-
-  none-outDue : (j : ℕ) → outputDue g sc j ≡ 0
-  unfolding outputDue
-  none-outDue j = rw (none-pending (output g j / 2), cond-same)
+      (λ (p : g .I < u).
+      ⊎-elim
+      (λ (q : u < node g (g .N)). pending-node (g .I) (g .N) sc u p q ∙ still (u - (g .I + 1)) (omega arith))
+      (λ (q : node g (g .N) ≤ u). pending-high (g .I) (g .N) sc u q)
+      (lt-or-le u (node g (g .N))))
+      (λ (p : u ≤ g .I). pending-low (g .I) (g .N) sc u p)
+      (lt-or-le (g .I) u)
 
   pub stands-itself : stands g sc ≡ g
-  unfolding stands
-  stands-itself =
-      same-graph (g .I) (g .N) (g .O)
-      (ext-getD 0 _ _ (length-tab _ _) (λ j h. getD-tab _ _ j (rw length-tab at h) ∙ rw (none-due j) (turn-zero _)))
-      (ext-getD 0 _ _ (length-tab _ _) (λ j h. getD-tab _ _ j (rw length-tab at h) ∙ rw (none-outDue j) (turn-zero _)))
+  unfolding stands due outputDue
+  stands-itself = by-never g (due g sc) (outputDue g sc) (λ j. upTo-zero (3 * g .N) _ j (none-pending (word g j / 2))) (λ j. upTo-zero (g .O) _ j (none-pending (output g j / 2)))
 
 -- the last word whose literal names u is the last that names it
 last-same : (g : Graph) (u : ℕ) → u < 2147483647 → (n : ℕ) → last n (λ j. eqb (getD (g .nodes) j 0 / 2) u) ≡ last n (named g u)

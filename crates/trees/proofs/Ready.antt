@@ -8,18 +8,17 @@ use Prim.Native.Nat.{ℕ, _+_, _-_, _*_, _/_, _≤_, _<_}
 use native.Mathlib.Omega.{arith}
 use borrow.Author.Tests.{eq-eqb, ne-eqb, le-ltb, ltb-true, not-true}
 use lib.Dec.{ltb}
-use Rattle.graph.specs.Graph.{Graph, node, word, output, isEdge, turn}
+use Rattle.graph.specs.Graph.{Graph, node, word, isEdge}
 use Rattle.graph.specs.Count.{readers}
+use Rattle.graph.specs.Turned.{turnedBy}
 use Rattle.graph.specs.Admission.{Admitted}
 use Rattle.graph.proofs.Cases.{true-or-false, lt-or-le}
-use Rattle.graph.proofs.Finite.{tab-same}
 use Rattle.moves.specs.Tree.{isRoot, rootOf}
 use Rattle.moves.specs.Cost.{inner}
-use Rattle.moves.proofs.Compose.{same-graph}
 use Rattle.moves.proofs.Readers.{both-true, rootOf-inner, reader-is}
-use Rattle.state.specs.State.{field, pendingAt, due, outputDue, stands, Linked, Ordered}
+use Rattle.state.specs.State.{field, stands, Linked, Ordered}
 use Rattle.state.proofs.Alike.{alike-readers, alike-isRoot, alike-place, alike-linked}
-use Rattle.state.proofs.Stands.{stands-alike, stands-admitted}
+use Rattle.state.proofs.Stands.{stands-alike, stands-admitted, stands-same}
 use Rattle.trees.specs.Linking.{Placed}
 use Rattle.trees.specs.Costing.{innerAt, CostsOnly}
 use Rattle.trees.proofs.LinkSteps.{placed-root, placed-low}
@@ -31,11 +30,11 @@ pub record Ready (h : Graph) (sc : List ℕ) : Type 0 where
   pub linked : Linked h sc
 
 pub stands-I : (g : Graph) (sc : List ℕ) → stands g sc .I ≡ g .I
-unfolding stands
+unfolding stands turnedBy
 stands-I g sc = refl
 
 pub stands-N : (g : Graph) (sc : List ℕ) → stands g sc .N ≡ g .N
-unfolding stands
+unfolding stands turnedBy
 stands-N g sc = refl
 
 pub ordered-ready : (g : Graph) (sc : List ℕ) → Ordered g sc → Ready (stands g sc) sc
@@ -77,22 +76,8 @@ module _ (g : Graph) (sc sc′ : List ℕ) (co : CostsOnly sc sc′) where
   pub field-kept : (v f : ℕ) → f < 8 → f ≢ 4 → field sc′ v f ≡ field sc v f
   field-kept v f l d = co .kept (8 * v + f) (λ e. d (omega arith))
 
-  pending-kept : (u : ℕ) → pendingAt g sc′ u ≡ pendingAt g sc u
-  unfolding pendingAt
-  pending-kept u = rw (field-kept (u - (g .I + 1)) 2 (omega arith) (λ e. omega arith))
-
-  due-kept : (j : ℕ) → due g sc′ j ≡ due g sc j
-  unfolding due
-  due-kept j = rw (pending-kept (word g j / 2))
-
-  outputDue-kept : (j : ℕ) → outputDue g sc′ j ≡ outputDue g sc j
-  unfolding outputDue
-  outputDue-kept j = rw (pending-kept (output g j / 2))
-
   pub stands-costs : stands g sc′ ≡ stands g sc
-  unfolding stands
-  stands-costs =
-      same-graph (g .I) (g .N) (g .O) (tab-same _ _ _ (λ j h. ap (λ x. turn x (word g j)) (due-kept j))) (tab-same _ _ _ (λ j h. ap (λ x. turn x (output g j)) (outputDue-kept j)))
+  stands-costs = stands-same g sc sc′ (λ v. field-kept v 2 (omega arith) (λ e. omega arith))
 
   pub ordered-costs : Ordered g sc → Ordered g sc′
   ordered-costs o =

@@ -41,17 +41,18 @@ sub-at c = omega (arith, placed (c .before .before .before) .low)
 add-at : tie.Need-add-at
 add-at c = let p = placed (c .before .before .before) in omega (arith, p .low, p .high, p .few, c .before .before .before .pre .1)
 
-mul-u : tie.Need-mul-u
-mul-u c = let p = placed (c .before .before .before) in omega (arith, p .low, p .high, p .few, c .before .before .before .pre .1)
+index-at-requires : tie.Need-index-at-requires
+index-at-requires c κs = placed (c .before .before .before .before) .within
 
-slice-read-u : tie.Need-slice-read-u
-slice-read-u c = let s = c .before .before .before .before in placed s .within
+same-length : tie.Need-same-length
+same-length c = search needs
 
 returns : tie.Need-returns
 returns c =
-    let s = c .before .before .before .before .before in
+    let x = c .before .index-at in
+    let s = c .before .before .before .before .before .before in
     let a = s .args in
-    pair-none (graph-of s) (a .scratch .now) (s .pre .0) (a .v) (a .k) (s .pre .1) (c .if1 .taken) (a .count) (s .pre .3)
+    pair-none (graph-of s) (a .scratch .now) (s .pre .0) (a .v) (a .k) (s .pre .1) (omega (arith, x .ensures, c .if1 .taken)) (a .count) (s .pre .3)
 
 add-p : tie.Need-add-p
 add-p c = search needs
@@ -60,30 +61,30 @@ sub-p : tie.Need-sub-p
 sub-p c = search needs
 
 cast-p : tie.Need-cast-p
-cast-p c = let p = placed (c .before .before .before .before .before) in omega (arith, p .few, p .below)
+cast-p c = search needs
 
 move-pair-requires : tie.Need-move-pair-requires
 move-pair-requires c κs =
     let e = c .before .before in
-    let s = e .before .before .before .before .before in
-    (s .pre .0, omega (arith, placed s .below, e .if1 .left), s .pre .1, s .pre .3)
-
-same-length : tie.Need-same-length
-same-length c = search needs
+    let s = e .before .before .before .before .before .before in
+    (s .pre .0, omega (arith, placed s .below, e .before .index-at .ensures, e .if1 .left), s .pre .1, s .pre .3)
 
 same-length-2 : tie.Need-same-length-2
 same-length-2 c = search needs
+
+same-length-3 : tie.Need-same-length-3
+same-length-3 c = search needs
 
 returns-2 : tie.Need-returns-2
 returns-2 c =
     let t = c .before .before .before .before in
     let e = t .before .before .before in
-    let s = e .before .before .before .before .before in
+    let x = e .before .index-at in
+    let s = e .before .before .before .before .before .before in
     let a = s .args in
     let r = t .move-pair in
-    let below = placed s .below in
-    pair-is (graph-of s) (a .scratch .now) (s .pre .0) (a .v) (a .k) (s .pre .1) (getD (a .node-table .now) (3 * a .v + (a .k - 1)) 0 / 2 - (a .inputs + 1))
-    (omega (arith, below, s .pre .1, e .if1 .left)) (omega (arith, e .if1 .left))
+    pair-is (graph-of s) (a .scratch .now) (s .pre .0) (a .v) (a .k) (s .pre .1) (x .result - (a .inputs + 1))
+    (omega (arith, placed s .below, s .pre .1, x .ensures, e .if1 .left)) (omega (arith, x .ensures, e .if1 .left))
     (graphOf (a .inputs) (a .nodes) (a .outputs) (r .last .1 .1 .1 .0) (a .output-table .now)) (r .last .1 .1 .1 .1 .1 .1 .1 .1 .0) (r .result) (r .ensures)
 
 pub pair-step-spec : {M : Type 1} → statement M
@@ -93,13 +94,13 @@ pair-step-spec =
     mul-at
     sub-at
     add-at
-    mul-u
-    slice-read-u
+    index-at-requires
+    same-length
     returns
     add-p
     sub-p
     cast-p
     move-pair-requires
-    same-length
     same-length-2
+    same-length-3
     returns-2)

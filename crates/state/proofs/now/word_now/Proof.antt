@@ -1,35 +1,30 @@
 -- `word_now` is the word of the graph that the state stands for.
-use mathlib.Core.Path.{refl, sym, _∙_}
-use Rattle.graph.specs.Graph.{Graph, graphOf, isEdge}
+use mathlib.Core.Path.{sym, ap, _∙_}
+use Prim.Native.Nat.{_/_}
+use Rattle.graph.specs.Graph.{graphOf, turn}
+use Rattle.state.specs.State.{pendingAt}
 use Rattle.state.proofs.Stands.{stands-word}
-use Rattle.state.proofs.Stores.{names-low}
-use Rattle.state.proofs.Pending.{pendings}
 use borrow.Author.Needs.{needs}
 use Rattle.state.proofs.now.word_now.Statement.{statement}
 use Rattle.state.proofs.now.word_now.Tie as tie
 
-mul-entry-now : tie.Need-mul-entry-now
-mul-entry-now c = search needs
+word-at-requires : tie.Need-word-at-requires
+word-at-requires c κs = search needs
 
-shared-slice-read-entry-now : tie.Need-shared-slice-read-entry-now
-shared-slice-read-entry-now c = search needs
+pending-of-requires : tie.Need-pending-of-requires
+pending-of-requires c κs = search needs
 
-abbrev graph-of : tie.Start → Graph
-graph-of s = graphOf (s .args .inputs) (s .args .nodes) (s .args .outputs) (s .args .node-table .now) (s .args .output-table .now)
-
-entry-now-requires : tie.Need-entry-now-requires
-unfolding isEdge
-entry-now-requires c κs =
-    let s = c .before .before .before .before in
-    let a = s .args in
-    (pendings (graph-of s) (a .scratch .now) (s .pre .0), λ e. names-low (graph-of s) (a .scratch .now) (s .pre .0) (a .j) (s .pre .1) e)
+turned-requires : tie.Need-turned-requires
+turned-requires c κs = search needs
 
 returns : tie.Need-returns
 returns c =
-    let s = c .before .before .before .before .before in
+    let x = c .before .before .word-at in
+    let s = c .before .before .before .before .before .before in
     let a = s .args in
-    c .entry-now .ensures (a .outputs) (a .node-table .now) (a .output-table .now) (s .pre .1) refl ∙ sym (stands-word (graph-of s) (a .scratch .now) (s .pre .0 .admitted) (a .j))
+    c .turned .ensures ∙ ap (λ t. turn t (x .result)) (c .before .pending-of .ensures .0) ∙
+    ap (λ y. turn (pendingAt (a .inputs) (a .nodes) (a .scratch .now) (y / 2)) y) (x .ensures) ∙
+    sym (stands-word (graphOf (a .inputs) (a .nodes) (a .outputs) (a .node-table .now) (a .output-table .now)) (a .scratch .now) (s .pre .0 .admitted) (a .j) (s .pre .1))
 
 pub word-now-spec : {M : Type 1} → statement M
-word-now-spec =
-    tie.close (tie.spec mul-entry-now shared-slice-read-entry-now entry-now-requires returns)
+word-now-spec = tie.close (tie.spec word-at-requires pending-of-requires turned-requires returns)

@@ -3,11 +3,11 @@
 use mathlib.Core.Path.{_≡_}
 use Prim.Native.Nat.{ℕ, _+_, _-_, _*_, _/_, _≤_, _<_}
 use native.Mathlib.Omega.{arith}
-use lib.ListN.{length, getD}
+use lib.ListN.{length, getD, set}
 use Rattle.graph.specs.Graph.{Graph, graphOf, word, node}
 use Rattle.state.specs.State.{stands}
 use Rattle.state.proofs.Order.{odd-le}
-use Rattle.state.proofs.Stores.{names-low, bit-counted, word-low-stored, word-high-stored}
+use Rattle.state.proofs.Stores.{names-low, bit-counted, word-stored, word-low, word-high}
 use borrow.Author.Needs.{needs}
 use Rattle.state.proofs.turning.turn_word.Statement.{statement}
 use Rattle.state.proofs.turning.turn_word.Tie as tie
@@ -15,20 +15,20 @@ use Rattle.state.proofs.turning.turn_word.Tie as tie
 word-now-requires : tie.Need-word-now-requires
 word-now-requires c κs = search needs
 
-mul-x : tie.Need-mul-x
-mul-x c = search needs
+word-at-requires : tie.Need-word-at-requires
+word-at-requires c κs = search needs
 
-slice-read-x : tie.Need-slice-read-x
-slice-read-x c = search needs
+abbrev graph-of : tie.Start → Graph
+graph-of s = graphOf (s .args .inputs) (s .args .nodes) (s .args .outputs) (s .args .node-table .now) (s .args .output-table .now)
 
-turned-requires : tie.Need-turned-requires
-turned-requires c κs = search needs
-
-mul-node-table : tie.Need-mul-node-table
-mul-node-table c = search needs
-
-slice-write-node-table : tie.Need-slice-write-node-table
-slice-write-node-table c = search needs
+turn-word-requires : tie.Need-turn-word-requires
+turn-word-requires c κs =
+    let s = c .before .before .before .before .before .before .before .before .before in
+    let d = s .pre .0 .admitted in (
+      omega arith,
+      omega (arith, d .long-nodes, s .pre .1),
+      λ p. omega (arith, names-low (graph-of s) (s .args .scratch .now) (s .pre .0) (s .args .j) (s .pre .1) (s .pre .2), d .few-inputs, d .few-nodes),
+    )
 
 same-length : tie.Need-same-length
 same-length c = search needs
@@ -36,20 +36,24 @@ same-length c = search needs
 same-length-2 : tie.Need-same-length-2
 same-length-2 c = search needs
 
-abbrev graph-of : tie.Start → Graph
-graph-of s = graphOf (s .args .inputs) (s .args .nodes) (s .args .outputs) (s .args .node-table .now) (s .args .output-table .now)
-
 returns : tie.Need-returns
 returns c =
-    let s = c .before .before .before .before .before .before .before .before .before in
-    word-low-stored (graph-of s) (s .args .scratch .now) (s .pre .0) (s .args .j) (s .pre .1) (s .pre .2) (c .before .turned .result) (c .before .turned .ensures) (c .if1 .taken)
+    let t = c .before .before .before in
+    let w = t .before .before in
+    let s = w .before .before .before .before .before .before .before .before in
+    let a = s .args in
+    word-stored (graph-of s) (a .scratch .now) (s .pre .0) (a .j) (s .pre .1) (s .pre .2) (a .scratch .now) (t .turn-word .last .0) (t .turn-word .ensures)
+    (word-low (graph-of s) (a .scratch .now) (s .pre .0) (a .j) (s .pre .1) (s .pre .2) (omega (arith, w .word-at .ensures, c .if1 .taken)))
 
 -- the node that the word names
+abbrev read : tie.Else1 → tie.After-word-at
+read c = c .before .before .before .before .before
+
 abbrev start : tie.Else1 → tie.Start
-start c = c .before .before .before .before .before .before .before .before .before
+start c = read c .before .before .before .before .before .before .before .before
 
 abbrev named : tie.Else1 → ℕ
-named c = getD (start c .args .node-table .now) (start c .args .j) 0 / 2 - (start c .args .inputs + 1)
+named c = read c .word-at .result / 2 - (start c .args .inputs + 1)
 
 record Named (c : tie.Else1) : Type 0 where
   few : start c .args .nodes ≤ 100000
@@ -61,8 +65,9 @@ names : (c : tie.Else1) → Named c
 names c =
     let s = start c in
     let o = s .pre .0 in
+    let e = read c .word-at .ensures in
     let n = names-low (graph-of s) (s .args .scratch .now) o (s .args .j) (s .pre .1) (s .pre .2) in
-    record { few = o .admitted .few-nodes; below = omega (arith, n, c .if1 .left); is = omega (arith, n, c .if1 .left); long = o .long }
+    record { few = o .admitted .few-nodes; below = omega (arith, n, e, c .if1 .left); is = omega (arith, n, e, c .if1 .left); long = o .long }
 
 add-v : tie.Need-add-v
 add-v c = search needs
@@ -71,23 +76,23 @@ sub-v : tie.Need-sub-v
 sub-v c = search needs
 
 cast-at : tie.Need-cast-at
-cast-at c = let n = names c in omega (arith, n .few, n .below)
+cast-at c = search needs
 
 mul-at : tie.Need-mul-at
-mul-at c = let n = names c in omega (arith, n .few, n .below)
+mul-at c = search needs
 
 add-at : tie.Need-add-at
-add-at c = let n = names c in omega (arith, n .few, n .below)
+add-at c = search needs
 
 mul-d : tie.Need-mul-d
-mul-d c = let n = names c in omega (arith, n .few, n .below)
+mul-d c = search needs
 
 slice-read-d : tie.Need-slice-read-d
 slice-read-d c = let n = names (c .before) in omega (arith, n .below, n .long)
 
 -- its bit before
-was : (c : tie.Else1) → c .before .before .before .word-now .result ≡ word (stands (graph-of (start c)) (start c .args .scratch .now)) (start c .args .j)
-was c = c .before .before .before .word-now .ensures
+was : (c : tie.Else1) → read c .before .before .word-now .result ≡ word (stands (graph-of (start c)) (start c .args .scratch .now)) (start c .args .j)
+was c = read c .before .before .word-now .ensures
 
 adjusted-requires : tie.Need-adjusted-requires
 adjusted-requires c κs =
@@ -101,7 +106,7 @@ adjusted-requires c κs =
     )
 
 mul-scratch : tie.Need-mul-scratch
-mul-scratch c = let n = names (c .before .before) in omega (arith, n .few, n .below)
+mul-scratch c = search needs
 
 slice-write-scratch : tie.Need-slice-write-scratch
 slice-write-scratch c = let n = names (c .before .before) in omega (arith, n .below, n .long)
@@ -115,21 +120,20 @@ same-length-4 c = search needs
 returns-2 : tie.Need-returns-2
 returns-2 c =
     let e = c .before .before in
+    let t = e .before .before .before .turn-word in
     let s = start e in
+    let a = s .args in
     let n = names e in
-    word-high-stored (graph-of s) (s .args .scratch .now) (s .pre .0) (s .args .j) (s .pre .1) (s .pre .2) (named e) (c .adjusted .result) (n .below) (n .is)
-    (rw (was e) at (c .adjusted .ensures)) (e .before .turned .result) (e .before .turned .ensures)
+    word-stored (graph-of s) (a .scratch .now) (s .pre .0) (a .j) (s .pre .1) (s .pre .2) (set (a .scratch .now) (8 * named e + 1) (c .adjusted .result)) (t .last .0) (t .ensures)
+    (word-high (graph-of s) (a .scratch .now) (s .pre .0) (a .j) (s .pre .1) (s .pre .2) (named e) (c .adjusted .result) (n .below) (n .is) (rw (was e) at (c .adjusted .ensures)))
 
 pub turn-word-spec : {M : Type 1} → statement M
 turn-word-spec =
     tie.close
     (tie.spec
     word-now-requires
-    mul-x
-    slice-read-x
-    turned-requires
-    mul-node-table
-    slice-write-node-table
+    word-at-requires
+    turn-word-requires
     same-length
     same-length-2
     returns

@@ -1,25 +1,18 @@
--- `write_out` leaves the tables of the graph that the state stands for: the nodes' sweep and the outputs' have nothing to do with each other.
-use mathlib.Core.Path.{sym, _∙_, subst}
-use Rattle.graph.specs.Admission.{Admitted}
-use Rattle.graph.specs.Graph.{Graph, graphOf}
-use Rattle.state.proofs.Pending.{pendings, half-admitted, outputs-apart, written}
+-- `write_out` leaves the tables of the graph that the state stands for: each sweep turns what is due in its table.
+use Rattle.graph.specs.Graph.{graphOf}
+use Rattle.state.proofs.Pending.{written}
 use borrow.Author.Needs.{needs}
 use Rattle.state.proofs.writing.write_out.Statement.{statement}
 use Rattle.state.proofs.writing.write_out.Tie as tie
 
-abbrev graph-of : tie.Start → Graph
-graph-of s = graphOf (s .args .inputs) (s .args .nodes) (s .args .outputs) (s .args .node-table .now) (s .args .output-table .now)
+mul-end : tie.Need-mul-end
+mul-end c = search needs
 
-write-nodes-requires : tie.Need-write-nodes-requires
-write-nodes-requires c κs = let s = c .before .before .before .before .before in (s .pre .admitted, pendings (graph-of s) (s .args .scratch .now) (s .pre))
+write-words-requires : tie.Need-write-words-requires
+write-words-requires c κs = search needs
 
-write-outputs-requires : tie.Need-write-outputs-requires
-write-outputs-requires c κs =
-    let s = c .before .before .before .before .before .before .before .before .before .before in
-    let a = s .args in (
-      subst (λ ns. Admitted (graphOf (a .inputs) (a .nodes) (a .outputs) ns (a .output-table .now))) (sym (c .before .before .before .before .write-nodes .ensures)) (half-admitted (graph-of s) (a .scratch .now) (s .pre .admitted)),
-      pendings (graph-of s) (a .scratch .now) (s .pre),
-    )
+write-words-requires-2 : tie.Need-write-words-requires-2
+write-words-requires-2 c κs = search needs
 
 same-length : tie.Need-same-length
 same-length c = search needs
@@ -29,13 +22,13 @@ same-length-2 c = search needs
 
 returns : tie.Need-returns
 returns c =
-    let t = c .before .before in
-    let w = t .before .before .before .before .before in
-    let s = w .before .before .before .before .before .before in
-    let a = s .args in
-    written (graph-of s) (a .scratch .now) (w .write-nodes .last .1 .1 .1 .0) (t .write-outputs .last .1 .1 .1 .1 .0) (w .write-nodes .ensures) (t .write-outputs .ensures ∙ outputs-apart (graph-of s) (a .scratch .now) (w .write-nodes .last .1 .1 .1 .0))
+    let t = c .before .before .write-words2 in
+    let w = c .before .before .before .before .before .before in
+    let a = w .before .before .before .before .before .args in
+    written (graphOf (a .inputs) (a .nodes) (a .outputs) (a .node-table .now) (a .output-table .now)) (a .scratch .now)
+    (w .write-words .last .1 .1 .0) (t .last .1 .1 .0) (w .write-words .ensures) (t .ensures)
 
 pub write-out-spec : {M : Type 1} → statement M
 write-out-spec =
     tie.close
-    (tie.spec write-nodes-requires write-outputs-requires same-length same-length-2 returns)
+    (tie.spec mul-end write-words-requires write-words-requires-2 same-length same-length-2 returns)

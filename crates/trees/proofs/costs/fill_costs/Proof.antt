@@ -5,6 +5,7 @@ use mathlib.Core.List.{List}
 use mathlib.Core.Logic.{_≢_}
 use Prim.Native.Nat.{ℕ, _-_, _/_, _%_, _<_}
 use Rattle.graph.specs.Graph.{Graph, graphOf, node}
+use Rattle.graph.specs.Turned.{turnedBy}
 use Rattle.moves.specs.Tree.{isRoot}
 use Rattle.moves.specs.Cost.{bitCost}
 use Rattle.state.specs.State.{field, stands, Ordered}
@@ -32,13 +33,13 @@ module _ (g : Graph) (sc₀ : List ℕ) (o : Ordered g sc₀) (r : ℕ) (h : r <
   again : (sc : List ℕ) (v : ℕ) → Inv g r sc₀ sc v → v ≢ r → (sc′ : List ℕ) (x : ℕ) → Stored v 4 x sc sc′
       → x % 2 ≡ bitCost (stands g sc) (innerAt (g .I) sc) (costAt (g .I) sc) v 0 → x / 2 % 2 ≡ bitCost (stands g sc) (innerAt (g .I) sc) (costAt (g .I) sc) v 1
       → (w : ℕ) → w ≡ field sc′ v 6 → Inv g r sc₀ sc′ w × (v < w)
-  unfolding stands
+  unfolding stands turnedBy
   again sc v iv d sc′ x st b₀ b₁ =
       costs-step (stands g sc₀) sc₀ (ordered-ready g sc₀ o) r (rw (stands-N g sc₀) h) root-now sc v iv d sc′ x st
       (b₀ ∙ ap (λ z. bitCost z (innerAt (g .I) sc) (costAt (g .I) sc) v 0) (stands-costs g sc₀ sc (iv .only))) (b₁ ∙ ap (λ z. bitCost z (innerAt (g .I) sc) (costAt (g .I) sc) v 1) (stands-costs g sc₀ sc (iv .only)))
 
   last : (sc : List ℕ) (v : ℕ) → Inv g r sc₀ sc v → v ≡ r → CostedBelow (stands g sc₀) sc (node g r) r
-  unfolding stands
+  unfolding stands turnedBy
   last sc v iv e = rw e at (iv .costed)
 
 abbrev Inv-loop : tie.InvT-loop

@@ -5,6 +5,7 @@ use mathlib.Core.List.{List}
 use mathlib.Core.Logic.{_≢_}
 use Prim.Native.Nat.{ℕ, suc, _≤_, _<_}
 use Rattle.graph.specs.Graph.{Graph, graphOf, mark, node, isXor}
+use Rattle.graph.specs.Turned.{turnedBy}
 use Rattle.choice.specs.Choice.{FirstBelow}
 use Rattle.moves.specs.Rows.{movesAt}
 use Rattle.moves.specs.Tree.{isRoot, rootOf}
@@ -37,11 +38,11 @@ module _ (g : Graph) (sc₁ : List ℕ) (o : Ordered g sc₁) (r : ℕ) (h : r <
   ready = ordered-ready g sc₁ o
 
   root-now : isRoot k (node k r) ≡ true
-  unfolding stands
+  unfolding stands turnedBy
   root-now = alike-isRoot g (stands g sc₁) (stands-alike g sc₁ (o .admitted)) (node g r) ∙ t
 
   within : r < k .N
-  unfolding stands
+  unfolding stands turnedBy
   within = h
 
   begin : (v : ℕ) → v ≡ r → Inv g sc₁ r sc₁ v
@@ -63,12 +64,12 @@ module _ (g : Graph) (sc₁ : List ℕ) (o : Ordered g sc₁) (r : ℕ) (h : r <
     passed = rw (e, ← bound-node v d) (iv .mf)
 
     decided-above : ReaderDecided g sc w
-    unfolding stands
+    unfolding stands turnedBy
     decided-above = reader-decided k sc₁ ready r within root-now g o refl cd w low in-tree sc passed
 
     again : (m x : ℕ) (sc′ : List ℕ) → FirstBelow (costWith (isXor g w) (wordCosts (stands g sc) (innerAt (g .I) sc) (costAt (g .I) sc) w) (field sc w 0) (oddAt g sc w)) (movesAt g (node g w)) m
         → Stored w 4 m sc sc′ → x ≡ field sc′ w 5 → Inv g sc₁ r sc′ x × (boundOf x < boundOf v)
-    unfolding stands
+    unfolding stands turnedBy
     again m x sc′ fb st q =
         let ms = moves-step k sc₁ ready r within root-now g o refl cd w low in-tree sc passed m (g .I) (isXor g w) (movesAt g (node g w)) refl refl refl fb sc′ st in
         let b : w < k .N = omega (arith, low, within) in
@@ -81,7 +82,7 @@ module _ (g : Graph) (sc₁ : List ℕ) (o : Ordered g sc₁) (r : ℕ) (h : r <
         )
 
   last : (sc : List ℕ) (v : ℕ) → Inv g sc₁ r sc v → v ≡ mark → TreeDecided k (node g r) sc × CostsOnly sc₁ sc
-  unfolding stands
+  unfolding stands turnedBy
   last sc v iv e =
       let mf : MovesFrom k sc₁ r 0 sc = rw (bound-mark v e) at (iv .mf) in
       (moves-all k sc₁ ready r within root-now sc mf, mf .only)

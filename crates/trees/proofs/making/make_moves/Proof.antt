@@ -16,7 +16,7 @@ use Rattle.moves.proofs.Readers.{rootOf-root}
 use Rattle.state.specs.State.{field, stands, Ordered}
 use Rattle.state.specs.Step.{Made}
 use Rattle.state.proofs.Alike.{alike-isRoot, alike-movesAt}
-use Rattle.state.proofs.Turned.{apply-alike}
+use Rattle.moves.proofs.Apply.{apply-alike}
 use Rattle.state.proofs.Stands.{stands-alike}
 use Rattle.trees.specs.Deciding.{TreeDecided}
 use Rattle.trees.proofs.Ready.{Ready, ordered-ready, stands-I}
@@ -41,11 +41,11 @@ module _ (g₀ : Graph) (sc₁ : List ℕ) (o : Ordered g₀ sc₁) (r : ℕ) (h
   ready = ordered-ready g₀ sc₁ o
 
   within : r < k .N
-  unfolding stands
+  unfolding stands turnedBy
   within = h
 
   own-root : rootOf k (node k r) ≡ node k r
-  unfolding stands
+  unfolding stands turnedBy
   own-root = rootOf-root k (ready .admitted) (node k r) (alike-isRoot g₀ (stands g₀ sc₁) (stands-alike g₀ sc₁ (o .admitted)) (node g₀ r) ∙ t)
 
   begin : (v now : ℕ) → v ≡ r → now ≡ C (stands g₀ sc₁) → Inv g₀ sc₁ r g₀ sc₁ v now
@@ -100,7 +100,7 @@ module _ (g₀ : Graph) (sc₁ : List ℕ) (o : Ordered g₀ sc₁) (r : ℕ) (h
         )
 
   last : TreeDecided k (node g₀ r) sc₁ → (g : Graph) (sc : List ℕ) (v now : ℕ) → Inv g₀ sc₁ r g sc v now → v ≡ mark → Made sc₁ g sc (moved k (tree k (node g₀ r)) (bestAt k (tree k (node g₀ r)))) now
-  unfolding stands
+  unfolding stands turnedBy
   last td g sc v now iv e =
       let mf : MadeFrom k sc₁ r 0 g sc = rw (bound-mark v e) at (iv .mf) in
       let s = made-all k sc₁ (ready .admitted) r within g sc td mf in
@@ -110,7 +110,7 @@ module _ (g₀ : Graph) (sc₁ : List ℕ) (o : Ordered g₀ sc₁) (r : ℕ) (h
       }
 
   as-stands : TreeDecided k (node g₀ r) sc₁ → TreeDecided k (node k r) sc₁
-  unfolding stands
+  unfolding stands turnedBy
   as-stands td = td
 
 abbrev Inv-loop : tie.InvT-loop
