@@ -7,6 +7,7 @@ ghost use Rattle.trees.specs.Filling.{Cleared, Counting, Noted, Noting, 
 use crate::fields::read;
 use crate::fields::store;
 use graph::literal::MARK;
+use graph::table::word_at;
 use moves::words::narrow;
 use moves::words::wide;
 
@@ -55,7 +56,8 @@ pub fn note_all(
 {
     let mut p: usize = 0;
     while p < words {
-        note(inputs, nodes, table[p], narrow(p), f, scratch);
+        let x = word_at(table, p);
+        note(inputs, nodes, x, narrow(p), f, scratch);
         p += 1;
     }
 }

@@ -23,11 +23,8 @@ abbrev μ-loop : tie.MeasureT-loop
 loop-holds : tie.Need-loop-holds Inv-loop μ-loop
 loop-holds c = record { within = omega arith; same = refl; notes = notes-zero _ _ _ _ _ (c .before .before .pre .0) }
 
-mul-note : tie.Need-mul-note Inv-loop μ-loop
-mul-note c = omega (arith, c .before .loop .inv .within)
-
-shared-slice-read-note : tie.Need-shared-slice-read-note Inv-loop μ-loop
-shared-slice-read-note c = omega (arith, c .before .before .loop .inv .within)
+word-at-requires : tie.Need-word-at-requires Inv-loop μ-loop
+word-at-requires c κs = omega (arith, c .before .loop .inv .within)
 
 narrow-requires : tie.Need-narrow-requires Inv-loop μ-loop
 narrow-requires c κs = omega (arith, c .before .before .before .before .before .pre .1)
@@ -42,7 +39,7 @@ loop-less : tie.Need-loop-less Inv-loop μ-loop
 loop-less c = omega (arith, c .before .before .before .before .before .before .before .loop .inv .within)
 
 loop-again : tie.Need-loop-again Inv-loop μ-loop
-loop-again c = record { within = omega arith; same = c .before .before .note .kept .1 .1 .1 .1 .1 .0 ∙ c .before .before .before .before .before .before .before .loop .inv .same; notes = notes-suc _ _ _ _ _ (c .before .before .before .before .before .before .before .before .before .before .pre .0) _ _ (c .before .before .before .before .before .before .before .loop .inv .notes) _ _ (c .before .before .before .before .narrow .ensures) (c .before .before .note .ensures) }
+loop-again c = record { within = omega arith; same = c .before .before .note .kept .1 .1 .1 .1 .1 .0 ∙ c .before .before .before .before .before .before .before .loop .inv .same; notes = notes-suc _ _ _ _ _ (c .before .before .before .before .before .before .before .before .before .before .pre .0) _ _ (c .before .before .before .before .before .before .before .loop .inv .notes) _ _ (c .before .before .before .before .narrow .ensures) (rw (c .before .before .before .before .before .word-at .ensures) at (c .before .before .note .ensures)) }
 
 same-length : tie.Need-same-length Inv-loop μ-loop
 same-length c = c .before .loop .inv .same
@@ -59,8 +56,7 @@ note-all-spec =
     Inv-loop
     μ-loop
     loop-holds
-    mul-note
-    shared-slice-read-note
+    word-at-requires
     narrow-requires
     note-requires
     add-p
