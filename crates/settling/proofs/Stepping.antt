@@ -7,10 +7,9 @@ use mathlib.Core.Logic.{⊎-elim}
 use Prim.Native.Nat.{ℕ, zero, suc, _+_, _-_, _*_, _≤_, _<_}
 use native.Mathlib.Omega.{arith}
 use native.Mathlib.Numerals.{add-one}
-use borrow.Author.Tests.{eq-eqb, ne-eqb}
-use lib.Dec.{eqb, leb}
+use lib.Dec.{leb}
 use lib.ListN.{length}
-use Rattle.graph.specs.Graph.{Graph, node, word, isXor, mark}
+use Rattle.graph.specs.Graph.{Graph, node, isXor, mark}
 use Rattle.graph.specs.Turned.{turnedBy}
 use Rattle.graph.specs.Count.{C}
 use Rattle.graph.specs.Admission.{Admitted}
@@ -119,13 +118,13 @@ module _ (g : Graph) (v : ℕ) where
   unfolding wordFault
   first-words k a b = early (isXor g (node g v - (g .I + 1))) k a b
 
-  pub third-word : (word g (3 * v + 2) ≡ mark → ⊥) → wordFault g (node g v) 3 ≡ 0
-  unfolding wordFault isXor
-  third-word n = rw (at-node, ne-eqb (word g (3 * v + 2)) mark n)
+  pub third-word : isXor g v ≡ false → wordFault g (node g v) 3 ≡ 0
+  unfolding wordFault
+  third-word x = rw (at-node, x)
 
-  pub no-third-word : word g (3 * v + 2) ≡ mark → wordFault g (node g v) 3 ≡ 0 → ⊥
-  unfolding wordFault isXor
-  no-third-word e z = omega (arith, rw (at-node, eq-eqb (word g (3 * v + 2)) mark e) at z)
+  pub no-third-word : isXor g v ≡ true → wordFault g (node g v) 3 ≡ 0 → ⊥
+  unfolding wordFault
+  no-third-word x z = omega (arith, rw (at-node, x) at z)
 
 -- the words of a node in order
 pub pairs-phase : (v : ℕ) (g g₁ g₂ g₃ : Graph) (sc sc₁ sc₂ sc₃ : List ℕ) (c₁ c₂ c₃ : ℕ) → Phase (pairAt v 1) g sc g₁ sc₁ c₁ → Phase (pairAt v 2) g₁ sc₁ g₂ sc₂ c₂

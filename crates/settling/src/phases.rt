@@ -1,4 +1,4 @@
-// The three phases of a round, over the state that crate incremental keeps in scratch.
+// The three phases of a round, over the state that crate state keeps in scratch.
 ghost use mathlib.Core.Path.{_≡_};
 ghost use Prim.Native.Nat.{_*_, _≤_, _<_};
 ghost use lib.ListN.{length};
@@ -140,8 +140,7 @@ pub fn pair_calls_at(
         a,
         scratch,
     );
-    let third = 3 * v + 2;
-    if node_table[third] == MARK {
+    if moves::rows::is_xor(node_table, v) {
         return b;
     }
     state::moving::pair_step(

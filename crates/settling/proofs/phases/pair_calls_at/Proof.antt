@@ -1,4 +1,5 @@
--- `pair_calls_at` makes the pair calls at the words of a node in order; a third word that is the mark is none.
+-- `pair_calls_at` makes the pair calls at the words of a node in order; an XOR has two.
+use mathlib.Core.Path.{sym, _∙_}
 use native.Mathlib.Omega.{arith}
 use Rattle.graph.specs.Graph.{Graph, graphOf}
 use Rattle.settling.proofs.Stepping.{pair-phase, pair-idle, pairs-phase, first-words, third-word, no-third-word}
@@ -21,17 +22,8 @@ pair-step-requires-2 c κs =
     let x₁ = pair-phase (graph-of s) (s .args .scratch .now) (s .pre .0) (s .args .v) 1 (s .pre .1) (first-words (graph-of s) (s .args .v) 1 (omega arith) (omega arith)) _ _ _ (t₁ .pair-step .ensures) in
     (x₁ .ordered, s .pre .1, first-words _ (s .args .v) 2 (omega arith) (omega arith), x₁ .count)
 
-mul-third : tie.Need-mul-third
-mul-third c = search needs
-
-add-third : tie.Need-add-third
-add-third c = search needs
-
-mul-if1 : tie.Need-mul-if1
-mul-if1 c = search needs
-
-slice-read-if1 : tie.Need-slice-read-if1
-slice-read-if1 c = search needs
+is-xor-requires : tie.Need-is-xor-requires
+is-xor-requires c κs = search needs
 
 same-length : tie.Need-same-length
 same-length c = search needs
@@ -41,22 +33,24 @@ same-length-2 c = search needs
 
 returns : tie.Need-returns
 returns c =
-    let t₂ = c .before .before .before .before .before .before in
+    let x = c .before .is-xor in
+    let t₂ = c .before .before .before .before .before .before .before in
     let t₁ = t₂ .before .before .before .before .before .before .before in
     let s = t₁ .before .before .before .before .before .before in
     let x₁ = pair-phase (graph-of s) (s .args .scratch .now) (s .pre .0) (s .args .v) 1 (s .pre .1) (first-words (graph-of s) (s .args .v) 1 (omega arith) (omega arith)) _ _ _ (t₁ .pair-step .ensures) in
     let x₂ = pair-phase _ _ (x₁ .ordered) (s .args .v) 2 (s .pre .1) (first-words _ (s .args .v) 2 (omega arith) (omega arith)) _ _ _ (t₂ .pair-step2 .ensures) in
-    pairs-phase (s .args .v) _ _ _ _ _ _ _ _ _ _ _ x₁ x₂ (pair-idle _ _ (x₂ .ordered) (s .args .v) 3 _ (no-third-word _ (s .args .v) (c .if1 .taken)) (x₂ .count))
+    pairs-phase (s .args .v) _ _ _ _ _ _ _ _ _ _ _ x₁ x₂ (pair-idle _ _ (x₂ .ordered) (s .args .v) 3 _ (no-third-word _ (s .args .v) (sym (x .ensures (s .args .inputs) (s .args .nodes) (s .args .outputs) (s .args .output-table .now)) ∙ c .if1 .taken)) (x₂ .count))
 
 pair-step-requires-3 : tie.Need-pair-step-requires-3
 pair-step-requires-3 c κs =
     let l = c .before .before in
-    let t₂ = l .before .before .before .before .before .before in
+    let x = l .before .is-xor in
+    let t₂ = l .before .before .before .before .before .before .before in
     let t₁ = t₂ .before .before .before .before .before .before .before in
     let s = t₁ .before .before .before .before .before .before in
     let x₁ = pair-phase (graph-of s) (s .args .scratch .now) (s .pre .0) (s .args .v) 1 (s .pre .1) (first-words (graph-of s) (s .args .v) 1 (omega arith) (omega arith)) _ _ _ (t₁ .pair-step .ensures) in
     let x₂ = pair-phase _ _ (x₁ .ordered) (s .args .v) 2 (s .pre .1) (first-words _ (s .args .v) 2 (omega arith) (omega arith)) _ _ _ (t₂ .pair-step2 .ensures) in
-    (x₂ .ordered, s .pre .1, third-word _ (s .args .v) (l .if1 .left), x₂ .count)
+    (x₂ .ordered, s .pre .1, third-word _ (s .args .v) (sym (x .ensures (s .args .inputs) (s .args .nodes) (s .args .outputs) (s .args .output-table .now)) ∙ l .if1 .left), x₂ .count)
 
 same-length-3 : tie.Need-same-length-3
 same-length-3 c = search needs
@@ -68,12 +62,13 @@ returns-2 : tie.Need-returns-2
 returns-2 c =
     let t₃ = c .before .before .before .before in
     let l = t₃ .before .before .before in
-    let t₂ = l .before .before .before .before .before .before in
+    let x = l .before .is-xor in
+    let t₂ = l .before .before .before .before .before .before .before in
     let t₁ = t₂ .before .before .before .before .before .before .before in
     let s = t₁ .before .before .before .before .before .before in
     let x₁ = pair-phase (graph-of s) (s .args .scratch .now) (s .pre .0) (s .args .v) 1 (s .pre .1) (first-words (graph-of s) (s .args .v) 1 (omega arith) (omega arith)) _ _ _ (t₁ .pair-step .ensures) in
     let x₂ = pair-phase _ _ (x₁ .ordered) (s .args .v) 2 (s .pre .1) (first-words _ (s .args .v) 2 (omega arith) (omega arith)) _ _ _ (t₂ .pair-step2 .ensures) in
-    pairs-phase (s .args .v) _ _ _ _ _ _ _ _ _ _ _ x₁ x₂ (pair-phase _ _ (x₂ .ordered) (s .args .v) 3 (s .pre .1) (third-word _ (s .args .v) (l .if1 .left)) _ _ _ (t₃ .pair-step3 .ensures))
+    pairs-phase (s .args .v) _ _ _ _ _ _ _ _ _ _ _ x₁ x₂ (pair-phase _ _ (x₂ .ordered) (s .args .v) 3 (s .pre .1) (third-word _ (s .args .v) (sym (x .ensures (s .args .inputs) (s .args .nodes) (s .args .outputs) (s .args .output-table .now)) ∙ l .if1 .left)) _ _ _ (t₃ .pair-step3 .ensures))
 
 pub pair-calls-at-spec : {M : Type 1} → statement M
 pair-calls-at-spec =
@@ -81,10 +76,7 @@ pair-calls-at-spec =
     (tie.spec
     pair-step-requires
     pair-step-requires-2
-    mul-third
-    add-third
-    mul-if1
-    slice-read-if1
+    is-xor-requires
     same-length
     same-length-2
     returns
