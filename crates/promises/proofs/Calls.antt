@@ -1,4 +1,4 @@
--- What one call of a list does, of each of the four kinds. From the laws of calls (crates moves and settling).
+-- What one call of a list does, of each of the four kinds. From the laws of calls (crates moves and rounds).
 use mathlib.Core.Path.{_≡_, refl, sym, ap, _∙_}
 use mathlib.Core.Bool.{Bool, true, false, cond}
 use mathlib.Core.List.{List, [], _∷_, map}
@@ -15,10 +15,10 @@ use Rattle.graph.proofs.Admit.{admission-none}
 use Rattle.moves.specs.Tree.{tree}
 use Rattle.moves.specs.Call.{rewrite, nodeFault, wordFault, rootFault, scratchFault, isNode, namedBy, nodeNumber, nodeCall, pairNumber, pairRewrite, pairCall, treeNumber, treeCall}
 use Rattle.moves.proofs.Kept.{Kept, kept-none, best-lowest}
-use Rattle.settling.specs.Round.{savingOf}
-use Rattle.settling.specs.Settle.{Rounds, settle, settleNumber, settleCall, NothingLowers}
-use Rattle.settling.proofs.Calls.{node-honest, pair-honest, tree-honest}
-use Rattle.settling.proofs.Rounds.{Ended, settle-ended}
+use Rattle.rounds.specs.Round.{savingOf}
+use Rattle.rounds.specs.Settle.{Rounds, settle, settleNumber, settleCall, NothingLowers}
+use Rattle.rounds.proofs.Calls.{node-honest, pair-honest, tree-honest}
+use Rattle.rounds.proofs.Rounds.{Ended, settle-ended}
 use Rattle.promises.specs.Demand.{Call, nodeAt, pairAt, treeAt, settling, step, reported, fault, Beside, Made, RoundsReported}
 
 -- a call guarded by k, that else answers a without a fault

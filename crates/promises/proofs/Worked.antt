@@ -12,8 +12,8 @@ use Rattle.moves.specs.Rows.{rows, firstRow, arity, flag, movesAt}
 use Rattle.moves.specs.Apply.{at, put, seen, own, turns, outputTurns, apply}
 use Rattle.moves.specs.Tree.{isRoot, last, place, reader, rootIn, rootOf, members, tree}
 use Rattle.moves.specs.Call.{moved, movedC, bestAt, rewrite, isNode, nodeFault, wordFault, rootFault, scratchFault, nodeNumber, nodeCall, namedBy, pairNumber, pairRewrite, pairCall, treeNumber, treeCall}
-use Rattle.settling.specs.Round.{savingOf, start, after, each, treeAt, nodeAt, pairAt, pairsAt, round}
-use Rattle.settling.specs.Settle.{settleIn, settle, settleNumber, settleCall}
+use Rattle.rounds.specs.Round.{savingOf, start, after, each, treeAt, nodeAt, pairAt, pairsAt, round}
+use Rattle.rounds.specs.Settle.{settleIn, settle, settleNumber, settleCall}
 use Rattle.promises.specs.Worked.{Right}
 
 pub right : Right

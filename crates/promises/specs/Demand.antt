@@ -13,8 +13,8 @@ use Rattle.choice.specs.Choice.{Fits}
 use Rattle.moves.specs.Rows.{movesAt}
 use Rattle.moves.specs.Tree.{tree}
 use Rattle.moves.specs.Call.{moved, nodeFault, wordFault, rootFault, scratchFault, nodeCall, pairCall, treeCall}
-use Rattle.settling.specs.Round.{savingOf}
-use Rattle.settling.specs.Settle.{Rounds, settle, settleCall, NothingLowers}
+use Rattle.rounds.specs.Round.{savingOf}
+use Rattle.rounds.specs.Settle.{Rounds, settle, settleCall, NothingLowers}
 
 -- a call, with whatever node, word and scratch it is given
 pub data Call : Type 0 where

@@ -11,7 +11,7 @@ ghost use Rattle.tagged_file.specs.Load.{loadCall};
 ghost use Rattle.tagged_file.specs.Write.{writeCall};
 ghost use Rattle.evaluation.specs.Evaluation.{evaluateNumber, resultsAfter};
 ghost use Rattle.moves.specs.Call.{nodeCall, pairCall, treeCall};
-ghost use Rattle.settling.specs.Settle.{settleCall};
+ghost use Rattle.rounds.specs.Settle.{settleCall};
 ghost use Rattle.answers.specs.Told.{told, toldOne};
 ghost use Rattle.reducer.specs.Interface.{fieldAnswer};
 

@@ -14,9 +14,9 @@ use Rattle.graph.specs.Answer.{Answer, accepted, Outcome, outcome, guarded}
 use Rattle.graph.proofs.Tests.{equal, unequal, both, off}
 use Rattle.graph.proofs.Admit.{admitted}
 use Rattle.moves.specs.Call.{nodeCall, pairCall, treeCall, scratchFault}
-use Rattle.settling.specs.Round.{savingOf}
-use Rattle.settling.specs.Settle.{settle, settleNumber, settleCall}
-use Rattle.settling.proofs.Rounds.{Ended, settle-ended}
+use Rattle.rounds.specs.Round.{savingOf}
+use Rattle.rounds.specs.Settle.{settle, settleNumber, settleCall}
+use Rattle.rounds.proofs.Rounds.{Ended, settle-ended}
 use Rattle.answers.specs.Told.{toldBy, told}
 use Rattle.promises.specs.Demand.{Call, nodeAt, pairAt, treeAt, settling, step, reported}
 use Rattle.replay.specs.Replay.{callOf, Tells}

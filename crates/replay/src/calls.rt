@@ -5,7 +5,7 @@ ghost use Prim.Native.Nat.{_*_, _/_, _≤_};
 ghost use lib.ListN.{length, getD, drop};
 ghost use Rattle.graph.specs.Graph.{graphOf};
 ghost use Rattle.moves.specs.Call.{savingAnswer};
-ghost use Rattle.settling.specs.Round.{savingOf};
+ghost use Rattle.rounds.specs.Round.{savingOf};
 ghost use Rattle.settling.specs.Settle.{settledAnswer};
 ghost use Rattle.promises.specs.Demand.{run, reported, settling};
 ghost use Rattle.replay.specs.Replay.{callOf, decode, answersOf, Tells};

@@ -17,7 +17,8 @@ use Rattle.tagged_file.proofs.Stores.{front}
 use Rattle.tagged_file.specs.Load.{loadedAnswer, loadedGraph, blank}
 use Rattle.tagged_file.specs.declared.Loaded.{Loaded}
 use Rattle.tagged_file.specs.declared.Loaded.the-variants as loaded
-use Rattle.settling.specs.Settle.{settleNumber, settleCall, settledAnswer}
+use Rattle.rounds.specs.Settle.{settleNumber, settleCall}
+use Rattle.settling.specs.Settle.{settledAnswer}
 use Rattle.settling.specs.declared.Settled.{Settled}
 use Rattle.settling.specs.declared.Settled.the-variants as settled
 use Rattle.report.specs.Text.{refusedText, line1}

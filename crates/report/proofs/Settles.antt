@@ -15,7 +15,7 @@ use Rattle.moves.specs.Call.{scratchFault}
 use Rattle.tagged_file.specs.Load.{graphRead, loadCall}
 use Rattle.tagged_file.proofs.Whole.{passed}
 use Rattle.tagged_file.proofs.RoundTrip.{load-admitted}
-use Rattle.settling.specs.Settle.{settleNumber, settleCall}
+use Rattle.rounds.specs.Settle.{settleNumber, settleCall}
 use Rattle.report.specs.Report.{thenSettle, settledFile, reportNumber}
 use Rattle.report.proofs.Room.{enough-is}
 use Rattle.report.proofs.Outcomes.{guarded-zero, guarded-graph}

@@ -14,8 +14,8 @@ use Rattle.moves.specs.Rows.{rows, firstRow, arity, flag, movesAt}
 use Rattle.moves.specs.Apply.{at, put, seen, own, turns, outputTurns, apply}
 use Rattle.moves.specs.Tree.{isRoot, last, place, reader, rootIn, rootOf, members, tree}
 use Rattle.moves.specs.Call.{moved, movedC, bestAt, rewrite, isNode, nodeFault, wordFault, rootFault, scratchFault, nodeNumber, nodeCall, namedBy, pairNumber, pairRewrite, pairCall, treeNumber, treeCall}
-use Rattle.settling.specs.Round.{savingOf, start, after, each, treeAt, nodeAt, pairAt, pairsAt, round}
-use Rattle.settling.specs.Settle.{settleIn, settle, settleNumber, settleCall}
+use Rattle.rounds.specs.Round.{savingOf, start, after, each, treeAt, nodeAt, pairAt, pairsAt, round}
+use Rattle.rounds.specs.Settle.{settleIn, settle, settleNumber, settleCall}
 use Rattle.file_checks.specs.File.{be2, be4, payloadOf, dueNumber, nodeSize, third, headNumber, endNumber, fileNumber}
 use Rattle.file_checks.specs.File as file
 use Rattle.tagged_file.specs.Load.{graphRead, loadCall}

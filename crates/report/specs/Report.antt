@@ -7,7 +7,7 @@ use Rattle.graph.specs.Graph.{Graph, mark}
 use Rattle.graph.specs.Answer.{Answer, accepted, refused, Outcome}
 use Rattle.tagged_file.specs.Write.{inOrder}
 use Rattle.tagged_file.specs.Load.{loadCall}
-use Rattle.settling.specs.Settle.{settleCall}
+use Rattle.rounds.specs.Settle.{settleCall}
 use Rattle.report.specs.declared.RoomFault.{RoomFault}
 use Rattle.report.specs.declared.RoomFault.the-variants.{Scratch, Buffer}
 use Rattle.report.specs.declared.Reported.{Reported}

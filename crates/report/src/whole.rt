@@ -6,7 +6,7 @@ ghost use lib.ListN.{length};
 ghost use Rattle.graph.specs.Graph.{graphOf};
 ghost use Rattle.graph.specs.Answer.{accepted, ScratchKept};
 ghost use Rattle.tagged_file.specs.Load.{loadCall};
-ghost use Rattle.settling.specs.Settle.{settleCall};
+ghost use Rattle.rounds.specs.Settle.{settleCall};
 ghost use Rattle.report.specs.Report.{reportOutcome, printed, settledFile};
 use crate::lines;
 

@@ -12,7 +12,7 @@ use Rattle.graph.proofs.Admit.{admitted}
 use Rattle.graph.proofs.Answers.{refused-outcome, accepted-outcome}
 use Rattle.moves.specs.Call.{scratchFault}
 use Rattle.state.specs.State.{stands}
-use Rattle.settling.specs.Settle.{Rounds, settle, settleNumber, settleCall}
+use Rattle.rounds.specs.Settle.{Rounds, settle, settleNumber, settleCall}
 use Rattle.settling.specs.Phase.{AllRounds, SettledTo}
 
 pub passed : (g : Graph) (s : ℕ) → settleNumber g s ≡ 0 → Admitted g × (8 * g .N ≤ s)

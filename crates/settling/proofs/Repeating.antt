@@ -1,5 +1,5 @@
--- Rounds over a state, one after the other, are settling: what is left after a round is the whole. From rounds (Rounds) and from
--- what the phases of a round make of a state.
+-- Rounds over a state, one after the other, are settling: what is left after a round is the whole. From what is left
+-- after a round (crate rounds, Rest) and from what the phases of a round make of a state.
 use mathlib.Core.Path.{_≡_, refl, sym, ap, _∙_}
 use mathlib.Core.List.{List}
 use Prim.Native.Nat.{ℕ, zero, suc, _+_, _-_, _*_, _≤_, _<_}
@@ -13,29 +13,10 @@ use Rattle.graph.specs.Admission.{Admitted}
 use Rattle.graph.proofs.Adds.{C-le}
 use Rattle.state.specs.State.{stands, Ordered}
 use Rattle.state.proofs.Stands.{stands-admitted}
-use Rattle.settling.specs.Round.{Progress, start, round}
-use Rattle.settling.specs.Settle.{Rounds, settleIn, settle}
-use Rattle.settling.specs.Phase.{Phase, AllRounds, phases}
-use Rattle.settling.proofs.Rounds.{round-kept, settleIn-more, settleIn-last}
-
--- k rounds more, before these
-pub later : ℕ → Rounds → Rounds
-later zero r = r
-later (suc k) r = later k (record { rounds = suc (r .rounds); graph = r .graph })
-
-later-rounds : (k : ℕ) (r : Rounds) → later k r .rounds ≡ k + r .rounds
-unfolding later
-later-rounds zero r = omega arith
-later-rounds (suc k) r = omega (arith, later-rounds k (record { rounds = suc (r .rounds); graph = r .graph }))
-
-later-graph : (k : ℕ) (r : Rounds) → later k r .graph ≡ r .graph
-unfolding later
-later-graph zero r = refl
-later-graph (suc k) r = later-graph k (record { rounds = suc (r .rounds); graph = r .graph })
-
-later-more : (k : ℕ) (r : Rounds) → later k (record { rounds = suc (r .rounds); graph = r .graph }) ≡ later (suc k) r
-unfolding later
-later-more k r = refl
+use Rattle.rounds.specs.Round.{start, phases, round}
+use Rattle.rounds.specs.Settle.{Rounds, settleIn, settle}
+use Rattle.settling.specs.Phase.{Phase, AllRounds}
+use Rattle.rounds.proofs.Rest.{later, later-rounds, later-graph, left-more, left-last}
 
 -- so many rounds have been made, the last of which took C from c₁ to c₂: where that lowered C, the rest of settling follows, and
 -- else nothing
@@ -87,17 +68,6 @@ module _ (s : ℕ) (g₀ : Graph) (sc₀ : List ℕ) (g : Graph) (sc : List ℕ)
   pub going-few : Ordered g₀ sc₀ → Going s g₀ sc₀ g sc rounds c₁ c₂ → rounds ≤ 304097
   going-few o w = omega (arith, w .few, count-few g₀ sc₀ o)
 
-  -- what is left after a round, of fuel that is at least C before it
-  left-more : (k f : ℕ) (h h′ : Graph) → round s h .graph ≡ h′ → C h ≤ f → C h′ < C h → (f′ : ℕ) → f ≡ suc f′ → later k (settleIn (suc f) s h) ≡ later (suc k) (settleIn (suc f′) s h′)
-  left-more k f h h′ r l b f′ e =
-      let q : C (round s h .graph) < C h = omega (arith, ap C r) in
-      ap (later k) (settleIn-more f s h q ∙ rw (r, e)) ∙ later-more k (settleIn (suc f′) s h′)
-
-  left-last : (k f : ℕ) (h h′ : Graph) → round s h .graph ≡ h′ → C h ≤ C h′ → later k (settleIn (suc f) s h) ≡ later (suc k) (record { rounds = 0; graph = h′ })
-  left-last k f h h′ r b =
-      let q : C h ≤ C (round s h .graph) = omega (arith, ap C r) in
-      ap (later k) (settleIn-last f s h q ∙ rw r) ∙ later-more k (record { rounds = 0; graph = h′ })
-
   -- one that does is followed by another
   pub going-more : Going s g₀ sc₀ g sc rounds c₁ c₂ → c₂ < c₁ → (g′ : Graph) (sc′ : List ℕ) (c₃ : ℕ) → Phase (phases s (g .N)) g sc g′ sc′ c₃
       → Going s g₀ sc₀ g′ sc′ (rounds + 1) c₂ c₃
@@ -113,9 +83,9 @@ module _ (s : ℕ) (g₀ : Graph) (sc₀ : List ℕ) (g : Graph) (sc : List ℕ)
         few = omega (arith, m .2);
         more = λ b.
             let f : w .fuel ≡ suc (w .fuel - 1) = omega (arith, m .1, w .here) in (
-              rw (add-one rounds) (m .0 ∙ left-more rounds (w .fuel) (stands g sc) (stands g′ sc′) r (m .1) (omega (arith, w .here, p .count)) (w .fuel - 1) f),
+              rw (add-one rounds) (m .0 ∙ left-more s rounds (w .fuel) (stands g sc) (stands g′ sc′) r (m .1) (omega (arith, w .here, p .count)) (w .fuel - 1) f),
               omega (arith, m .1, w .here, p .count),
               omega (arith, m .2),
             );
-        done = λ b. rw (add-one rounds) (m .0 ∙ left-last rounds (w .fuel) (stands g sc) (stands g′ sc′) r (omega (arith, w .here, p .count)));
+        done = λ b. rw (add-one rounds) (m .0 ∙ left-last s rounds (w .fuel) (stands g sc) (stands g′ sc′) r (omega (arith, w .here, p .count)));
       }

@@ -1,5 +1,5 @@
 -- What the inner steps make of a state is what a round's steps make of the graph that it stands for. From the contracts of crate
--- incremental, and from what each step of a round does to the graph (Turns).
+-- state, and from what each step of a round does to the graph (Turns).
 use mathlib.Core.Path.{_≡_, refl, sym, ap, _∙_}
 use mathlib.Core.Bool.{Bool, true, false, cond, _&&_}
 use mathlib.Core.List.{List, [], _∷_}
@@ -22,9 +22,9 @@ use Rattle.state.specs.Step.{Made}
 use Rattle.trees.specs.Stepping.{TreeMade}
 use Rattle.state.proofs.Alike.{Alike, alike-xor, alike-isRoot}
 use Rattle.state.proofs.Stands.{stands-alike, stands-admitted}
-use Rattle.settling.specs.Round.{Progress, each, treeAt, nodeAt, pairAt, pairsAt}
+use Rattle.rounds.specs.Round.{Progress, each, treeAt, nodeAt, pairAt, pairsAt}
 use Rattle.settling.specs.Phase.{Phase}
-use Rattle.settling.proofs.Turns.{nodeAt-graph, treeAt-root, treeAt-inner, pairAt-word, pairAt-none}
+use Rattle.rounds.proofs.Turns.{nodeAt-graph, treeAt-root, treeAt-inner, pairAt-word, pairAt-none}
 
 -- steps one after the other
 pub phase-then : (a b : Progress → Progress) (g g₁ g₂ : Graph) (sc sc₁ sc₂ : List ℕ) (c₁ c₂ : ℕ) → Phase a g sc g₁ sc₁ c₁ → Phase b g₁ sc₁ g₂ sc₂ c₂

@@ -1,13 +1,13 @@
 -- What the inner functions of settling make of a state. No promise to a caller.
 use mathlib.Core.Path.{_≡_}
 use mathlib.Core.List.{List}
-use Prim.Native.Nat.{ℕ, _+_, _≤_}
+use Prim.Native.Nat.{ℕ}
 use lib.ListN.{length}
 use Rattle.graph.specs.Graph.{Graph}
 use Rattle.graph.specs.Count.{C}
 use Rattle.state.specs.State.{stands, Ordered}
-use Rattle.settling.specs.Round.{Progress, each, treeAt, nodeAt, pairsAt}
-use Rattle.settling.specs.Settle.{Rounds, settle}
+use Rattle.rounds.specs.Round.{Progress}
+use Rattle.rounds.specs.Settle.{Rounds, settle}
 
 -- tables g and scratch sc became g′ and sc′, in order, as the steps `made` of a round make of the graph that they stood for; c is
 -- C of the graph that they stand for now
@@ -16,10 +16,6 @@ pub record Phase (made : Progress → Progress) (g : Graph) (sc : List ℕ) (g�
   pub long : length sc′ ≡ length sc
   pub makes : (p : Progress) → p .graph ≡ stands g sc → made p .graph ≡ stands g′ sc′
   pub count : c ≡ C (stands g′ sc′)
-
--- the three phases of a round over n nodes, with s words of scratch
-abbrev pub phases : ℕ → ℕ → Progress → Progress
-phases s n p = each pairsAt n (each nodeAt n (each (treeAt s) n p))
 
 -- they became what all rounds make of it, n of them, with s words of scratch
 pub record AllRounds (s : ℕ) (g : Graph) (sc : List ℕ) (g′ : Graph) (sc′ : List ℕ) (n c : ℕ) : Type 0 where

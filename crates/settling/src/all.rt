@@ -6,7 +6,8 @@ ghost use Rattle.graph.specs.Admission.{Admitted};
 ghost use Rattle.graph.specs.Graph.{graphOf};
 ghost use Rattle.graph.specs.Count.{C};
 ghost use Rattle.state.specs.State.{stands, Ordered};
-ghost use Rattle.settling.specs.Phase.{Phase, AllRounds, SettledTo, phases};
+ghost use Rattle.rounds.specs.Round.{phases};
+ghost use Rattle.settling.specs.Phase.{Phase, AllRounds, SettledTo};
 use crate::phases;
 
 // The rounds made, and C after them.

@@ -2,7 +2,7 @@
 ghost use mathlib.Core.Path.{_≡_};
 ghost use Prim.Native.Nat.{_≤_};
 ghost use Rattle.graph.specs.Graph.{graphOf};
-ghost use Rattle.settling.specs.Settle.{settleNumber};
+ghost use Rattle.rounds.specs.Settle.{settleNumber};
 
 pub fn settle_number(
     inputs: u32,

@@ -2,7 +2,8 @@ ghost use mathlib.Core.Path.{_≡_};
 ghost use lib.ListN.{length};
 ghost use Rattle.graph.specs.Graph.{graphOf};
 ghost use Rattle.graph.specs.Answer.{outcome, ScratchKept};
-ghost use Rattle.settling.specs.Settle.{settledAnswer, settleCall};
+ghost use Rattle.rounds.specs.Settle.{settleCall};
+ghost use Rattle.settling.specs.Settle.{settledAnswer};
 
 pub mod all;
 pub mod faults;

@@ -6,7 +6,7 @@ ghost use mathlib.Core.Bool.{true};
 ghost use Rattle.graph.specs.Graph.{graphOf};
 ghost use Rattle.graph.specs.Count.{C};
 ghost use Rattle.state.specs.State.{stands, Ordered};
-ghost use Rattle.settling.specs.Round.{each, treeAt, nodeAt, pairAt, pairsAt};
+ghost use Rattle.rounds.specs.Round.{each, treeAt, nodeAt, pairAt, pairsAt};
 ghost use Rattle.settling.specs.Phase.{Phase};
 use graph::literal::MARK;
 

@@ -1,5 +1,5 @@
 -- `saving_answer` meets its contract. From those of its answer's number and value.
-use Rattle.settling.specs.Round.{savingOf}
+use Rattle.rounds.specs.Round.{savingOf}
 use borrow.Author.Needs.{needs}
 use Rattle.replay.proofs.calls.saving_answer.Statement.{statement}
 use Rattle.replay.proofs.calls.saving_answer.Tie as tie

@@ -5,7 +5,7 @@ use Rattle.graph.specs.Graph.{Graph, graphOf}
 use Rattle.graph.proofs.Tests.{fault, none, less, no-less}
 use Rattle.graph.proofs.Answers.{admission-le}
 use Rattle.moves.specs.Call.{scratchFault}
-use Rattle.settling.specs.Settle.{settleNumber}
+use Rattle.rounds.specs.Settle.{settleNumber}
 use borrow.Author.Needs.{needs}
 use Rattle.settling.proofs.faults.settle_number.Statement.{statement}
 use Rattle.settling.proofs.faults.settle_number.Tie as tie

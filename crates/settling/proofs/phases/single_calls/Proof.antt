@@ -4,7 +4,7 @@ use Prim.Native.Nat.{ℕ, _+_, _-_, _≤_, _<_}
 use native.Mathlib.Omega.{arith}
 use lib.ListN.{length}
 use Rattle.graph.specs.Graph.{Graph, graphOf}
-use Rattle.settling.specs.Round.{each, nodeAt}
+use Rattle.rounds.specs.Round.{each, nodeAt}
 use Rattle.settling.specs.Phase.{Phase}
 use Rattle.settling.proofs.Stepping.{each-none, each-more, node-phase}
 use Rattle.settling.proofs.phases.single_calls.Statement.{statement}

@@ -11,8 +11,8 @@ use Rattle.graph.specs.Admission.{Admitted}
 use Rattle.graph.specs.Answer.{Outcome}
 use Rattle.moves.proofs.Count.{clash}
 use Rattle.moves.proofs.Kept.{Kept, kept-none, kept-then}
-use Rattle.settling.specs.Round.{savingOf, Progress, after, each}
-use Rattle.settling.proofs.Calls.{Honest}
+use Rattle.rounds.specs.Round.{savingOf, Progress, after, each}
+use Rattle.rounds.proofs.Calls.{Honest}
 
 -- a step from p to q that has saved so much
 pub record Moved (p q : Progress) (saved : ℕ) : Type 0 where

@@ -12,8 +12,8 @@ use Rattle.graph.specs.Admission.{Admitted}
 use Rattle.graph.specs.Answer.{Outcome, guarded}
 use Rattle.moves.specs.Tree.{isRoot, tree}
 use Rattle.moves.specs.Call.{moved, bestAt, rewrite, wordFault, nodeNumber, nodeCall, pairNumber, pairRewrite, pairCall, treeNumber, treeCall}
-use Rattle.settling.specs.Round.{Progress, after, treeAt, nodeAt, pairAt}
-use Rattle.settling.proofs.Calls.{guarded-none, node-passes, pair-passes, tree-passes}
+use Rattle.rounds.specs.Round.{Progress, after, treeAt, nodeAt, pairAt}
+use Rattle.rounds.proofs.Calls.{guarded-none, node-passes, pair-passes, tree-passes}
 
 module _ (p : Progress) (adm : Admitted (p .graph)) where
   pub nodeAt-graph : (v : ℕ) → v < p .graph .N

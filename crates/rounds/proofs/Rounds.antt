@@ -18,10 +18,10 @@ use Rattle.moves.specs.Tree.{isRoot}
 use Rattle.moves.specs.Call.{nodeCall, pairCall, treeCall, wordFault}
 use Rattle.moves.proofs.Readers.{both-true}
 use Rattle.moves.proofs.Kept.{Kept, kept-then}
-use Rattle.settling.specs.Round.{savingOf, Progress, start, after, each, treeAt, nodeAt, pairAt, pairsAt, round}
-use Rattle.settling.specs.Settle.{Rounds, settleIn, settle, NothingLowers}
-use Rattle.settling.proofs.Calls.{node-honest, pair-honest, tree-honest, node-nothing, pair-nothing, tree-nothing}
-use Rattle.settling.proofs.Steps.{Moved, Sound, after-sound, cond-sound, then-sound, each-sound}
+use Rattle.rounds.specs.Round.{savingOf, Progress, start, after, each, treeAt, nodeAt, pairAt, pairsAt, phases, round}
+use Rattle.rounds.specs.Settle.{Rounds, settleIn, settle, NothingLowers}
+use Rattle.rounds.proofs.Calls.{node-honest, pair-honest, tree-honest, node-nothing, pair-nothing, tree-nothing}
+use Rattle.rounds.proofs.Steps.{Moved, Sound, after-sound, cond-sound, then-sound, each-sound}
 
 -- what holds of a graph on which a call saves nothing
 abbrev TreeIdle : ℕ → ℕ → Graph → Type 0
@@ -46,26 +46,34 @@ unfolding pairAt
 pair-sound v k =
     cond-sound (λ g. eqb (wordFault g (node g v) k) 0) _ (λ g. savingOf (pairCall g (node g v) k .answer) ≡ 0) (after-sound _ (pair-honest (λ g. node g v) k))
 
-pairs-sound : (v : ℕ) → Sound (pairsAt v) (λ g. (PairIdle v 1 g × PairIdle v 2 g) × PairIdle v 3 g)
+abbrev PairsIdle : ℕ → Graph → Type 0
+PairsIdle v g = (PairIdle v 1 g × PairIdle v 2 g) × PairIdle v 3 g
+
+pairs-sound : (v : ℕ) → Sound (pairsAt v) (PairsIdle v)
 unfolding pairsAt
 pairs-sound v =
     then-sound (λ p. pairAt v 2 (pairAt v 1 p)) (pairAt v 3) (λ g. PairIdle v 1 g × PairIdle v 2 g) (PairIdle v 3)
     (then-sound (pairAt v 1) (pairAt v 2) (PairIdle v 1) (PairIdle v 2) (pair-sound v 1) (pair-sound v 2)) (pair-sound v 3)
 
--- the phases of a round over n nodes
-abbrev phases : ℕ → ℕ → Progress → Progress
-phases s n p = each pairsAt n (each nodeAt n (each (treeAt s) n p))
+-- what holds of a graph on which no call of a round over n nodes saves anything
+record Idle (s n : ℕ) (g : Graph) : Type 0 where
+  trees : (v : ℕ) → v < n → TreeIdle s v g
+  nodes : (v : ℕ) → v < n → NodeIdle v g
+  pairs : (v : ℕ) → v < n → PairsIdle v g
 
-abbrev Idle : ℕ → ℕ → Graph → Type 0
-Idle s n g =
-    (((v : ℕ) → v < n → TreeIdle s v g) × ((v : ℕ) → v < n → NodeIdle v g))
-    × ((v : ℕ) → v < n → (PairIdle v 1 g × PairIdle v 2 g) × PairIdle v 3 g)
+pub trees-sound : (s n : ℕ) → Sound (each (treeAt s) n) (λ g. (v : ℕ) → v < n → TreeIdle s v g)
+trees-sound s n = each-sound (treeAt s) (TreeIdle s) (tree-sound s) n
 
 phases-sound : (s n : ℕ) → Sound (phases s n) (Idle s n)
 phases-sound s n =
-    then-sound (λ p. each nodeAt n (each (treeAt s) n p)) (each pairsAt n) _ _
-    (then-sound (each (treeAt s) n) (each nodeAt n) _ _ (each-sound (treeAt s) (TreeIdle s) (tree-sound s) n) (each-sound nodeAt NodeIdle node-sound n))
-    (each-sound pairsAt (λ v g. (PairIdle v 1 g × PairIdle v 2 g) × PairIdle v 3 g) pairs-sound n)
+    let nodes = each-sound nodeAt NodeIdle node-sound n in
+    let pairs = each-sound pairsAt PairsIdle pairs-sound n in
+    let all = then-sound _ _ _ _ (then-sound _ _ _ _ (trees-sound s n) nodes) pairs in
+    record {
+      saves = all .saves;
+      moves = all .moves;
+      still = λ p adm e. let x = all .still p adm e in (x .0, record { trees = x .1 .0 .0; nodes = x .1 .0 .1; pairs = x .1 .1 });
+    }
 
 three : (x : Bool) (k : ℕ) → leb k (cond x 2 3) ≡ true → k ≤ 3
 three true k e = omega (arith, leb-true k 2 e)
@@ -90,7 +98,7 @@ module _ (s : ℕ) (g : Graph) (adm : Admitted g) where
       let b = both-true (leb 1 k) _ (passes _ 6 e) in
       (leb-true 1 k (b .0), three (isXor g (node g v - (g .I + 1))) k (b .1))
 
-  idle-pair : (v k : ℕ) → (PairIdle v 1 g × PairIdle v 2 g) × PairIdle v 3 g → 1 ≤ k → k ≤ 3 → PairIdle v k g
+  idle-pair : (v k : ℕ) → PairsIdle v g → 1 ≤ k → k ≤ 3 → PairIdle v k g
   idle-pair v zero h l m = absurd (omega arith)
   idle-pair v (suc zero) h l m = h .0 .0
   idle-pair v (suc (suc zero)) h l m = h .0 .1
@@ -100,11 +108,11 @@ module _ (s : ℕ) (g : Graph) (adm : Admitted g) where
   idle-lowest : 8 * g .N ≤ s → Idle s (g .N) g → NothingLowers g
   idle-lowest l i =
       record {
-        at-node = λ v h m b. node-nothing g adm v h (i .0 .1 v h) m b;
+        at-node = λ v h m b. node-nothing g adm v h (i .nodes v h) m b;
         on-pair = λ v k h w n a b la lb.
             let r = word-bound v k w in
-            pair-nothing g adm v k h w n (idle-pair v k (i .1 v h) (r .0) (r .1) (eq-eqb _ _ w)) a b la lb;
-        on-tree = λ v h t ms f. tree-nothing g adm s v h t l (i .0 .0 v h t) ms f;
+            pair-nothing g adm v k h w n (idle-pair v k (i .pairs v h) (r .0) (r .1) (eq-eqb _ _ w)) a b la lb;
+        on-tree = λ v h t ms f. tree-nothing g adm s v h t l (i .trees v h t) ms f;
       }
 
   -- a round that does not lower C leaves the graph as it is, and nothing lowers C

@@ -47,5 +47,9 @@ pairAt v k p = cond (eqb (wordFault (p .graph) (node (p .graph) v) k) 0) (after 
 unfoldable pub pairsAt : ℕ → Progress → Progress
 pairsAt v p = pairAt v 3 (pairAt v 2 (pairAt v 1 p))
 
+-- the three phases over n nodes, with s words of scratch
+abbrev pub phases : ℕ → ℕ → Progress → Progress
+phases s n p = each pairsAt n (each nodeAt n (each (treeAt s) n p))
+
 unfoldable pub round : ℕ → Graph → Progress
-round s g = each pairsAt (g .N) (each nodeAt (g .N) (each (treeAt s) (g .N) (start g)))
+round s g = phases s (g .N) (start g)

@@ -20,7 +20,7 @@ use Rattle.moves.specs.Rows.{movesAt}
 use Rattle.moves.specs.Tree.{isRoot, tree}
 use Rattle.moves.specs.Call.{moved, bestAt, rewrite, isNode, nodeFault, wordFault, rootFault, scratchFault, nodeNumber, nodeCall, namedBy, pairNumber, pairRewrite, pairCall, treeNumber, treeCall}
 use Rattle.moves.proofs.Kept.{Kept, kept-none, best-lowest, best-idle, rewrite-kept}
-use Rattle.settling.specs.Round.{savingOf}
+use Rattle.rounds.specs.Round.{savingOf}
 
 -- what a call does to an admitted graph
 pub record Honest (call : Graph → Outcome) : Type 0 where

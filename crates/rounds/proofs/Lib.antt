@@ -1,0 +1,6 @@
+pub mod Calls
+pub mod Steps
+pub mod Rounds
+pub mod Turns
+pub mod Rest
+pub mod Worked

@@ -1,0 +1,20 @@
+-- The worked settling holds of the definitions: by computation.
+use mathlib.Core.Path.{_≡_, refl}
+use mathlib.Core.List.{flatMap}
+use Rattle.graph.specs.Finite.{tab, sum, count, ifLess, first, firstOf}
+use Rattle.graph.specs.Graph.{turn, isXor, isEdge}
+use Rattle.graph.specs.Count.{adds, wordAdds, nodeAdds, outputAdds, C, named, outputNamed, nodeReaders, readers}
+use Rattle.graph.specs.Admission.{limitNumber, tableNumber, wordNumber, outputNumber, literalNumber, admissionNumber}
+use Rattle.graph.specs.Answer.{guarded}
+use Rattle.choice.specs.Choice.{from, choices, unlessLess, least, best}
+use Rattle.moves.specs.Rows.{rows, firstRow, arity, flag, movesAt}
+use Rattle.moves.specs.Apply.{at, put, seen, own, turns, outputTurns, apply}
+use Rattle.moves.specs.Tree.{isRoot, last, place, reader, rootIn, rootOf, members, tree}
+use Rattle.moves.specs.Call.{moved, movedC, bestAt, rewrite, isNode, nodeFault, wordFault, rootFault, scratchFault, nodeNumber, nodeCall, namedBy, pairNumber, pairRewrite, pairCall, treeNumber, treeCall}
+use Rattle.rounds.specs.Round.{savingOf, start, after, each, treeAt, nodeAt, pairAt, pairsAt, round}
+use Rattle.rounds.specs.Settle.{settleIn, settle, settleNumber, settleCall}
+use Rattle.rounds.specs.Worked.{Settles}
+
+pub settles : Settles
+unfolding flatMap tab sum count ifLess first firstOf turn isXor isEdge adds wordAdds nodeAdds outputAdds C named outputNamed nodeReaders readers limitNumber tableNumber wordNumber outputNumber literalNumber admissionNumber guarded from choices unlessLess least best rows firstRow arity flag movesAt at put seen own turns outputTurns apply isRoot last place reader rootIn rootOf members tree moved movedC bestAt rewrite isNode nodeFault wordFault rootFault scratchFault nodeNumber nodeCall namedBy pairNumber pairRewrite pairCall treeNumber treeCall savingOf start after each treeAt nodeAt pairAt pairsAt round settleIn settle settleNumber settleCall
+settles = refl

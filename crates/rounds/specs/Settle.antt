@@ -1,0 +1,50 @@
+-- Settling (document 01's term): rounds until one does not lower C.
+use mathlib.Core.Path.{_≡_}
+use mathlib.Core.Bool.{true}
+use mathlib.Core.List.{List, [], _∷_, map}
+use Prim.Native.Nat.{ℕ, zero, suc, _≤_, _<_}
+use Rattle.graph.specs.Finite.{ifLess, first}
+use Rattle.graph.specs.Graph.{Graph, node}
+use Rattle.graph.specs.Count.{C}
+use Rattle.graph.specs.Admission.{admissionNumber}
+use Rattle.graph.specs.Answer.{accepted, Outcome, outcome, guarded}
+use Rattle.choice.specs.Choice.{Fits}
+use Rattle.moves.specs.Rows.{movesAt}
+use Rattle.moves.specs.Tree.{isRoot, tree}
+use Rattle.moves.specs.Call.{moved, scratchFault, isNode, wordFault, namedBy}
+use Rattle.rounds.specs.Round.{Progress, round}
+
+-- the rounds made, and the graph as they leave it
+pub record Rounds : Type 0 where
+  pub rounds : ℕ
+  pub graph : Graph
+
+-- g after a round that leaves h: it is the last, or at most f more follow
+unfoldable pub settleIn : ℕ → ℕ → Graph → Rounds
+settleIn zero s g = record { rounds = 0; graph = g }
+settleIn (suc f) s g =
+    let h = round s g .graph in
+    let more = settleIn f s h in
+    ifLess (C h) (C g) (record { rounds = suc (more .rounds); graph = more .graph }) (record { rounds = 1; graph = h })
+
+-- each round but the last lowers C by one at least, so that C g + 1 rounds are enough
+unfoldable pub settle : ℕ → Graph → Rounds
+settle s g = settleIn (suc (C g)) s g
+
+-- the call, with s words of scratch: the rounds made, that last one included, with C before and after
+unfoldable pub settleNumber : Graph → ℕ → ℕ
+settleNumber g s = first (admissionNumber g) (scratchFault g s)
+
+unfoldable pub settleCall : Graph → ℕ → Outcome
+settleCall g s =
+    let r = settle s g in
+    guarded (settleNumber g s) g (outcome (accepted (r .rounds ∷ C g ∷ C (r .graph) ∷ [])) (r .graph))
+
+-- no choice of moves at one node, on a pair or on a tree lowers C. A pair is a node with a node that one of its words names
+pub record NothingLowers (g : Graph) : Type 0 where
+  pub at-node : (v : ℕ) → v < g .N → (m : ℕ) → m < movesAt g (node g v) → C g ≤ C (moved g (node g v ∷ []) (m ∷ []))
+  pub on-pair : (v k : ℕ) → v < g .N → wordFault g (node g v) k ≡ 0 → isNode g (namedBy g (node g v) k) ≡ true
+      → (a b : ℕ) → a < movesAt g (namedBy g (node g v) k) → b < movesAt g (node g v)
+      → C g ≤ C (moved g (namedBy g (node g v) k ∷ node g v ∷ []) (a ∷ b ∷ []))
+  pub on-tree : (v : ℕ) → v < g .N → isRoot g (node g v) ≡ true → (ms : List ℕ) → Fits (map (movesAt g) (tree g (node g v))) ms
+      → C g ≤ C (moved g (tree g (node g v)) ms)
