@@ -3,4 +3,5 @@ pub mod Steps
 pub mod Rounds
 pub mod Turns
 pub mod Rest
+pub mod Scratch
 pub mod Worked
