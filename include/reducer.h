@@ -2,8 +2,9 @@
  * The inversion reducer for majority and XOR graphs, for C.
  *
  * Link the static library that `rt staticlib reducer` writes, target/staticlib/libreducer.a. It needs no other library,
- * keeps no state, allocates nothing and may be called from several threads on tables of their own. Every function is proved
- * to do what is said here, for all bytes, words and numbers.
+ * keeps no state, allocates nothing and may be called from several threads on tables of their own. What is proved is what a
+ * function answers and leaves, for all bytes, words and numbers: the number returned, and what stands in every lent slice and
+ * at the last pointer afterwards. The rest of what is said here is not part of the proof.
  *
  * The graph
  *
@@ -17,8 +18,9 @@
  * What a call answers
  *
  *   Every function returns 0 or the number of a refusal, below. What it answers beside that goes through its last pointer.
- *   A refused call has changed nothing: tables, scratch, results, buffer and that last number or array are as they were. The
- *   first fault is returned, in the order of the numbers 3, 4, 5, 7, 8, 9; loading meets its file from front to back.
+ *   A refused call has changed nothing: tables, scratch, results, buffer, answers and that last number or array are as they
+ *   were. The first fault is returned, in the order of the numbers 3, 4, 5, 7, 8, 9; loading meets its file from front to back,
+ *   and a replay its calls and answers before its file.
  *   Scratch holds nothing of use before or after a call.
  *
  * What a caller owes
@@ -53,7 +55,19 @@ extern "C" {
 /* Bytes that are enough for the file of a graph with n nodes and o outputs. */
 #define REDUCER_FILE_BYTES(n, o) (18 + 15 * (size_t)(n) + 7 * (size_t)(o))
 
-/* What is returned. */
+/* Words of one call of a list, and of its answer. */
+#define REDUCER_CALL_WORDS 3
+#define REDUCER_ANSWER_WORDS 2
+
+/* The kinds of calls in a list. */
+enum reducer_kind {
+    REDUCER_NODE_CALL = 0,
+    REDUCER_PAIR_CALL = 1,
+    REDUCER_TREE_CALL = 2,
+    REDUCER_SETTLE_CALL = 3
+};
+
+/* What is returned. 1 to 9 are the refusals of document 01; 101 and 102 are a replay's own and none of document 01's. */
 enum reducer_number {
     REDUCER_OK = 0,
     /* fewer bytes left than the due field's 3-byte head, or than its payload */
@@ -73,7 +87,11 @@ enum reducer_number {
     /* scratch too short */
     REDUCER_SHORT_SCRATCH = 8,
     /* write buffer too short */
-    REDUCER_SHORT_BUFFER = 9
+    REDUCER_SHORT_BUFFER = 9,
+    /* words of the list are left over: their number is not a multiple of 3 */
+    REDUCER_LEFT_OVER = 101,
+    /* a call of the list has a kind above 3 */
+    REDUCER_UNKNOWN_KIND = 102
 };
 
 /*
@@ -155,6 +173,22 @@ uint32_t reducer_settle(uint32_t inputs, uint32_t nodes, uint32_t outputs,
                         uint32_t *output_table, size_t output_table_length,
                         uint32_t *scratch, size_t scratch_length,
                         uint32_t figures[3]);
+
+/*
+ * Loads a tagged file and makes a list of calls on the loaded graph, each on what the one before left. A call is three words:
+ * its kind, a node's index and a word, of which those that the kind does not want are not looked at. Its answer is two words
+ * at the front of answers: the number that its own function would return, and what it saves, for settling the complemented
+ * edges before less those after; a refused call saves 0, changes nothing, and the list goes on. All calls are lent the same
+ * scratch. numbers are I, N and O. Refusals: 101, 102, 4 (fewer than two words of answers a call), then those of reducer_load;
+ * then no call is made.
+ */
+uint32_t reducer_replay(const uint8_t *file, size_t file_length,
+                        const uint32_t *calls, size_t calls_length,
+                        uint32_t *node_table, size_t node_table_length,
+                        uint32_t *output_table, size_t output_table_length,
+                        uint32_t *scratch, size_t scratch_length,
+                        uint32_t *answers, size_t answers_length,
+                        uint32_t numbers[3]);
 
 #ifdef __cplusplus
 }

@@ -1,8 +1,11 @@
--- What calls leave: scratch that is kept, the tables of an answered load, the stretch of a field. From the laws on answers and tests.
+-- What calls leave: scratch that is kept, the tables of an answered load or replay, the stretch of a field. From the laws on answers
+-- and tests.
 use mathlib.Core.Path.{_≡_, refl, sym, ap, _∙_}
 use mathlib.Core.List.{List, [], _∷_}
 use Prim.Native.Nat.{ℕ, zero, suc}
+use native.Mathlib.Omega.{arith}
 use lib.ListN.{length, getD, take, drop}
+use Rattle.graph.specs.Graph.{Graph, graphOf}
 use Rattle.graph.specs.Answer.{Answer, accepted, unless, ScratchKept}
 use Rattle.graph.proofs.Tests.{equal}
 use Rattle.graph.proofs.Answers.{accepted-is}
@@ -12,6 +15,12 @@ use Rattle.tagged_file.specs.declared.Loaded.the-variants as loaded
 use Rattle.tagged_file.specs.Load.{loadedGraph}
 use Rattle.answers.specs.Told.{told}
 use Rattle.answers.proofs.Same.{same-told}
+use Rattle.promises.specs.Demand.{Call}
+use Rattle.replay.specs.declared.Replayed.{Replayed}
+use Rattle.replay.specs.declared.Replayed.the-variants as replayed
+use Rattle.replay.specs.declared.CallsFault.the-variants.{LeftOver, UnknownKind}
+use Rattle.replay.specs.Replay.{replayedAnswer, replayedGraph, DemandMet}
+use Rattle.replay.proofs.Whole.{numbered}
 
 -- equal answers keep the same scratch
 pub same-kept : {a b : Answer} (before after : List ℕ) → a ≡ b → ScratchKept a before after → ScratchKept b before after
@@ -25,6 +34,26 @@ loaded-nodes (loaded.Refused r) ns os = refl
 pub loaded-outputs : (r : Loaded) (ns os : List ℕ) → os ≡ loadedGraph r ns os .outputs
 loaded-outputs (loaded.Graph i n o) ns os = refl
 loaded-outputs (loaded.Refused r) ns os = refl
+
+-- the same of a replay
+pub replayed-nodes : (r : Replayed) (ns os : List ℕ) → ns ≡ replayedGraph r ns os .nodes
+replayed-nodes (replayed.Done i n o) ns os = refl
+replayed-nodes (replayed.NotCalls f) ns os = refl
+replayed-nodes (replayed.Refused r) ns os = refl
+
+pub replayed-outputs : (r : Replayed) (ns os : List ℕ) → os ≡ replayedGraph r ns os .outputs
+replayed-outputs (replayed.Done i n o) ns os = refl
+replayed-outputs (replayed.NotCalls f) ns os = refl
+replayed-outputs (replayed.Refused r) ns os = refl
+
+-- the graph of an accepted replay is that of the numbers told
+pub replayed-demand : (r : Replayed) (g : Graph) (cs : List Call) (ns os l before m : List ℕ) → m ≡ told (replayedAnswer r) before
+    → (replayedAnswer r .number ≡ 0 → DemandMet g cs (replayedGraph r ns os) l) → replayedAnswer r .number ≡ 0
+    → DemandMet g cs (graphOf (getD m 0 0) (getD m 1 0) (getD m 2 0) ns os) l
+replayed-demand (replayed.Done i n o) g cs ns os l before m e h z = rw e (h z)
+replayed-demand (replayed.NotCalls LeftOver) g cs ns os l before m e h z = absurd (omega arith)
+replayed-demand (replayed.NotCalls UnknownKind) g cs ns os l before m e h z = absurd (omega arith)
+replayed-demand (replayed.Refused r) g cs ns os l before m e h z = absurd (numbered r z)
 
 -- the stretch that a field call tells of is the payload
 take-again : (m : ℕ) (l : List ℕ) → take (length (take m l)) l ≡ take m l

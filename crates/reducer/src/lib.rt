@@ -13,6 +13,7 @@ ghost use Rattle.evaluation.specs.Evaluation.{evaluateNumber, resultsAfter};
 ghost use Rattle.moves.specs.Call.{nodeCall, pairCall, treeCall};
 ghost use Rattle.rounds.specs.Settle.{settleCall};
 ghost use Rattle.answers.specs.Told.{told, toldOne};
+ghost use Rattle.replay.specs.Replay.{decode, replayCall, answersAfter, DemandMet};
 ghost use Rattle.reducer.specs.Interface.{fieldAnswer};
 
 // Where the payload of the field at the front starts, and its length.
@@ -201,4 +202,28 @@ pub extern "C" fn reducer_settle(
     let answer = settling::settle(inputs, nodes, outputs, node_table, output_table, scratch);
     *figures = answers::told::settled_told(answer, *figures);
     answers::told::settled_number(answer)
+}
+
+// Loads the file and makes a list of calls on the loaded graph; `numbers` are I, N and O.
+#[no_mangle]
+pub extern "C" fn reducer_replay(
+    file: &[u8],
+    calls: &[u32],
+    node_table: &mut [u32],
+    output_table: &mut [u32],
+    scratch: &mut [u32],
+    answers: &mut [u32],
+    numbers: &mut [u32; 3],
+) -> u32
+    ensures answer { λ r. ⌜ r ≡ replayCall (now (file .entry)) (now (calls .entry)) (now («node_table» .entry)) (now («output_table» .entry)) (now (scratch .entry)) (length (now (answers .entry))) .answer .number ⌝ }
+    ensures nodes { λ r. ⌜ now («node_table» .exit) ≡ replayCall (now (file .entry)) (now (calls .entry)) (now («node_table» .entry)) (now («output_table» .entry)) (now (scratch .entry)) (length (now (answers .entry))) .graph .nodes ⌝ }
+    ensures outputs { λ r. ⌜ now («output_table» .exit) ≡ replayCall (now (file .entry)) (now (calls .entry)) (now («node_table» .entry)) (now («output_table» .entry)) (now (scratch .entry)) (length (now (answers .entry))) .graph .outputs ⌝ }
+    ensures numbers { λ r. ⌜ now (numbers .exit) ≡ told (replayCall (now (file .entry)) (now (calls .entry)) (now («node_table» .entry)) (now («output_table» .entry)) (now (scratch .entry)) (length (now (answers .entry))) .answer) (now (numbers .entry)) ⌝ }
+    ensures answers { λ r. ⌜ now (answers .exit) ≡ answersAfter (now (file .entry)) (now (calls .entry)) (now («node_table» .entry)) (now («output_table» .entry)) (now (scratch .entry)) (now (answers .entry)) ⌝ }
+    ensures scratch { λ r. ⌜ ScratchKept (replayCall (now (file .entry)) (now (calls .entry)) (now («node_table» .entry)) (now («output_table» .entry)) (now (scratch .entry)) (length (now (answers .entry))) .answer) (now (scratch .entry)) (now (scratch .exit)) ⌝ }
+    ensures demand { λ r. ⌜ (r ≡ 0 → DemandMet (loadCall (now (file .entry)) (now («node_table» .entry)) (now («output_table» .entry)) .graph) (decode (now (scratch .entry)) (now (calls .entry))) (graphOf (getD (now (numbers .exit)) 0 0) (getD (now (numbers .exit)) 1 0) (getD (now (numbers .exit)) 2 0) (now («node_table» .exit)) (now («output_table» .exit))) (now (answers .exit))) ⌝ }
+{
+    let answer = replay::replay(file, calls, node_table, output_table, scratch, answers);
+    *numbers = replay::told::replayed_told(answer, *numbers);
+    replay::told::replayed_number(answer)
 }

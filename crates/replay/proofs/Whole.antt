@@ -19,7 +19,7 @@ use Rattle.promises.specs.Demand.{Call, step, run, reported, savings, Demand}
 use Rattle.promises.proofs.Lists.{after-load}
 use Rattle.replay.specs.Replay.{decode, answersOf, codeNumber, replayNumber, replayCall, answersAfter, savingsIn, DemandMet}
 
-numbered : (r : Refusal) → numberOf r ≡ 0 → ⊥
+pub numbered : (r : Refusal) → numberOf r ≡ 0 → ⊥
 numbered MissingBytes e = omega arith
 numbered WrongField e = omega arith
 numbered OverLimit e = omega arith

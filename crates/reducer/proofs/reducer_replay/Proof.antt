@@ -1,0 +1,67 @@
+-- `reducer_replay` meets its contract. From those of `replay` and of its answer's number and values.
+use mathlib.Core.Path.{sym, ap, _∙_}
+use Rattle.graph.specs.Answer.{Outcome}
+use Rattle.answers.proofs.Same.{same-told}
+use Rattle.reducer.proofs.Left.{same-kept, replayed-nodes, replayed-outputs, replayed-demand}
+use borrow.Author.Needs.{needs}
+use Rattle.reducer.proofs.reducer_replay.Statement.{statement}
+use Rattle.reducer.proofs.reducer_replay.Tie as tie
+
+replay-requires : tie.Need-replay-requires
+replay-requires c κs = search needs
+
+replayed-told-requires : tie.Need-replayed-told-requires
+replayed-told-requires c κs = search needs
+
+replayed-number-requires : tie.Need-replayed-number-requires
+replayed-number-requires c κs = search needs
+
+same-length : tie.Need-same-length
+same-length c = search needs
+
+same-length-2 : tie.Need-same-length-2
+same-length-2 c = search needs
+
+same-length-3 : tie.Need-same-length-3
+same-length-3 c = search needs
+
+same-length-4 : tie.Need-same-length-4
+same-length-4 c = search needs
+
+returns : tie.Need-returns
+returns c =
+    let p = c .before .before .before .before .before .before .before .before .before .before .before .replay in
+    let e = p .ensures .0 in
+    let s = ap (λ (o : Outcome). o .answer) e in
+    let t = c .before .replayed-told .ensures in (
+      c .replayed-number .ensures ∙ ap (λ (o : Outcome). o .answer .number) e,
+      (
+        replayed-nodes (p .result) _ _ ∙ ap (λ (o : Outcome). o .graph .nodes) e,
+        (
+          replayed-outputs (p .result) _ _ ∙ ap (λ (o : Outcome). o .graph .outputs) e,
+          (
+            t ∙ same-told _ s,
+            (
+              p .ensures .1 .0,
+              (
+                same-kept _ _ s (p .ensures .1 .1 .0),
+                λ z. replayed-demand (p .result) _ _ _ _ _ _ _ t (p .ensures .1 .1 .1) (sym (c .replayed-number .ensures) ∙ z),
+              ),
+            ),
+          ),
+        ),
+      ),
+    )
+
+pub reducer-replay-spec : {M : Type 1} → statement M
+reducer-replay-spec =
+    tie.close
+    (tie.spec
+    replay-requires
+    replayed-told-requires
+    replayed-number-requires
+    same-length
+    same-length-2
+    same-length-3
+    same-length-4
+    returns)
