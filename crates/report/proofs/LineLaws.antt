@@ -73,13 +73,12 @@ pub majority-line : (i x y z : ℕ) → (z ≡ mark → ⊥) → line4 nodeText 
 unfolding nodeLine
 majority-line i x y z e = unequal _ _ _ _ e refl
 
--- a node's line by its index, and by its number among the nodes
-pub node-put : (i : ℕ) (ns : List ℕ) (v index at r n : ℕ) (t t′ : List ℕ) → index ≡ i + 1 + v
-    → (r ≡ at + length (nodeLine index (getD ns (3 * v) 0) (getD ns (3 * v + 1) 0) (getD ns (3 * v + 2) 0)))
-    × (r ≤ at + n)
-    × (t′ ≡ sets t at (nodeLine index (getD ns (3 * v) 0) (getD ns (3 * v + 1) 0) (getD ns (3 * v + 2) 0)))
+-- a node's line by its index and the words that were read, and by its number among the nodes
+pub node-put : (i : ℕ) (ns : List ℕ) (v index at r n x y z : ℕ) (t t′ : List ℕ) → index ≡ i + 1 + v
+    → x ≡ getD ns (3 * v) 0 → y ≡ getD ns (3 * v + 1) 0 → z ≡ getD ns (3 * v + 2) 0
+    → (r ≡ at + length (nodeLine index x y z)) × (r ≤ at + n) × (t′ ≡ sets t at (nodeLine index x y z))
     → (r ≡ at + length (nodeLineAt i ns v)) × (t′ ≡ sets t at (nodeLineAt i ns v))
 unfolding nodeLineAt
-node-put i ns v index at r n t t′ e h =
-    let q = ap (λ (k : ℕ). nodeLine k (getD ns (3 * v) 0) (getD ns (3 * v + 1) 0) (getD ns (3 * v + 2) 0)) e in
+node-put i ns v index at r n x y z t t′ e ex ey ez h =
+    let q : nodeLine index x y z ≡ nodeLineAt i ns v = rw (e, ex, ey, ez) in
     (h .0 ∙ ap (λ (l : List ℕ). at + length l) q, h .2 ∙ ap (sets t at) q)

@@ -13,6 +13,7 @@ ghost use Rattle.report.specs.Report.{sizesLine, countsLine, nodeLine, o
 use crate::text;
 use graph::Refusal;
 use graph::literal::MARK;
+use graph::table::word_at;
 
 pub fn put_node(buffer: &mut [u8], at: usize, index: u32, x: u32, y: u32, z: u32) -> usize
     requires { ⌜ at + 54 ≤ length (now buffer) ⌝ }
@@ -52,9 +53,9 @@ pub fn put_nodes(
             buffer,
             at,
             index,
-            node_table[word],
-            node_table[word + 1],
-            node_table[word + 2],
+            word_at(node_table, word),
+            word_at(node_table, word + 1),
+            word_at(node_table, word + 2),
         );
         index += 1;
         v += 1;
@@ -72,7 +73,7 @@ pub fn put_outputs(buffer: &mut [u8], start: usize, outputs: u32, output_table: 
     let mut v = 0;
     let mut left = outputs;
     while 0 < left {
-        at = put_output(buffer, at, output_table[v]);
+        at = put_output(buffer, at, word_at(output_table, v));
         v += 1;
         left -= 1;
     }

@@ -24,29 +24,20 @@ loop-holds c = (record { counted = omega arith; fits = refl; same = refl; bytes 
 mul-word : tie.Need-mul-word Inv-loop μ-loop
 mul-word c = omega (arith, c .before .loop .inv .0 .counted)
 
-mul-put-node : tie.Need-mul-put-node Inv-loop μ-loop
-mul-put-node c = omega (arith, c .before .before .loop .inv .0 .counted)
+word-at-requires : tie.Need-word-at-requires Inv-loop μ-loop
+word-at-requires c κs = omega (arith, c .before .before .loop .inv .0 .counted)
 
-shared-slice-read-put-node : tie.Need-shared-slice-read-put-node Inv-loop μ-loop
-shared-slice-read-put-node c = omega (arith, c .before .before .before .loop .inv .0 .counted)
+add-word-at : tie.Need-add-word-at Inv-loop μ-loop
+add-word-at c = omega (arith, c .before .before .before .loop .inv .0 .counted)
 
-add-put-node : tie.Need-add-put-node Inv-loop μ-loop
-add-put-node c = omega (arith, c .before .before .before .loop .inv .0 .counted)
+word-at-requires-2 : tie.Need-word-at-requires-2 Inv-loop μ-loop
+word-at-requires-2 c κs = omega (arith, c .before .before .before .loop .inv .0 .counted)
 
-mul-put-node-2 : tie.Need-mul-put-node-2 Inv-loop μ-loop
-mul-put-node-2 c = omega (arith, c .before .before .before .loop .inv .0 .counted)
+add-word-at-2 : tie.Need-add-word-at-2 Inv-loop μ-loop
+add-word-at-2 c = omega (arith, c .before .before .before .before .loop .inv .0 .counted)
 
-shared-slice-read-put-node-2 : tie.Need-shared-slice-read-put-node-2 Inv-loop μ-loop
-shared-slice-read-put-node-2 c = omega (arith, c .before .before .before .before .loop .inv .0 .counted)
-
-add-put-node-2 : tie.Need-add-put-node-2 Inv-loop μ-loop
-add-put-node-2 c = omega (arith, c .before .before .before .before .loop .inv .0 .counted)
-
-mul-put-node-3 : tie.Need-mul-put-node-3 Inv-loop μ-loop
-mul-put-node-3 c = omega (arith, c .before .before .before .before .loop .inv .0 .counted)
-
-shared-slice-read-put-node-3 : tie.Need-shared-slice-read-put-node-3 Inv-loop μ-loop
-shared-slice-read-put-node-3 c = omega (arith, c .before .before .before .before .before .loop .inv .0 .counted)
+word-at-requires-3 : tie.Need-word-at-requires-3 Inv-loop μ-loop
+word-at-requires-3 c κs = omega (arith, c .before .before .before .before .loop .inv .0 .counted)
 
 put-node-requires : tie.Need-put-node-requires Inv-loop μ-loop
 put-node-requires c κs = omega (arith, c .before .before .before .before .before .loop .inv .0 .same)
@@ -65,10 +56,14 @@ loop-less c = omega arith
 
 loop-again : tie.Need-loop-again Inv-loop μ-loop
 loop-again c =
-    let l = c .before .before .before .before .before .before .before .before .loop in
-    let a = c .before .before .before .before .before .before .before .before .before .before .before .args in
-    let p = node-put (a .inputs) (a .node-table .now) (l .v) (l .index) (l .at) _ 54 (l .buffer) _ (l .inv .1) (c .before .before .put-node .ensures) in
-    (left-more (nodeLineAt (a .inputs) (a .node-table .now)) _ _ _ (l .buffer) (l .at) (l .v) (l .left) (l .inv .0) (omega arith) _ _ (p .1) (p .0), omega arith, omega (arith, c .before .before .put-node .ensures .1))
+    let r = c .before .before in
+    let z = r .before in
+    let y = z .before in
+    let x = y .before in
+    let l = x .before .before .before .loop in
+    let a = x .before .before .before .before .before .before .args in
+    let p = node-put (a .inputs) (a .node-table .now) (l .v) (l .index) (l .at) _ 54 _ _ _ (l .buffer) _ (l .inv .1) (x .word-at .ensures) (y .word-at2 .ensures) (z .word-at3 .ensures) (r .put-node .ensures) in
+    (left-more (nodeLineAt (a .inputs) (a .node-table .now)) _ _ _ (l .buffer) (l .at) (l .v) (l .left) (l .inv .0) (omega arith) _ _ (p .1) (p .0), omega arith, omega (arith, r .put-node .ensures .1))
 
 same-length : tie.Need-same-length Inv-loop μ-loop
 same-length c = c .before .loop .inv .0 .same
@@ -89,14 +84,11 @@ put-nodes-spec =
     add-index
     loop-holds
     mul-word
-    mul-put-node
-    shared-slice-read-put-node
-    add-put-node
-    mul-put-node-2
-    shared-slice-read-put-node-2
-    add-put-node-2
-    mul-put-node-3
-    shared-slice-read-put-node-3
+    word-at-requires
+    add-word-at
+    word-at-requires-2
+    add-word-at-2
+    word-at-requires-3
     put-node-requires
     add-index-2
     add-v

@@ -1,9 +1,11 @@
 -- `put_outputs` meets its contract: the lines that are left come to the whole. From the laws on fields in a row.
 use native.Mathlib.Omega.{arith}
-use mathlib.Core.Path.{refl}
+use mathlib.Core.Path.{refl, ap, _∙_}
 use Prim.Native.Nat.{_+_, _*_, _≤_}
+use lib.ListN.{length}
+use lib.Seq.{sets}
 use Rattle.tagged_file.proofs.Emitted.{Left, left-more, left-none}
-use Rattle.report.specs.Report.{outputLineAt}
+use Rattle.report.specs.Report.{outputLine, outputLineAt}
 use Rattle.report.proofs.lines.put_outputs.Statement.{statement}
 use Rattle.report.proofs.lines.put_outputs.Tie as tie
 
@@ -17,11 +19,8 @@ abbrev μ-loop : tie.MeasureT-loop
 loop-holds : tie.Need-loop-holds Inv-loop μ-loop
 loop-holds c = (record { counted = omega arith; fits = refl; same = refl; bytes = refl }, omega arith)
 
-mul-put-output : tie.Need-mul-put-output Inv-loop μ-loop
-mul-put-output c = omega (arith, c .before .before .loop .inv .0 .counted)
-
-shared-slice-read-put-output : tie.Need-shared-slice-read-put-output Inv-loop μ-loop
-shared-slice-read-put-output c = omega (arith, c .before .before .before .loop .inv .0 .counted)
+word-at-requires : tie.Need-word-at-requires Inv-loop μ-loop
+word-at-requires c κs = omega (arith, c .before .before .loop .inv .0 .counted)
 
 put-output-requires : tie.Need-put-output-requires Inv-loop μ-loop
 put-output-requires c κs = omega (arith, c .before .before .before .loop .inv .0 .same)
@@ -41,7 +40,8 @@ loop-again c =
     let l = c .before .before .before .before .before .before .loop in
     let a = c .before .before .before .before .before .before .before .before .before .args in
     let p = c .before .before .put-output .ensures in
-    (left-more (outputLineAt (a .output-table .now)) _ _ _ (l .buffer) (l .at) (l .v) (l .left) (l .inv .0) (omega arith) _ _ (p .2) (p .0), omega arith)
+    let e = ap outputLine (c .before .before .before .word-at .ensures) in
+    (left-more (outputLineAt (a .output-table .now)) _ _ _ (l .buffer) (l .at) (l .v) (l .left) (l .inv .0) (omega arith) _ _ (p .2 ∙ ap (sets (l .buffer) (l .at)) e) (omega (arith, p .0, ap length e)), omega arith)
 
 same-length : tie.Need-same-length Inv-loop μ-loop
 same-length c = c .before .loop .inv .0 .same
@@ -60,8 +60,7 @@ put-outputs-spec =
     Inv-loop
     μ-loop
     loop-holds
-    mul-put-output
-    shared-slice-read-put-output
+    word-at-requires
     put-output-requires
     add-v
     sub-left
