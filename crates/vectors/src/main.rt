@@ -1,25 +1,54 @@
 // Runs the entries on cases from standard input and prints a line of decimal numbers for each; the reference
 // in rust/reference writes the cases and, from its own answers, the lines that are due.
 //
-// A case is 48 bytes, twelve big-endian numbers, and then a body:
-//   0 op, 1 I, 2 N, 3 O, 4 and 5 what the op wants, 6 scratch words, 7 words of the node table,
-//   8 words of the output table, 9 further bytes, 10 length of the result slice, 11 bytes of the body.
-// The body is the further bytes, the node table, the output table; zeros at its end are left out.
-mod answers;
-mod calls;
-mod lists;
+// A case is big-endian numbers of four bytes: 1; the lengths of the bytes, the node table and the output table; how many bytes are
+// given for the front of the first, and these; how many words for the front of the node table, and these; so the output table; the
+// op, and what it reads by itself.
+mod listing;
+mod ops;
 mod print;
 mod read;
-mod run;
+
+fn fill(bytes: &mut [u8], node_table: &mut [u32], output_table: &mut [u32]) {
+    read::fill_bytes(bytes);
+    read::fill_words(node_table);
+    read::fill_words(output_table);
+}
+
+fn show(bytes: &[u8], node_table: &[u32], output_table: &[u32]) {
+    print::bytes(bytes);
+    print::words(node_table);
+    print::words(output_table);
+    print::end_line();
+}
+
+fn run(bytes: &mut [u8], node_table: &mut [u32], output_table: &mut [u32]) {
+    fill(bytes, node_table, output_table);
+    ops::call(read::word(), bytes, node_table, output_table);
+    show(bytes, node_table, output_table);
+}
+
+// The lengths of a case read, and so much of each slice lent.
+fn lend(bytes: &mut [u8], node_table: &mut [u32], output_table: &mut [u32]) {
+    let byte_end = read::room_bytes(read::size(), bytes);
+    let node_end = read::room_words(read::size(), node_table);
+    let output_end = read::room_words(read::size(), output_table);
+    run(
+        &mut bytes[..byte_end],
+        &mut node_table[..node_end],
+        &mut output_table[..output_end],
+    );
+}
 
 // Reads and runs one case, and answers whether there was one.
 fn run_case() -> bool {
-    let mut head = [0u8; 48];
-    let got = io::read_full(0, &mut head);
-    if got < 48 {
+    if read::word() == 0 {
         return false;
     }
-    run::read_body(&head);
+    let mut bytes = [165u8; 65536];
+    let mut node_table = [0u32; 4096];
+    let mut output_table = [0u32; 4352];
+    lend(&mut bytes, &mut node_table, &mut output_table);
     true
 }
 

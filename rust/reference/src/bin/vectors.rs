@@ -9,14 +9,9 @@
 use std::fs;
 use std::path::PathBuf;
 
-use reference::random::Random;
 use reference::vectors::answer::answer;
-use reference::vectors::call_cases::*;
 use reference::vectors::case::Case;
-use reference::vectors::file_cases::*;
-
-/// How much of it the program runs by now: the file and evaluation, the three calls, settling with lists.
-const STAGE: u32 = 3;
+use reference::vectors::{cases, SEED};
 
 fn main() {
     let folder = match std::env::args().nth(1) {
@@ -25,23 +20,8 @@ fn main() {
     };
     let seed = std::env::args()
         .nth(2)
-        .map_or(20_001, |given| given.parse().expect("a seed"));
-    let mut random = Random::new(seed);
-    let mut cases = admission_cases(&mut random);
-    cases.extend(field_cases(&mut random));
-    cases.extend(load_cases(&mut random));
-    cases.extend(write_cases(&mut random));
-    cases.extend(evaluate_cases(&mut random));
-    cases.extend(full_cases());
-    if STAGE >= 2 {
-        cases.extend(call_cases(&mut random));
-        cases.extend(pair_cases(&mut random));
-        cases.extend(tree_cases(&mut random));
-    }
-    if STAGE >= 3 {
-        cases.extend(settle_cases(&mut random));
-        cases.extend(list_cases(&mut random));
-    }
+        .map_or(SEED, |given| given.parse().expect("a seed"));
+    let (cases, _) = cases(seed);
     let stdin: Vec<u8> = cases.iter().flat_map(Case::encoded).collect();
     let stdout: String = cases.iter().map(answer).collect();
     fs::write(folder.join("stdin"), &stdin).expect("stdin written");

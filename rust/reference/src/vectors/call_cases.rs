@@ -220,35 +220,53 @@ pub fn settle_cases(random: &mut Random) -> Vec<Case> {
     all
 }
 
-fn encoded_calls(random: &mut Random, g: &Graph, many: u32) -> Vec<u8> {
-    let mut bytes = Vec::new();
+fn calls_on(random: &mut Random, g: &Graph, many: u32) -> Vec<u32> {
+    let mut calls = Vec::new();
     for _ in 0..many {
         let last = g.inputs + g.nodes + random.below(2);
         let node = random.between(g.inputs, last);
         let words = 3 + random.below(2);
-        bytes.push([0, 0, 1, 1, 1, 2, 2, 2, 2, 3][random.below(10) as usize]);
-        bytes.extend(node.to_be_bytes());
-        bytes.extend(random.between(1, words).to_be_bytes());
+        calls.push([0, 0, 1, 1, 1, 2, 2, 2, 2, 3][random.below(10) as usize]);
+        calls.push(node);
+        calls.push(random.between(1, words));
     }
-    bytes
+    calls
 }
 
-/// Lists of calls on one graph.
+/// Lists of calls on one graph, each by one replay of its file; and replays that are not made, for their words, the room for
+/// answers, the file, the tables.
 pub fn list_cases(random: &mut Random) -> Vec<Case> {
     let mut graphs = random_graphs(random, 50, 9);
     for shape in SHAPES {
         graphs.push(graph(random, shape, 9, 30, 6));
     }
-    graphs
+    let mut all: Vec<Case> = graphs
         .iter()
         .map(|g| {
-            let bytes = encoded_calls(random, g, 20);
+            let calls = calls_on(random, g, 20);
             let scratch = (8 * g.nodes).saturating_sub(random.one_in(6) as u32);
-            Case {
-                bytes,
-                scratch,
-                ..Case::new(CALLS, g)
-            }
+            list_of(g, calls, scratch, 40 + random.below(3))
         })
-        .collect()
+        .collect();
+    for way in 0..14 {
+        let mut case = all[53 + way % 5].clone();
+        match way {
+            0 => case.calls.push(0),
+            1 => drop(case.calls.pop()),
+            2 => case.calls[57] = 4,
+            3 => case.calls[0] = MARK,
+            4 => case.result = 39,
+            5 => case.result = 0,
+            6 => drop(case.bytes.pop()),
+            7 => case.bytes.push(0),
+            8 => case.bytes.clear(),
+            9 => case.bytes[0] = 2,
+            10 => case.g.node_table.truncate(89),
+            11 => case.g.output_table.clear(),
+            12 => case.calls.clear(),
+            _ => case.scratch = 0,
+        }
+        all.push(case);
+    }
+    all
 }

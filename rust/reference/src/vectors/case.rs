@@ -1,19 +1,22 @@
 //! One case, and how it stands in the stream.
 
-use crate::graph::Graph;
+use crate::file::file_of;
+use crate::graph::{admit, Graph};
+use crate::vectors::samples::of;
 
+/// Ops that the program has.
 pub const ADMIT: u32 = 1;
 pub const EDGES: u32 = 2;
 pub const FIELD: u32 = 3;
 pub const LOAD: u32 = 4;
 pub const WRITE: u32 = 5;
-pub const EVALUATE: u32 = 6;
-pub const FULL: u32 = 7;
+pub const CALLS: u32 = 6;
+/// Ops that are run through the C interface.
+pub const EVALUATE: u32 = 7;
 pub const NODE: u32 = 8;
 pub const PAIR: u32 = 9;
 pub const TREE: u32 = 10;
 pub const SETTLE: u32 = 11;
-pub const CALLS: u32 = 12;
 
 #[derive(Clone)]
 pub struct Case {
@@ -23,6 +26,9 @@ pub struct Case {
     pub y: u32,
     pub scratch: u32,
     pub bytes: Vec<u8>,
+    /// The words of a list of calls, and the inputs of an evaluation.
+    pub calls: Vec<u32>,
+    pub longs: Vec<u64>,
     pub result: u32,
 }
 
@@ -35,53 +41,89 @@ impl Case {
             y: 0,
             scratch: 0,
             bytes: Vec::new(),
+            calls: Vec::new(),
+            longs: Vec::new(),
             result: 0,
         }
     }
 
+    /// The call of an op that is one, as the words of a list have it.
+    fn call(&self) -> Option<[u32; 3]> {
+        match self.op {
+            NODE => Some([0, self.x, 0]),
+            PAIR => Some([1, self.x, self.y]),
+            TREE => Some([2, self.x, 0]),
+            SETTLE => Some([3, 0, 0]),
+            _ => None,
+        }
+    }
+
+    /// The case as a list of one call on the file of its graph, where it has one.
+    pub fn as_list(&self) -> Option<Case> {
+        let calls = self.call()?.to_vec();
+        admit(&self.g).ok()?;
+        Some(list_of(&self.g, calls, self.scratch, 2))
+    }
+
     /// The case as bytes, within the space that the program has.
     pub fn encoded(&self) -> Vec<u8> {
-        let (most_scratch, most_result) = match self.op {
-            EVALUATE => (4_352, 4_352),
-            WRITE => (0, 65_536),
-            _ => (32_768, 0),
-        };
-        assert!(self.scratch <= most_scratch && self.result <= most_result);
-        assert!(self.g.node_table.len() <= 12_288 && self.g.output_table.len() <= 4_352);
-        let mut words: Vec<u32> = self
-            .g
-            .node_table
-            .iter()
-            .chain(&self.g.output_table)
-            .copied()
-            .collect();
-        while words.last() == Some(&0) {
-            words.pop();
-        }
-        let mut body = self.bytes.clone();
-        words
-            .iter()
-            .for_each(|word| body.extend(word.to_be_bytes()));
-        assert!(body.len() <= 65_536);
-        let head = [
-            self.op,
-            self.g.inputs,
-            self.g.nodes,
-            self.g.outputs,
-            self.x,
-            self.y,
-            self.scratch,
-            self.g.node_table.len() as u32,
-            self.g.output_table.len() as u32,
-            self.bytes.len() as u32,
-            self.result,
-            body.len() as u32,
+        let at = |op, length: u32| if self.op == op { length } else { 0 };
+        let bytes = self.bytes.len() as u32;
+        let (nodes, outputs) = (&self.g.node_table, &self.g.output_table);
+        let lengths = [
+            bytes + at(WRITE, self.result),
+            nodes.len() as u32,
+            outputs.len() as u32,
         ];
-        let mut all: Vec<u8> = head
-            .iter()
-            .flat_map(|number| number.to_be_bytes())
-            .collect();
-        all.extend(body);
+        assert!(lengths[0] <= 65_536 && lengths[1] <= 4_096 && lengths[2] <= 4_352);
+        let mut all = Vec::new();
+        put_words(&mut all, &[1]);
+        put_words(&mut all, &lengths);
+        put_words(&mut all, &[bytes]);
+        all.extend(&self.bytes);
+        put_table(&mut all, nodes);
+        put_table(&mut all, outputs);
+        put_words(&mut all, &[self.op]);
+        match self.op {
+            ADMIT | EDGES | WRITE => {
+                put_words(&mut all, &[self.g.inputs, self.g.nodes, self.g.outputs])
+            }
+            CALLS => {
+                let calls = self.calls.len() as u32;
+                assert!(calls <= 128 && self.scratch <= 4_096 && self.result <= 128);
+                put_table(&mut all, &self.calls);
+                put_words(&mut all, &[calls, self.scratch, self.result]);
+            }
+            _ => {}
+        }
         all
     }
+}
+
+/// A list of calls on the file of a graph, loaded into tables as long as the graph's, with so many words for the answers.
+pub fn list_of(g: &Graph, calls: Vec<u32>, scratch: u32, result: u32) -> Case {
+    let mut tables = of(0, &[], &[]);
+    tables.node_table = vec![1_000; g.node_table.len()];
+    tables.output_table = vec![2_000; g.output_table.len()];
+    Case {
+        bytes: file_of(g),
+        calls,
+        scratch,
+        result,
+        ..Case::new(CALLS, &tables)
+    }
+}
+
+/// How many words are given, and these: zeros at the end are left out.
+fn put_table(all: &mut Vec<u8>, table: &[u32]) {
+    let given = table
+        .iter()
+        .rposition(|&word| word != 0)
+        .map_or(0, |last| last + 1);
+    put_words(all, &[given as u32]);
+    put_words(all, &table[..given]);
+}
+
+fn put_words(all: &mut Vec<u8>, words: &[u32]) {
+    words.iter().for_each(|word| all.extend(word.to_be_bytes()));
 }

@@ -219,9 +219,8 @@ pub fn write_cases(random: &mut Random) -> Vec<Case> {
 }
 
 fn evaluate_case(g: &Graph, words: &[u64], scratch: u32, result: u32) -> Case {
-    let bytes = words.iter().flat_map(|word| word.to_be_bytes()).collect();
     Case {
-        bytes,
+        longs: words.to_vec(),
         scratch,
         result,
         ..Case::new(EVALUATE, g)
@@ -304,28 +303,4 @@ pub fn evaluate_cases(random: &mut Random) -> Vec<Case> {
         }
     }
     all
-}
-
-pub fn full_cases() -> Vec<Case> {
-    let full = |inputs, nodes, outputs, x| {
-        let g = Graph {
-            inputs,
-            nodes,
-            outputs,
-            node_table: vec![],
-            output_table: vec![],
-        };
-        Case {
-            x,
-            ..Case::new(FULL, &g)
-        }
-    };
-    vec![
-        full(0, 100_000, 0, 1_500_018),
-        full(4_096, 100_000, 1, 1_500_025),
-        full(0, 100_000, 0, 1_500_017),
-        full(0, 100_000, 0, 1_500_019),
-        full(0, 100_001, 0, 1_500_033),
-        full(4_097, 100_000, 0, 20),
-    ]
 }

@@ -1,17 +1,42 @@
 //! Cases for the program `vectors`, and the lines that it must print.
 //!
-//! A case is twelve big-endian numbers of four bytes and then a body. The numbers: the op, I, N, O, two that
-//! the op wants, the words of scratch, the words of the node table, the words of the output table, the
-//! further bytes, the length of the result slice, the bytes of the body. The body: the further bytes, the
-//! node table, the output table, zeros at the end left out.
+//! How a case stands in the stream is said in crates/vectors/src/main.rt.
 //!
-//! A line has the answer's number (0 where it is accepted), the answer's values, and then each slice that was
-//! lent to be changed: its length, and its elements or, where it has more than 24, its checksum. Scratch is
-//! there only where the call is refused; accepted, it is free. A list of calls has, after each answer, the
-//! checksums of both tables.
+//! A line has the answer's number (0 where it is accepted), three values of the answer, 0 where it has none, and then slices, each
+//! by its length and a checksum: the bytes and both tables. The field op shows the payload before all this, and writing the length
+//! after the values. A list of calls shows its answers there; one that is not replayed has the number 1, and shows scratch before
+//! the answers.
+//!
+//! The program makes a node, pair, tree or settling call as a list of one; on graphs that no file has, with scratch looked at after a
+//! refusal, and evaluation, the same cases are run through the C interface, by rust/differential.
+
+use crate::random::Random;
+use call_cases::*;
+use case::Case;
+use file_cases::*;
 
 pub mod answer;
 pub mod call_cases;
 pub mod case;
 pub mod file_cases;
 pub mod samples;
+
+/// The cases of the program, and those of single calls and evaluation.
+pub fn cases(seed: u64) -> (Vec<Case>, Vec<Case>) {
+    let mut random = Random::new(seed);
+    let mut stored = admission_cases(&mut random);
+    stored.extend(field_cases(&mut random));
+    stored.extend(load_cases(&mut random));
+    stored.extend(write_cases(&mut random));
+    let mut direct = evaluate_cases(&mut random);
+    direct.extend(call_cases(&mut random));
+    direct.extend(pair_cases(&mut random));
+    direct.extend(tree_cases(&mut random));
+    direct.extend(settle_cases(&mut random));
+    stored.extend(direct.iter().filter_map(Case::as_list));
+    stored.extend(list_cases(&mut random));
+    (stored, direct)
+}
+
+/// The seed of the stored cases.
+pub const SEED: u64 = 20_001;

@@ -1,4 +1,4 @@
--- Safe and ending: the place rises to the length of the table, which no store changes.
+-- Safe and ending: the place rises to an end within the table, and no store changes the length.
 use Prim.Native.Nat.{_≤_, _-_}
 use mathlib.Core.Path.{_≡_}
 use borrow.Author.Needs.{needs}
@@ -7,16 +7,28 @@ use Rattle.vectors.proofs.read.fill_words.Statement.{statement}
 use Rattle.vectors.proofs.read.fill_words.Tie as tie
 
 abbrev Inv-loop : tie.InvT-loop
-Inv-loop table₀ bytes end i₀ table i = (i ≤ end) × (length table ≡ length table₀)
+Inv-loop table₀ end i₀ table i = (i ≤ end) × (end ≤ length table₀) × (length table ≡ length table₀)
 
 abbrev μ-loop : tie.MeasureT-loop
-μ-loop table₀ bytes end i₀ table i = end - i
+μ-loop table₀ end i₀ table i = end - i
+
+size-requires : tie.Need-size-requires Inv-loop μ-loop
+size-requires c κs = search needs
+
+least-requires : tie.Need-least-requires Inv-loop μ-loop
+least-requires c κs = search needs
 
 loop-holds : tie.Need-loop-holds Inv-loop μ-loop
 loop-holds c = search needs
 
-put-word-requires : tie.Need-put-word-requires Inv-loop μ-loop
-put-word-requires c κs = search needs
+word-requires : tie.Need-word-requires Inv-loop μ-loop
+word-requires c κs = search needs
+
+mul-table : tie.Need-mul-table Inv-loop μ-loop
+mul-table c = search needs
+
+slice-write-table : tie.Need-slice-write-table Inv-loop μ-loop
+slice-write-table c = search needs
 
 add-i : tie.Need-add-i Inv-loop μ-loop
 add-i c = search needs
@@ -39,8 +51,12 @@ fill-words-spec =
     (tie.spec
     Inv-loop
     μ-loop
+    size-requires
+    least-requires
     loop-holds
-    put-word-requires
+    word-requires
+    mul-table
+    slice-write-table
     add-i
     loop-less
     loop-again
