@@ -11,3 +11,4 @@ pub mod lists;
 pub mod plain;
 pub mod raw;
 pub mod shrink;
+pub mod stored;

@@ -8,7 +8,7 @@ use std::time::Instant;
 use differential::cases::{Case, Step};
 use differential::extremes::{self, EXTREMES};
 use differential::shrink::hold;
-use differential::{files, lengths, lists, raw};
+use differential::{files, lengths, lists, raw, stored};
 use reference::calls::Call;
 use reference::generate::{graph, Shape};
 use reference::random::Random;
@@ -16,7 +16,8 @@ use reference::random::Random;
 /// What one kind of test does with a seed: how many cases it tried, or what failed.
 type Kind = (&'static str, u64, fn(u64) -> Result<u64, String>);
 
-const KINDS: [Kind; 11] = [
+const KINDS: [Kind; 12] = [
+    ("stored cases of single calls and evaluation", 1, stored),
     ("the plain implementation, lists of calls", 30_000, plain_lists),
     ("lists of calls on small graphs", 80_000, small_lists),
     ("long lists of calls", 2_000, long_lists),
@@ -29,6 +30,10 @@ const KINDS: [Kind; 11] = [
     ("files, whole and damaged", 400_000, damaged),
     ("files with every byte changed, and cut anywhere", 100, every_byte),
 ];
+
+fn stored(_: u64) -> Result<u64, String> {
+    stored::check_stored()
+}
 
 fn plain_lists(seed: u64) -> Result<u64, String> {
     let case = lists::random_case(seed, 7, 8);
