@@ -20,15 +20,17 @@ import operator
 import os
 import subprocess
 from pathlib import Path
-from typing import Iterable, List, NamedTuple, Sequence, Type
+from typing import Iterable, List, NamedTuple, Sequence, Tuple, Type
 
 __all__ = [
-    "Graph", "Refused", "Settled", "load", "field",
-    "MARK", "MOST_INPUTS", "MOST_NODES", "MOST_OUTPUTS",
+    "Graph", "Refused", "Settled", "Told", "load", "field", "replay",
+    "NODE", "PAIR", "TREE", "SETTLE", "MARK", "MOST_INPUTS", "MOST_NODES", "MOST_OUTPUTS",
 ]
 
 #: The third word of an XOR node.
 MARK = 4294967295
+#: The kinds of calls in a list.
+NODE, PAIR, TREE, SETTLE = range(4)
 #: Limits of a graph.
 MOST_INPUTS = 4096
 MOST_NODES = 100000
@@ -44,11 +46,12 @@ _WHY = {
     7: "there is no such node, root or word",
     8: "the scratch is too short",
     9: "the buffer is too short",
+    102: "a call of the list has a kind that is none",
 }
 
 
 class Refused(Exception):
-    """A call that the library refuses. `number` is 1 to 9; nothing has changed."""
+    """A call that the library refuses. `number` is 1 to 9, or 102 of a replay; nothing has changed."""
 
     def __init__(self, number: int) -> None:
         super().__init__(f"refused {number}: {_WHY.get(number, 'for no known cause')}")
@@ -61,6 +64,13 @@ class Settled(NamedTuple):
     rounds: int
     before: int
     after: int
+
+
+class Told(NamedTuple):
+    """What a call of a list answers: 0 or the number that refuses it, and what it saves."""
+
+    number: int
+    saving: int
 
 
 _ROOT = Path(__file__).resolve().parent.parent
@@ -112,6 +122,7 @@ _node = _function("reducer_node", _GRAPH + [_U32, ctypes.c_void_p])
 _pair = _function("reducer_pair", _GRAPH + [_U32, _U32, ctypes.c_void_p])
 _tree = _function("reducer_tree", _GRAPH + [_U32] + _WORDS + [ctypes.c_void_p])
 _settle = _function("reducer_settle", _GRAPH + _WORDS + [ctypes.c_void_p])
+_replay = _function("reducer_replay", _WORDS * 6 + [ctypes.c_void_p])
 
 
 def _number(value: int, bits: int, what: str) -> int:
@@ -163,6 +174,12 @@ def _said(file: bytes, at: int, most: int) -> int:
     return min(int.from_bytes(file[at : at + 4], "big"), most) if len(file) >= at + 4 else 0
 
 
+def _room(file: bytes):
+    """Tables with room for what the head says, at most the limits, and their lengths."""
+    node_words, output_words = 3 * _said(file, 7, MOST_NODES), _said(file, 11, MOST_OUTPUTS)
+    return _array(_U32, node_words), node_words, _array(_U32, output_words), output_words
+
+
 def field(data: bytes) -> bytes:
     """The payload of the field at the front of the bytes."""
     array, length = _bytes(data, "data")
@@ -174,13 +191,30 @@ def field(data: bytes) -> bytes:
 def load(file: bytes) -> "Graph":
     """The graph that a tagged file holds."""
     array, length = _bytes(file, "file")
-    file = bytes(file)
-    # Room for what the head says: a head that says more than the limits is refused before room is looked at.
-    node_words, output_words = 3 * _said(file, 7, MOST_NODES), _said(file, 11, MOST_OUTPUTS)
-    nodes, outputs = _array(_U32, node_words), _array(_U32, output_words)
+    nodes, node_words, outputs, output_words = _room(bytes(file))
     numbers = (_U32 * 3)()
     _accept(_load(array, length, nodes, node_words, outputs, output_words, numbers))
     return Graph(numbers[0], nodes[:node_words], outputs[:output_words])
+
+
+def replay(file: bytes, calls: Iterable[Sequence[int]]) -> Tuple["Graph", List[Told]]:
+    """The graph that a tagged file holds after a list of calls, and what each call answers.
+
+    A call is its kind (NODE, PAIR, TREE or SETTLE), a node and a word; those that a kind does not want are not looked at. A
+    call that is refused changes nothing, and the list goes on.
+    """
+    array, length = _bytes(file, "file")
+    listed = [tuple(call) for call in calls]
+    if any(len(call) != 3 for call in listed):
+        raise ValueError("each of calls must be a kind, a node and a word")
+    words, count = _numbers([word for call in listed for word in call], _U32, "calls")
+    nodes, node_words, outputs, output_words = _room(bytes(file))
+    scratch_words, answer_words = 8 * (node_words // 3), 2 * len(listed)
+    scratch, answers, numbers = _array(_U32, scratch_words), _array(_U32, answer_words), (_U32 * 3)()
+    tables = [nodes, node_words, outputs, output_words]
+    _accept(_replay(array, length, words, count, *tables, scratch, scratch_words, answers, answer_words, numbers))
+    told = [Told(answers[at], answers[at + 1]) for at in range(0, answer_words, 2)]
+    return Graph(numbers[0], nodes[:node_words], outputs[:output_words]), told
 
 
 class Graph:

@@ -45,6 +45,37 @@ class Good(unittest.TestCase):
         self.assertEqual(Graph(1, [], [3]).settle(), (1, 1, 1))
         self.assertEqual(Graph(2, [3, 4, MARK], [7]).settle(), (2, 2, 0))
 
+    def test_replay(self) -> None:
+        node, pair, tree, settle = panjerov.NODE, panjerov.PAIR, panjerov.TREE, panjerov.SETTLE
+        calls = [(node, 6, 0), (node, 5, 9), (pair, 7, 1), (tree, 7, 0), (settle, 0, 0)]
+        graph, told = panjerov.replay(Graph(5, [3, 5, 6, 12, 9, 10], [15]).write(), calls)
+        self.assertEqual(graph, Graph(5, [2, 4, 7, 12, 8, 11], [14]))
+        self.assertEqual(told, [(0, 0), (7, 0), (0, 2), (0, 0), (0, 0)])
+        self.assertEqual(panjerov.replay(p1().write(), []), (p1(), []))
+
+    def test_replay_call_by_call(self) -> None:
+        generator = random.Random(2)
+        for _ in range(300):
+            nodes = []
+            for index in range(4, 4 + generator.randrange(9)):
+                nodes += [generator.randrange(2 * index) for _ in range(3)]
+            end = 2 * (4 + len(nodes) // 3)
+            graph = Graph(3, nodes, [generator.randrange(end) for _ in range(2)])
+            calls = [(generator.randrange(4), generator.randrange(3, end // 2), generator.randrange(4)) for _ in range(6)]
+            after, told = panjerov.replay(graph.write(), calls)
+            for (kind, node, word), answer in zip(calls, told):
+                try:
+                    if kind == panjerov.SETTLE:
+                        settled = graph.settle()
+                        saving = settled.before - settled.after
+                    else:
+                        made = [graph.node_call, graph.pair_call, graph.tree_call][kind]
+                        saving = made(node, word) if kind == panjerov.PAIR else made(node)
+                    self.assertEqual(answer, (0, saving))
+                except Refused as refused:
+                    self.assertEqual(answer, (refused.number, 0))
+            self.assertEqual(after, graph)
+
     def test_largest(self) -> None:
         nodes = []
         for index in range(4097, 104097):
@@ -90,6 +121,26 @@ class Bad(unittest.TestCase):
             with self.assertRaises(Refused) as caught:
                 panjerov.field(bad)
             self.assertEqual(caught.exception.number, number)
+
+    def test_replays(self) -> None:
+        file = p1().write()
+        for number, bad, calls in [
+            (1, file[:39], []),
+            (102, file, [(4, 4, 0)]),
+            (102, b"", [(9, 0, 0)]),
+            (6, file + b"\0", [(0, 4, 0)]),
+        ]:
+            with self.assertRaises(Refused) as caught:
+                panjerov.replay(bad, calls)
+            self.assertEqual(caught.exception.number, number)
+        for error, calls in [
+            (ValueError, [(0, 4)]),
+            (ValueError, [(0, 4, -1)]),
+            (TypeError, [(0, "4", 0)]),
+            (TypeError, [3]),
+        ]:
+            with self.assertRaises(error):
+                panjerov.replay(file, calls)
 
     def test_any_bytes(self) -> None:
         generator = random.Random(1)

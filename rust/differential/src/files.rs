@@ -5,6 +5,7 @@ use crate::plain;
 use crate::raw;
 use crate::shrink::Shrink;
 use reference::file;
+use reference::graph::Graph;
 use reference::random::Random;
 
 /// A file, and how many words the lent tables have.
@@ -143,9 +144,14 @@ fn damage(random: &mut Random, bytes: &mut Vec<u8>) {
 pub fn random_file(seed: u64) -> FileCase {
     let mut random = Random::new(seed);
     let g = random_graph(&mut random, 5, 6, 4);
-    let mut bytes = file::file_of(&g);
+    damaged_file(&mut random, &g)
+}
+
+/// The graph's file, mostly damaged once or twice, and tables that may be a word too short for it.
+pub fn damaged_file(random: &mut Random, g: &Graph) -> FileCase {
+    let mut bytes = file::file_of(g);
     for _ in 0..random.below(4) {
-        damage(&mut random, &mut bytes);
+        damage(random, &mut bytes);
     }
     let (node_words, output_words) = match random.below(4) {
         0 => ((3 * g.nodes).saturating_sub(1) as usize, g.outputs as usize),

@@ -10,5 +10,6 @@ pub mod lengths;
 pub mod lists;
 pub mod plain;
 pub mod raw;
+pub mod replays;
 pub mod shrink;
 pub mod stored;

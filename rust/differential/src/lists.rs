@@ -13,7 +13,7 @@ use reference::settling::Settled;
 use reference::{evaluation, file};
 
 /// A call that is mostly sensible.
-fn random_call(random: &mut Random, g: &Graph) -> Call {
+pub fn random_call(random: &mut Random, g: &Graph) -> Call {
     let end = g.inputs + g.nodes;
     let node = match random.below(12) {
         0 => random.below(end + 3),

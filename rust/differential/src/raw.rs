@@ -10,22 +10,25 @@ use reference::settling::Settled;
 const CANARY: u32 = 0xa5a5_a5a5;
 const LONG_CANARY: usize = 0xa5a5_a5a5_a5a5;
 
-/// How often each number was returned, 0 for an accepted call.
-pub static MET: [AtomicU64; 10] = [const { AtomicU64::new(0) }; 10];
+/// The numbers that a call can return, 0 for an accepted one.
+pub const NUMBERS: [u32; 12] = [0, 1, 2, 3, 4, 5, 6, 7, 8, 9, 101, 102];
+
+/// How often each of them was returned.
+pub static MET: [AtomicU64; 12] = [const { AtomicU64::new(0) }; 12];
 
 /// What a call answered, or what was wrong with how it answered.
 pub type Answered<T> = Result<Result<T, u32>, String>;
 
 /// The values where the number is 0, and else that they are still the canary.
 fn answered<T: PartialEq + std::fmt::Debug>(number: u32, told: T, canary: T) -> Answered<T> {
-    if let Some(met) = MET.get(number as usize) {
-        met.fetch_add(1, Ordering::Relaxed);
-    }
+    let Some(at) = NUMBERS.iter().position(|&known| known == number) else {
+        return Err(format!("the number {number}"));
+    };
+    MET[at].fetch_add(1, Ordering::Relaxed);
     match number {
         0 => Ok(Ok(told)),
-        1..=9 if told == canary => Ok(Err(number)),
-        1..=9 => Err(format!("refused by {number}, and yet told {told:?}")),
-        _ => Err(format!("the number {number}")),
+        _ if told == canary => Ok(Err(number)),
+        _ => Err(format!("refused by {number}, and yet told {told:?}")),
     }
 }
 
@@ -191,6 +194,38 @@ pub fn settle(g: &mut Graph, scratch: &mut [u32]) -> Answered<Settled> {
         )
     };
     Ok(answered(number, figures, canary)?.map(|[rounds, before, after]| Settled { rounds, before, after }))
+}
+
+/// What a replay is lent beside the file and the calls.
+#[derive(Clone, Debug, PartialEq, Eq)]
+pub struct Lent {
+    pub node_table: Vec<u32>,
+    pub output_table: Vec<u32>,
+    pub scratch: Vec<u32>,
+    pub answers: Vec<u32>,
+}
+
+pub fn replay(file: &[u8], calls: &[u32], lent: &mut Lent) -> Answered<(u32, u32, u32)> {
+    let canary = [CANARY; 3];
+    let mut numbers = canary;
+    let number = unsafe {
+        raw::reducer_replay(
+            file.as_ptr(),
+            file.len(),
+            calls.as_ptr(),
+            calls.len(),
+            lent.node_table.as_mut_ptr(),
+            lent.node_table.len(),
+            lent.output_table.as_mut_ptr(),
+            lent.output_table.len(),
+            lent.scratch.as_mut_ptr(),
+            lent.scratch.len(),
+            lent.answers.as_mut_ptr(),
+            lent.answers.len(),
+            &mut numbers,
+        )
+    };
+    Ok(answered(number, numbers, canary)?.map(|[inputs, nodes, outputs]| (inputs, nodes, outputs)))
 }
 
 /// One call of a list, with so many words of scratch, which a refused call must leave.

@@ -2,10 +2,10 @@
 //! left, and a refused call leaves everything.
 
 use crate::raw;
-use crate::{Refusal, Settled, Size};
+use crate::{Refusal, ReplayRefusal, Settled, Size};
 
 /// The value where the number is 0, else its refusal.
-fn answer<T>(number: u32, value: T) -> Result<T, Refusal> {
+pub(crate) fn answer<T>(number: u32, value: T) -> Result<T, Refusal> {
     match number {
         0 => Ok(value),
         refused => Err(Refusal::from_number(refused).expect("the library answers 0 to 9")),
@@ -199,4 +199,40 @@ pub fn settle(
         )
     };
     answer(number, Settled { rounds: figures[0], before: figures[1], after: figures[2] })
+}
+
+/// Loads a file and makes a list of calls, three words each ([`crate::Call::words`]), on the loaded graph. The answers are two
+/// words a call: the refusal's number, or 0, and what the call saves.
+pub fn replay(
+    file: &[u8],
+    calls: &[u32],
+    node_table: &mut [u32],
+    output_table: &mut [u32],
+    scratch: &mut [u32],
+    answers: &mut [u32],
+) -> Result<Size, ReplayRefusal> {
+    let mut numbers = [0u32; 3];
+    let number = unsafe {
+        raw::reducer_replay(
+            file.as_ptr(),
+            file.len(),
+            calls.as_ptr(),
+            calls.len(),
+            node_table.as_mut_ptr(),
+            node_table.len(),
+            output_table.as_mut_ptr(),
+            output_table.len(),
+            scratch.as_mut_ptr(),
+            scratch.len(),
+            answers.as_mut_ptr(),
+            answers.len(),
+            &mut numbers,
+        )
+    };
+    match number {
+        101 => Err(ReplayRefusal::LeftOver),
+        102 => Err(ReplayRefusal::UnknownKind),
+        _ => answer(number, Size { inputs: numbers[0], nodes: numbers[1], outputs: numbers[2] })
+            .map_err(ReplayRefusal::Refused),
+    }
 }

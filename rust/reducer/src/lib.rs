@@ -115,6 +115,41 @@ pub struct Settled {
     pub after: u32,
 }
 
+/// A call of a list.
+#[derive(Clone, Copy, Debug, PartialEq, Eq, Hash)]
+pub enum Call {
+    /// Of this node.
+    Node(u32),
+    /// Of this node, and of the one that its word (1 to 3) names.
+    Pair(u32, u32),
+    /// Of the tree of this root.
+    Tree(u32),
+    Settle,
+}
+
+impl Call {
+    /// The three words that say the call: kind, node and word.
+    pub fn words(self) -> [u32; 3] {
+        match self {
+            Call::Node(node) => [0, node, 0],
+            Call::Pair(node, word) => [1, node, word],
+            Call::Tree(root) => [2, root, 0],
+            Call::Settle => [3, 0, 0],
+        }
+    }
+}
+
+/// Why a replay is refused.
+#[derive(Clone, Copy, Debug, PartialEq, Eq, Hash)]
+pub enum ReplayRefusal {
+    /// The words of the list are not three a call.
+    LeftOver,
+    /// A call of the list has a kind above 3.
+    UnknownKind,
+    /// The slice of answers is too short, or the file is refused.
+    Refused(Refusal),
+}
+
 /// How many words of scratch the tree call and settling need for so many nodes.
 pub fn scratch_words(nodes: u32) -> usize {
     8 * nodes as usize
@@ -151,6 +186,24 @@ impl Graph {
         let mut output_table = vec![0; head_number(file, 11, MOST_OUTPUTS)];
         let size = lent::load(file, &mut node_table, &mut output_table)?;
         Ok(Graph { size, node_table, output_table })
+    }
+
+    /// The graph that a tagged file holds after a list of calls, with what each call saved or was refused by.
+    pub fn replay(file: &[u8], calls: &[Call]) -> Result<(Graph, Vec<Result<u32, Refusal>>), Refusal> {
+        let words: Vec<u32> = calls.iter().flat_map(|call| call.words()).collect();
+        let nodes = head_number(file, 7, MOST_NODES);
+        let mut node_table = vec![0; 3 * nodes];
+        let mut output_table = vec![0; head_number(file, 11, MOST_OUTPUTS)];
+        let mut scratch = vec![0; scratch_words(nodes as u32)];
+        let mut answers = vec![0; 2 * calls.len()];
+        let size = lent::replay(file, &words, &mut node_table, &mut output_table, &mut scratch, &mut answers).map_err(
+            |refusal| match refusal {
+                ReplayRefusal::Refused(refusal) => refusal,
+                own => unreachable!("calls are three words, and of a known kind: {own:?}"),
+            },
+        )?;
+        let told = answers.chunks_exact(2).map(|answer| lent::answer(answer[0], answer[1])).collect();
+        Ok((Graph { size, node_table, output_table }, told))
     }
 
     /// The graph's tagged file.

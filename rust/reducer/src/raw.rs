@@ -104,4 +104,20 @@ extern "C" {
         scratch_length: usize,
         figures: *mut [u32; 3],
     ) -> u32;
+
+    pub fn reducer_replay(
+        file: *const u8,
+        file_length: usize,
+        calls: *const u32,
+        calls_length: usize,
+        node_table: *mut u32,
+        node_table_length: usize,
+        output_table: *mut u32,
+        output_table_length: usize,
+        scratch: *mut u32,
+        scratch_length: usize,
+        answers: *mut u32,
+        answers_length: usize,
+        numbers: *mut [u32; 3],
+    ) -> u32;
 }

@@ -1,6 +1,6 @@
 //! Document 01's worked graphs and edges of the limits, through the safe interface.
 
-use reducer::{Graph, Refusal, Settled, Size, MARK};
+use reducer::{lent, Call, Graph, Refusal, ReplayRefusal, Settled, Size, MARK};
 
 fn graph(inputs: u32, node_table: &[u32], output_table: &[u32]) -> Graph {
     let size = Size { inputs, nodes: node_table.len() as u32 / 3, outputs: output_table.len() as u32 };
@@ -68,4 +68,29 @@ fn settling_p1() {
     let mut g = graph(3, &[3, 5, 7], &[9]);
     assert_eq!(g.settle(), Ok(Settled { rounds: 2, before: 4, after: 0 }));
     assert_eq!(g, graph(3, &[2, 4, 6], &[8]));
+}
+
+#[test]
+fn replaying_p3() {
+    let p3 = graph(5, &[3, 5, 6, 12, 9, 10], &[15]).write().unwrap();
+    let calls = [Call::Node(6), Call::Node(5), Call::Pair(7, 1), Call::Tree(6), Call::Settle];
+    let told = vec![Ok(0), Err(Refusal::NoSuchNode), Ok(2), Err(Refusal::NoSuchNode), Ok(0)];
+    assert_eq!(Graph::replay(&p3, &calls), Ok((graph(5, &[2, 4, 7, 12, 8, 11], &[14]), told)));
+    assert_eq!(Graph::replay(&p3[..9], &calls), Err(Refusal::MissingBytes));
+}
+
+#[test]
+fn replays_refused() {
+    let p1 = graph(3, &[3, 5, 7], &[9]).write().unwrap();
+    let refused = |words: &[u32], room: usize, due: ReplayRefusal| {
+        let (mut node_table, mut output_table) = ([77; 3], [77; 1]);
+        let (mut scratch, mut answers) = ([77; 8], vec![77; room]);
+        let got = lent::replay(&p1, words, &mut node_table, &mut output_table, &mut scratch, &mut answers);
+        assert_eq!(got, Err(due));
+        assert_eq!((node_table, output_table, scratch, answers), ([77; 3], [77; 1], [77; 8], vec![77; room]));
+    };
+    refused(&[0, 4], 9, ReplayRefusal::LeftOver);
+    refused(&[4, 4, 0, 9], 0, ReplayRefusal::LeftOver);
+    refused(&[0, 4, 0, 4, 0, 0], 0, ReplayRefusal::UnknownKind);
+    refused(&[0, 4, 0, 3, 0, 0], 3, ReplayRefusal::Refused(Refusal::ShortSlice));
 }

@@ -8,7 +8,7 @@ use std::time::Instant;
 use differential::cases::{Case, Step};
 use differential::extremes::{self, EXTREMES};
 use differential::shrink::hold;
-use differential::{files, lengths, lists, raw, stored};
+use differential::{files, lengths, lists, raw, replays, stored};
 use reference::calls::Call;
 use reference::generate::{graph, Shape};
 use reference::random::Random;
@@ -16,7 +16,7 @@ use reference::random::Random;
 /// What one kind of test does with a seed: how many cases it tried, or what failed.
 type Kind = (&'static str, u64, fn(u64) -> Result<u64, String>);
 
-const KINDS: [Kind; 12] = [
+const KINDS: [Kind; 13] = [
     ("stored cases of single calls and evaluation", 1, stored),
     ("the plain implementation, lists of calls", 30_000, plain_lists),
     ("lists of calls on small graphs", 80_000, small_lists),
@@ -29,6 +29,7 @@ const KINDS: [Kind; 12] = [
     ("literals in every place, and limits", 1_000, literals),
     ("files, whole and damaged", 400_000, damaged),
     ("files with every byte changed, and cut anywhere", 100, every_byte),
+    ("replays, made at once and call by call", 80_000, replayed),
 ];
 
 fn stored(_: u64) -> Result<u64, String> {
@@ -120,6 +121,13 @@ fn every_byte(seed: u64) -> Result<u64, String> {
     files::check_every_byte(seed)
 }
 
+fn replayed(seed: u64) -> Result<u64, String> {
+    let case = replays::random_replay(seed);
+    let calls = case.words.len() as u64 / 3;
+    hold(seed, case, &replays::check_replay)?;
+    Ok(calls.max(1))
+}
+
 fn run(kind: &Kind, only: Option<u64>) -> Result<u64, String> {
     let (name, seeds, test) = *kind;
     let start = Instant::now();
@@ -134,10 +142,10 @@ fn run(kind: &Kind, only: Option<u64>) -> Result<u64, String> {
 /// Says how often each number was met. One that never was says that the cases are too tame.
 fn all_met() -> Result<(), String> {
     let met = raw::MET.each_ref().map(|count| count.load(Ordering::Relaxed));
-    let refused: Vec<String> = (1..10).map(|number| format!("{number}: {}", met[number])).collect();
+    let refused: Vec<String> = (1..met.len()).map(|at| format!("{}: {}", raw::NUMBERS[at], met[at])).collect();
     println!("calls accepted: {}; refused, by number: {}", met[0], refused.join(", "));
     match met.iter().position(|&count| count == 0) {
-        Some(number) => Err(format!("FAILED: no call was answered by {number}")),
+        Some(at) => Err(format!("FAILED: no call was answered by {}", raw::NUMBERS[at])),
         None => Ok(()),
     }
 }
