@@ -2,9 +2,9 @@
  * The inversion reducer for majority and XOR graphs, for C.
  *
  * Link the static library that `rt staticlib reducer` writes, target/staticlib/libreducer.a. It needs no other library,
- * keeps no state, allocates nothing and may be called from several threads on tables of their own. What is proved is what a
- * function answers and leaves, for all bytes, words and numbers: the number returned, and what stands in every lent slice and
- * at the last pointer afterwards. The rest of what is said here is not part of the proof.
+ * keeps no state, allocates nothing and may be called from several threads on tables of their own. Proved, for all bytes, words
+ * and numbers, is what is said here of answers: the number returned, and what then stands in the tables, results, buffer and
+ * answers, at the last pointer and, after a refusal, in scratch. The rest of this page is not part of the proof.
  *
  * The graph
  *
