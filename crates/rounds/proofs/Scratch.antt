@@ -56,10 +56,14 @@ guarded-same g (suc k) x y h = refl
 settled : Graph → Rounds → Outcome
 settled g r = outcome (accepted (r .rounds ∷ C g ∷ C (r .graph) ∷ [])) (r .graph)
 
+number-same : (g : Graph) (s : ℕ) → 8 * g .N ≤ s → settleNumber g s ≡ first (admissionNumber g) 0
+unfolding settleNumber
+number-same g s l = ap (first (admissionNumber g)) (enough g s l)
+
 -- on every graph, for any two lengths of scratch that are long enough
 pub settle-same : (g : Graph) (s t : ℕ) → 8 * g .N ≤ s → 8 * g .N ≤ t → settleCall g s ≡ settleCall g t
-unfolding settleCall settleNumber settle settled
+unfolding settleCall settle settled
 settle-same g s t l m =
-    rw (enough g s l, enough g t m)
+    rw (number-same g s l, number-same g t m)
     (guarded-same g (first (admissionNumber g) 0) _ _
     (λ e. ap (settled g) (settleIn-same s t (suc (C g)) g (admitted g (both (admissionNumber g) 0 e .0)) l m)))
