@@ -1,6 +1,7 @@
 // Big-endian numbers from standard input. What is not there reads as 0.
 ghost use Prim.Native.Nat.{_≤_, _<_};
 ghost use Rattle.io.specs.Counts.{Counts};
+use graph::table::set_word;
 
 fn wide(x: u8) -> u32
     ensures { λ r. ⌜ r < 256 ⌝ }
@@ -48,7 +49,7 @@ pub fn fill_words(table: &mut [u32]) {
     let end = least(size(), table.len());
     let mut i = 0;
     while i < end {
-        table[i] = word();
+        set_word(table, i, word());
         i += 1;
     }
 }
