@@ -1,14 +1,13 @@
 -- What `best` is, that only it is that, and how it is met. Assumes nothing.
 use Prim.Native.Nat.{ℕ, zero, suc, _+_, _≤_, _<_, zero-le}
-use mathlib.Core.List.{List, [], _∷_, _++_, List·Memᴰ, List·Memᴰ·head, List·Memᴰ·tail, List·Memᴰ·not-nil}
-use mathlib.Core.Logic.{_⊎_, inl, inr, ⊎-elim, _≢_}
-use mathlib.Core.Path.{_≡_, refl, ap, sym, subst, _∙_}
+use mathlib.Core.List.{List, [], _∷_, List·Memᴰ, List·Memᴰ·head, List·Memᴰ·tail, List·Memᴰ·not-nil}
+use mathlib.Core.Logic.{_⊎_, inl, inr, ⊎-elim}
+use mathlib.Core.Path.{_≡_, ap, sym}
 use native.Mathlib.Omega.{arith}
 use native.Mathlib.Nat.{eq-or-lt-of-le}
-use lib.ListN.{length, take, getD}
 use Rattle.choice.specs.Choice.{from, choices, least, best, Fits, _≺_, zeros, FirstBelow}
 use Rattle.choice.proofs.Least.{First, here, there, first-mem, first-le, least-first}
-use Rattle.choice.proofs.Lex.{Ordered, none, one, ≺-irrefl, ≺-cases, ≺-zeros, fits-mem, mem-fits, choices-ordered, mem-from, from-mem}
+use Rattle.choice.proofs.Lex.{Ordered, one, ≺-irrefl, ≺-cases, ≺-zeros, fits-mem, mem-fits, choices-ordered, mem-from, from-mem}
 
 -- b fits, none that fits costs less, and each earlier one costs more
 pub record Best (f : List ℕ → ℕ) (ns b : List ℕ) : Type 0 where

@@ -1,6 +1,6 @@
 -- Lists of moves, one for each of several nodes, and the first of the least, by exhaustion.
 use Prim.Native.Nat.{ℕ, zero, suc, _≤_, _<_}
-use mathlib.Core.Bool.{Bool, true, false, cond}
+use mathlib.Core.Bool.{cond}
 use mathlib.Core.List.{List, [], _∷_, map, flatMap}
 use mathlib.Core.Logic.{_⊎_}
 use mathlib.Core.Path.{_≡_}

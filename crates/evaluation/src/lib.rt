@@ -5,9 +5,9 @@ ghost use Rattle.graph.specs.Graph.{graphOf};
 ghost use Rattle.graph.specs.Answer.{accepted, unless, ScratchKept};
 ghost use Rattle.evaluation.specs.Evaluation.{evaluateNumber, resultsAfter, evaluatedAnswer};
 
-pub mod faults;
-pub mod results;
-pub mod values;
+mod faults;
+mod results;
+mod values;
 
 // What an evaluation answers.
 pub enum Evaluated {

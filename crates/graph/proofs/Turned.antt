@@ -3,14 +3,14 @@ use mathlib.Core.Path.{_≡_, refl, sym, ap, _∙_}
 use mathlib.Core.Bool.{true, false}
 use mathlib.Core.Logic.{⊎-elim, _≢_}
 use mathlib.Core.List.{List}
-use Prim.Native.Nat.{ℕ, suc, _+_, _*_, _/_, _%_, _≤_, _<_}
+use Prim.Native.Nat.{ℕ, _+_, _*_, _/_, _%_, _≤_, _<_}
 use native.Mathlib.Omega.{arith}
 use borrow.Author.Tests.{ne-eqb}
 use lib.Dec.{eqb}
 use lib.Seq.{ext-getD, getD-set-same, getD-set-other}
 use lib.ListN.{length, getD, set, length-set, List·getD-eq-default}
 use Rattle.graph.specs.Admission.{Admitted}
-use Rattle.graph.specs.Finite.{tab, ifLess, ifEqual}
+use Rattle.graph.specs.Finite.{ifLess, ifEqual}
 use Rattle.graph.specs.Graph.{Graph, graphOf, mark, word, output, index, isEdge, turn}
 use Rattle.graph.proofs.Alike.{Alike}
 use Rattle.graph.proofs.Cases.{lt-or-le, eq-or-ne, true-or-false, cond-same}

@@ -1,23 +1,23 @@
 -- What one changed move changes, and what a word adds after all moves.
-use mathlib.Core.Path.{_≡_, refl, sym, ap, _∙_}
-use mathlib.Core.List.{List, [], _∷_}
-use mathlib.Core.Bool.{Bool, true, false, not, cond, _&&_, and-false}
-use mathlib.Core.Logic.{_⊎_, inl, inr, ⊎-elim, _≢_}
-use Prim.Native.Nat.{ℕ, zero, suc, _+_, _-_, _*_, _/_, _%_, _≤_, _<_}
+use mathlib.Core.Path.{_≡_, refl, ap, _∙_}
+use mathlib.Core.List.{[], _∷_}
+use mathlib.Core.Bool.{Bool, true, false, not, cond, _&&_}
+use mathlib.Core.Logic.{_≢_}
+use Prim.Native.Nat.{ℕ, zero, suc, _+_, _-_, _*_, _/_, _%_, _<_}
 use native.Mathlib.Omega.{arith}
-use borrow.Author.Tests.{eqb-true, eqb-false, eq-eqb, ne-eqb, not-false, not-true, lt-ltb}
-use lib.Dec.{eqb, ltb}
+use borrow.Author.Tests.{eq-eqb, ne-eqb}
+use lib.Dec.{eqb}
 use lib.ListN.{getD}
 use Rattle.graph.specs.Admission.{Admitted}
 use Rattle.graph.specs.Count.{edgeAdds, adds, wordAdds, nodeAdds, outputAdds}
-use Rattle.graph.specs.Finite.{ifLess, sum}
+use Rattle.graph.specs.Finite.{ifLess}
 use Rattle.graph.specs.Graph.{Graph, mark, isEdge, isXor, turn, node, word, output}
-use Rattle.moves.specs.Apply.{Choice, own, seen, turns, outputTurns, apply, at}
+use Rattle.moves.specs.Apply.{Choice, own, seen, apply, at}
 use Rattle.moves.specs.Rows.{firstRow, arity, flag, rows}
-use Rattle.graph.proofs.Cases.{true-or-false, cond-same}
+use Rattle.graph.proofs.Cases.{cond-same}
 use Rattle.graph.proofs.Adds.{edgeAdds-bit}
 use Rattle.graph.proofs.Turn.{turn-half, turn-bit}
-use Rattle.moves.proofs.Apply.{node-at, out-at, same-mark, turns-edge, turns-mark, outputTurns-at}
+use Rattle.moves.proofs.Apply.{node-at, out-at, same-mark, turns-edge, outputTurns-at}
 use Rattle.moves.proofs.Compose.{seen-node}
 
 zeros : (i : ℕ) → _≡_ {A = ℕ} (getD (0 ∷ 0 ∷ 0 ∷ 0 ∷ []) i 0) 0

@@ -1,8 +1,8 @@
 -- Counting the numbers that pass a test, and sums that differ at a few places.
 use mathlib.Core.Path.{_≡_, refl, sym, ap, _∙_}
 use mathlib.Core.Bool.{Bool, true, false, cond}
-use mathlib.Core.Logic.{_⊎_, inl, inr, ⊎-elim, _≢_}
-use Prim.Native.Nat.{ℕ, zero, suc, _+_, _*_, _/_, _≤_, _<_}
+use mathlib.Core.Logic.{_⊎_, ⊎-elim, _≢_}
+use Prim.Native.Nat.{ℕ, zero, suc, _+_, _*_, _/_, _<_}
 use native.Mathlib.Omega.{arith}
 use native.Mathlib.Nat.{not-suc-le-zero, le-of-suc-le-suc, eq-or-lt-of-le}
 use borrow.Author.Tests.{eq-eqb, ne-eqb, eqb-false}
@@ -10,7 +10,7 @@ use lib.Dec.{eqb}
 use Rattle.graph.specs.Finite.{sum, count}
 use Rattle.moves.specs.Tree.{last}
 use Rattle.graph.proofs.Cases.{true-or-false}
-use Rattle.graph.proofs.Finite.{sum-same, sum-but-one, sum-but-two}
+use Rattle.graph.proofs.Finite.{sum-but-one, sum-but-two}
 
 -- a fact below n + 1 is one below n and one at n
 pub last-or-below : {j n : ℕ} → j < suc n → (j ≡ n) ⊎ (j < n)

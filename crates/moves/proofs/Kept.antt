@@ -15,7 +15,7 @@ use Rattle.graph.proofs.Turned.{by-never}
 use Rattle.choice.specs.Choice.{best, Fits, zeros}
 use Rattle.choice.proofs.Best.{best-is, best-zeros}
 use Rattle.moves.specs.Rows.{movesAt}
-use Rattle.moves.specs.Apply.{Choice, none, at, put, Permitted, turns, outputTurns, apply}
+use Rattle.moves.specs.Apply.{Choice, none, at, put, turns, outputTurns, apply}
 use Rattle.moves.specs.Call.{moved, movedC, bestAt, rewrite}
 use Rattle.moves.proofs.Apply as applied
 use Rattle.moves.proofs.Changed.{at-same, at-other, seen-none, own-none}

@@ -1,27 +1,26 @@
 -- The potential: what is decided counts as it stands, what is not at its cost.
 use mathlib.Core.Path.{_≡_, refl, sym, ap, _∙_}
-use mathlib.Core.Bool.{Bool, true, false, not, cond, _&&_, and-false}
-use mathlib.Core.Logic.{_⊎_, inl, inr, ⊎-elim, _≢_}
-use Prim.Native.Nat.{ℕ, zero, suc, _+_, _-_, _*_, _/_, _%_, _≤_, _<_}
+use mathlib.Core.Bool.{Bool, true, false, cond, _&&_, and-false}
+use mathlib.Core.Logic.{_⊎_, ⊎-elim, _≢_}
+use Prim.Native.Nat.{ℕ, suc, _+_, _-_, _*_, _/_, _%_, _≤_, _<_}
 use native.Mathlib.Omega.{arith}
-use borrow.Author.Tests.{ltb-true, ltb-false, eqb-true, eqb-false, eq-eqb, not-false, not-true, lt-ltb, le-ltb}
+use borrow.Author.Tests.{ltb-true, eqb-true, eq-eqb, lt-ltb, le-ltb}
 use lib.Dec.{eqb, ltb}
-use lib.ListN.{getD}
 use Rattle.graph.specs.Admission.{Admitted}
-use Rattle.graph.specs.Count.{nodeAdds, outputAdds, C, named}
+use Rattle.graph.specs.Count.{nodeAdds, outputAdds, C}
 use Rattle.graph.specs.Finite.{sum}
 use Rattle.graph.specs.Graph.{Graph, isEdge, isXor, node, word, output}
 use Rattle.graph.specs.Turned.{turnedBy}
 use Rattle.moves.specs.Apply.{Choice, own, seen, apply, at}
 use Rattle.moves.specs.Cost.{inner, edgeCost, turnedCost, wordCost, ownCost, moveCost, shows}
 use Rattle.moves.specs.Rows.{flag}
-use Rattle.moves.specs.Tree.{isRoot, place, reader, rootOf}
-use Rattle.graph.proofs.Cases.{true-or-false, cond-same, lt-or-le}
+use Rattle.moves.specs.Tree.{isRoot, place, rootOf}
+use Rattle.graph.proofs.Cases.{true-or-false, lt-or-le}
 use Rattle.graph.proofs.Finite.{sum-same}
 use Rattle.moves.proofs.Compose.{seen-low}
-use Rattle.moves.proofs.Count.{clash, sum-but-node, sum-but-node-and-one}
-use Rattle.moves.proofs.Readers.{both-true, names, named-by, single, reader-above, reader-is, rootOf-root, rootOf-inner, rootOf-above, not-root}
-use Rattle.moves.proofs.Changed.{at-same, at-other, seen-other, own-other, own-at, seen-none, own-none, plain, plain-node, node-adds, out-adds}
+use Rattle.moves.proofs.Count.{clash, sum-but-node-and-one}
+use Rattle.moves.proofs.Readers.{both-true, names, named-by, single, reader-is, rootOf-inner, rootOf-above, not-root}
+use Rattle.moves.proofs.Changed.{at-same, seen-other, own-other, own-at, seen-none, plain, plain-node, node-adds, out-adds}
 
 -- one of the first n nodes, and in the tree of r
 unfoldable pub undecided : Graph → ℕ → ℕ → ℕ → Bool

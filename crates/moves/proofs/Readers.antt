@@ -1,16 +1,16 @@
 -- Readers and roots.
 use mathlib.Core.Path.{_≡_, refl, sym, ap, _∙_}
-use mathlib.Core.Bool.{Bool, true, false, not, cond, _&&_}
-use mathlib.Core.Logic.{_⊎_, inl, inr, ⊎-elim, _≢_}
-use Prim.Native.Nat.{ℕ, zero, suc, _+_, _-_, _*_, _/_, _%_, _≤_, _<_}
+use mathlib.Core.Bool.{Bool, true, false, _&&_}
+use mathlib.Core.Logic.{_⊎_, ⊎-elim, _≢_}
+use Prim.Native.Nat.{ℕ, zero, suc, _+_, _-_, _*_, _/_, _≤_, _<_}
 use native.Mathlib.Omega.{arith}
 use borrow.Author.Tests.{eqb-true, eqb-false, eq-eqb, not-false}
 use lib.Dec.{eqb}
 use Rattle.graph.specs.Admission.{Admitted}
 use Rattle.graph.specs.Count.{named, outputNamed, nodeReaders, readers}
-use Rattle.graph.specs.Finite.{sum, count}
+use Rattle.graph.specs.Finite.{count}
 use Rattle.graph.specs.Graph.{Graph, isEdge, node, word, output}
-use Rattle.moves.specs.Tree.{last, isRoot, place, reader, rootIn, rootOf}
+use Rattle.moves.specs.Tree.{isRoot, place, reader, rootIn, rootOf}
 use Rattle.graph.proofs.Cases.{true-or-false}
 use Rattle.moves.proofs.Count.{count-none, count-only, Only, clash}
 

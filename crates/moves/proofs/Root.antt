@@ -1,26 +1,25 @@
 -- The potential once the root is decided: its cost, and what no move of it changes.
-use mathlib.Core.Path.{_≡_, refl, sym, ap, _∙_}
-use mathlib.Core.Bool.{Bool, true, false, not, cond, _&&_, and-false}
-use mathlib.Core.Logic.{_⊎_, inl, inr, ⊎-elim, _≢_}
-use Prim.Native.Nat.{ℕ, zero, suc, _+_, _-_, _*_, _/_, _%_, _≤_, _<_}
+use mathlib.Core.Path.{_≡_, refl}
+use mathlib.Core.Bool.{true, false, cond}
+use mathlib.Core.Logic.{_⊎_, ⊎-elim, _≢_}
+use Prim.Native.Nat.{ℕ, suc, _+_, _-_, _*_, _/_, _%_, _<_}
 use native.Mathlib.Omega.{arith}
-use borrow.Author.Tests.{ltb-true, ltb-false, eqb-true, eqb-false, eq-eqb, ne-eqb, not-false, not-true, lt-ltb, le-ltb}
-use lib.Dec.{eqb, ltb}
-use lib.ListN.{getD}
+use borrow.Author.Tests.{eqb-true, eqb-false, eq-eqb, ne-eqb}
+use lib.Dec.{eqb}
 use Rattle.graph.specs.Admission.{Admitted}
-use Rattle.graph.specs.Count.{nodeAdds, outputAdds, C, named, outputNamed}
+use Rattle.graph.specs.Count.{outputAdds, named, outputNamed}
 use Rattle.graph.specs.Finite.{sum}
-use Rattle.graph.specs.Graph.{Graph, isEdge, isXor, node, word, output}
-use Rattle.moves.specs.Apply.{Choice, own, seen, apply, at, none}
+use Rattle.graph.specs.Graph.{Graph, isXor, node, word, output}
+use Rattle.moves.specs.Apply.{own, apply, at, none}
 use Rattle.moves.specs.Cost.{inner, shown, ownCost, wordCost, rootCost}
 use Rattle.moves.specs.Rows.{flag}
-use Rattle.moves.specs.Tree.{isRoot, place, reader, rootOf}
-use Rattle.graph.proofs.Cases.{true-or-false, cond-same, lt-or-le}
+use Rattle.moves.specs.Tree.{isRoot, rootOf}
+use Rattle.graph.proofs.Cases.{true-or-false}
 use Rattle.graph.proofs.Finite.{sum-same}
 use Rattle.moves.proofs.Count.{clash, sum-add, sum-but-node}
-use Rattle.moves.proofs.Readers.{both-true, names, named-by, rootOf-root}
-use Rattle.moves.proofs.Changed.{at-same, at-other, seen-other, own-other, own-at, seen-none, own-none, plain, plain-node, node-adds, out-adds}
-use Rattle.moves.proofs.Potential.{undecided, part, term, Φ, Off, undecided-past, own-word, away-word, away-out}
+use Rattle.moves.proofs.Readers.{names, named-by, rootOf-root}
+use Rattle.moves.proofs.Changed.{at-same, own-other, own-none, plain-node, out-adds}
+use Rattle.moves.proofs.Potential.{part, term, Φ, undecided-past, own-word, away-word, away-out}
 
 -- what no move of the root changes
 fixed : Graph → (ℕ → ℕ → ℕ) → ℕ → ℕ → ℕ

@@ -11,10 +11,10 @@ use lib.Dec.{eqb}
 use lib.ListN.{getD}
 use Rattle.graph.specs.Admission.{Admitted}
 use Rattle.graph.specs.Count.{nodeAdds, outputAdds, C, named, outputNamed, readers}
-use Rattle.graph.specs.Finite.{sum, ifEqual}
+use Rattle.graph.specs.Finite.{sum}
 use Rattle.graph.specs.Graph.{Graph, isEdge, isXor, node, word, output}
 use Rattle.graph.specs.Turned.{turnedBy}
-use Rattle.moves.specs.Apply.{Choice, own, apply, at}
+use Rattle.moves.specs.Apply.{Choice, apply, at}
 use Rattle.moves.specs.Cost.{shown}
 use Rattle.moves.specs.Decide.{costBy, costWith}
 use Rattle.moves.specs.Rows.{flag}

@@ -1,20 +1,19 @@
 -- The value of an index after a choice of moves: turned where its own move turns its readers; so every output keeps its value.
 -- From the rows (majority is self-dual, an XOR's turned words cancel), by rising index.
-use mathlib.Core.Path.{_≡_, refl, sym, ap, _∙_}
-use mathlib.Core.Bool.{Bool, true, false, cond, and-false}
+use mathlib.Core.Path.{_≡_, refl, ap, _∙_}
+use mathlib.Core.Bool.{Bool, true, false, and-false}
 use mathlib.Core.Logic.{⊎-elim}
-use mathlib.Core.List.{List, [], _∷_, _++_}
+use mathlib.Core.List.{List}
 use Prim.Native.Nat.{ℕ, zero, suc, _+_, _-_, _*_, _/_, _%_, _≤_, _<_}
 use native.Mathlib.Omega.{arith}
-use native.Mathlib.Nat.{eq-or-lt-of-le, le-of-suc-le-suc, not-suc-le-zero, mod-add-mod, add-mod-mod}
-use lib.Dec.{ltb, eqb, eqb→eq}
-use lib.Seq.{getD-at}
-use lib.ListN.{length, getD, length-append, List·getD-append, List·getD-eq-default}
+use native.Mathlib.Nat.{eq-or-lt-of-le, le-of-suc-le-suc, mod-add-mod, add-mod-mod}
+use lib.Dec.{eqb, eqb→eq}
+use lib.ListN.{getD, List·getD-eq-default}
 use Rattle.graph.specs.Admission.{Admitted}
-use Rattle.graph.specs.Graph.{Graph, turn, isEdge, isXor, mark}
+use Rattle.graph.specs.Graph.{Graph, turn, isEdge, isXor}
 use Rattle.graph.specs.Turned.{turnedBy}
 use Rattle.graph.specs.Value.{exclusive, majority, literalValue, nodeValue, values, value, outputValue}
-use Rattle.moves.specs.Apply.{Choice, apply, turns, outputTurns, own, seen}
+use Rattle.moves.specs.Apply.{Choice, apply, seen}
 use Rattle.graph.proofs.Values.{literal-bit, length-values, values-old, values-new, input-bit}
 use Rattle.moves.specs.Rows.{flag}
 use Rattle.graph.proofs.Cases.{lt-or-le, true-or-false}

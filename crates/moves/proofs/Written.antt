@@ -1,9 +1,9 @@
 -- The choice that a tree call makes, node by node.
-use mathlib.Core.Path.{_≡_, refl, sym, ap, _∙_, fun-ext}
-use mathlib.Core.Bool.{Bool, true, false, cond, _&&_}
+use mathlib.Core.Path.{_≡_, refl, ap, _∙_, fun-ext}
+use mathlib.Core.Bool.{cond, _&&_}
 use mathlib.Core.List.{List, [], _∷_, map}
-use mathlib.Core.Logic.{_⊎_, inl, inr, ⊎-elim, _≢_}
-use Prim.Native.Nat.{ℕ, zero, suc, _+_, _*_, _≤_, _<_}
+use mathlib.Core.Logic.{_⊎_, inl, inr, _≢_}
+use Prim.Native.Nat.{ℕ, zero, suc, _+_}
 use native.Mathlib.Omega.{arith}
 use lib.Dec.{eqb, ltb}
 use Rattle.graph.specs.Admission.{Admitted}
@@ -14,7 +14,7 @@ use Rattle.moves.specs.Call.{bestAt}
 use Rattle.moves.specs.Cost.{Costs, Decided}
 use Rattle.moves.specs.Tree.{rootOf, members, tree, IsRoot}
 use Rattle.moves.proofs.Changed.{at-same, at-other}
-use Rattle.moves.proofs.Potential.{undecided, Undecided, undecided-yes, undecided-no, undecided-past, undecided-same}
+use Rattle.moves.proofs.Potential.{undecided, undecided-yes, undecided-no, undecided-past, undecided-same}
 use Rattle.moves.proofs.Programme.{members-zero, members-in, members-out}
 use Rattle.moves.proofs.TreeBest.{tree-best}
 

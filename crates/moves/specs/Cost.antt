@@ -1,11 +1,10 @@
 -- What a tree costs, node by node. c u s is the cost of the non-root u whose reader shows it the bit s.
 use mathlib.Core.Path.{_≡_}
-use mathlib.Core.Bool.{Bool, true, false, not, cond, _&&_}
-use mathlib.Core.List.{List, [], _∷_, _++_, map}
+use mathlib.Core.Bool.{Bool, false, not, cond, _&&_}
+use mathlib.Core.List.{List, [], _∷_}
 use mathlib.Core.Logic.{_≢_}
-use Prim.Native.Nat.{ℕ, zero, suc, _+_, _-_, _*_, _/_, _%_, _≤_, _<_, min}
+use Prim.Native.Nat.{ℕ, _+_, _-_, _*_, _/_, _%_, _<_, min}
 use lib.Dec.{ltb}
-use lib.ListN.{length, getD}
 use Rattle.graph.specs.Count.{edgeAdds, named, outputNamed}
 use Rattle.graph.specs.Finite.{sum}
 use Rattle.graph.specs.Graph.{Graph, isEdge, isXor, node, word, output}

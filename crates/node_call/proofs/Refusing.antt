@@ -8,12 +8,12 @@ use borrow.Author.Tests.{leb-true, ne-eqb}
 use lib.Dec.{leb}
 use Rattle.graph.specs.Admission.{Admitted, admissionNumber}
 use Rattle.graph.specs.Finite.{first}
-use Rattle.graph.specs.Graph.{Graph, node, word, isEdge, isXor}
+use Rattle.graph.specs.Graph.{Graph, node, isEdge, isXor}
 use Rattle.graph.proofs.Admit.{admitted}
 use Rattle.graph.proofs.Answers.{admission-le, first-le}
 use Rattle.graph.proofs.Cases.{cond-le, eq-or-ne}
 use Rattle.graph.proofs.Tests.{both, passes}
-use Rattle.moves.specs.Call.{isNode, nodeFault, wordFault, nodeNumber, pairNumber, namedBy}
+use Rattle.moves.specs.Call.{nodeFault, wordFault, nodeNumber, pairNumber, namedBy}
 use Rattle.moves.proofs.Known.{node-known, node-fault-le}
 use Rattle.moves.proofs.Readers.{both-true}
 

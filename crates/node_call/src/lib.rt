@@ -3,9 +3,9 @@ ghost use Rattle.graph.specs.Answer.{outcome};
 ghost use Rattle.graph.specs.Graph.{graphOf};
 ghost use Rattle.moves.specs.Call.{savingAnswer, nodeCall, pairCall};
 
-pub mod faults;
-pub mod rewrite;
-pub mod write;
+mod faults;
+mod rewrite;
+mod write;
 
 use moves::Saving;
 

@@ -1,25 +1,24 @@
 -- What one call of a list does, of each of the four kinds. From the laws of calls (crates moves and rounds).
-use mathlib.Core.Path.{_≡_, refl, sym, ap, _∙_}
+use mathlib.Core.Path.{_≡_, refl, sym, _∙_}
 use mathlib.Core.Bool.{Bool, true, false, cond}
-use mathlib.Core.List.{List, [], _∷_, map}
-use Prim.Native.Nat.{ℕ, zero, suc, _+_, _-_, _*_, _≤_, _<_}
+use mathlib.Core.List.{List, [], _∷_}
+use Prim.Native.Nat.{ℕ, zero, suc, _-_, _*_, _≤_}
 use native.Mathlib.Omega.{arith}
-use lib.ListN.{length, getD}
-use Rattle.graph.specs.Finite.{first, ifLess}
+use lib.ListN.{length}
+use Rattle.graph.specs.Finite.{first}
 use Rattle.graph.specs.Graph.{Graph}
 use Rattle.graph.specs.Count.{C}
 use Rattle.graph.specs.Admission.{Admitted, admissionNumber}
-use Rattle.graph.specs.Answer.{Answer, accepted, Outcome, outcome, guarded}
+use Rattle.graph.specs.Answer.{accepted, Outcome, outcome, guarded}
 use Rattle.graph.proofs.Tests.{none, off}
 use Rattle.graph.proofs.Admit.{admission-none}
 use Rattle.moves.specs.Tree.{tree}
 use Rattle.moves.specs.Call.{rewrite, nodeFault, wordFault, rootFault, scratchFault, isNode, namedBy, nodeNumber, nodeCall, pairNumber, pairRewrite, pairCall, treeNumber, treeCall}
 use Rattle.moves.proofs.Kept.{Kept, kept-none, best-lowest}
-use Rattle.rounds.specs.Round.{savingOf}
-use Rattle.rounds.specs.Settle.{Rounds, settle, settleNumber, settleCall, NothingLowers}
+use Rattle.rounds.specs.Settle.{settle, settleNumber, settleCall}
 use Rattle.rounds.proofs.Calls.{node-honest, pair-honest, tree-honest}
-use Rattle.rounds.proofs.Rounds.{Ended, settle-ended}
-use Rattle.promises.specs.Demand.{Call, nodeAt, pairAt, treeAt, settling, step, reported, fault, Beside, Made, RoundsReported}
+use Rattle.rounds.proofs.Rounds.{settle-ended}
+use Rattle.promises.specs.Demand.{Call, nodeAt, pairAt, treeAt, settling, step, reported, fault, Beside, Made}
 
 -- a call guarded by k, that else answers a without a fault
 module _ (g : Graph) (o : Outcome) (fine : o .answer .number ≡ 0) where

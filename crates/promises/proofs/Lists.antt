@@ -1,7 +1,6 @@
 -- Demand 3: whatever the list of calls, from any admitted start. By induction over the list, from what each call does (Calls).
-use mathlib.Core.Path.{_≡_}
-use mathlib.Core.List.{List, [], _∷_, _++_}
-use Prim.Native.Nat.{ℕ, _+_}
+use mathlib.Core.List.{List, [], _∷_}
+use Prim.Native.Nat.{ℕ}
 use Rattle.graph.specs.Graph.{Graph}
 use Rattle.graph.specs.Admission.{Admitted}
 use Rattle.tagged_file.specs.Load.{loadCall}

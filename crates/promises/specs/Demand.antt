@@ -14,7 +14,7 @@ use Rattle.moves.specs.Rows.{movesAt}
 use Rattle.moves.specs.Tree.{tree}
 use Rattle.moves.specs.Call.{moved, nodeFault, wordFault, rootFault, scratchFault, nodeCall, pairCall, treeCall}
 use Rattle.rounds.specs.Round.{savingOf}
-use Rattle.rounds.specs.Settle.{Rounds, settle, settleCall, NothingLowers}
+use Rattle.rounds.specs.Settle.{settle, settleCall, NothingLowers}
 
 -- a call, with whatever node, word and scratch it is given
 pub data Call : Type 0 where

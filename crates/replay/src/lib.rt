@@ -5,8 +5,8 @@ ghost use Rattle.graph.specs.Answer.{outcome, ScratchKept};
 ghost use Rattle.tagged_file.specs.Load.{loadCall};
 ghost use Rattle.replay.specs.Replay.{decode, replayCall, answersAfter, replayedAnswer, replayedGraph, DemandMet};
 
-pub mod calls;
-pub mod faults;
+mod calls;
+mod faults;
 pub mod told;
 
 use tagged_file::Loaded;

@@ -5,10 +5,10 @@ ghost use Rattle.graph.specs.Answer.{ScratchKept};
 ghost use Rattle.tagged_file.specs.Load.{loadCall};
 ghost use Rattle.report.specs.Report.{reportedAnswer, reportOutcome, reportCall};
 
-pub mod faults;
-pub mod lines;
-pub mod text;
-pub mod whole;
+mod faults;
+mod lines;
+mod text;
+mod whole;
 
 // Which lent slice has no room for every report that the tables could hold.
 pub enum RoomFault {

@@ -1,24 +1,21 @@
 -- Each call keeps the graph but for complement bits, and one that saves nothing changes nothing; then no choice of moves at its
 -- nodes lowers C. From the laws of rewriting (crate moves, Kept).
-use mathlib.Core.Path.{_≡_, refl, sym, ap, _∙_}
-use mathlib.Core.Bool.{Bool, true, false, cond, _&&_}
+use mathlib.Core.Path.{_≡_, refl, sym}
+use mathlib.Core.Bool.{Bool, true, false, cond}
 use mathlib.Core.List.{List, [], _∷_, map}
-use Prim.Native.Nat.{ℕ, zero, suc, _+_, _-_, _*_, _≤_, _<_}
+use Prim.Native.Nat.{ℕ, zero, suc, _-_, _*_, _≤_, _<_}
 use native.Mathlib.Omega.{arith}
 use borrow.Author.Tests.{lt-ltb}
-use lib.Dec.{ltb}
-use lib.ListN.{getD}
-use Rattle.graph.specs.Finite.{ifLess, first}
 use Rattle.graph.specs.Graph.{Graph, node}
 use Rattle.graph.specs.Count.{C}
-use Rattle.graph.specs.Admission.{Admitted, admissionNumber}
-use Rattle.graph.specs.Answer.{Answer, accepted, Outcome, outcome, guarded}
+use Rattle.graph.specs.Admission.{Admitted}
+use Rattle.graph.specs.Answer.{accepted, Outcome, outcome, guarded}
 use Rattle.graph.proofs.Tests.{none, no-less}
 use Rattle.graph.proofs.Admit.{admission-none}
 use Rattle.choice.specs.Choice.{Fits}
 use Rattle.moves.specs.Rows.{movesAt}
 use Rattle.moves.specs.Tree.{isRoot, tree}
-use Rattle.moves.specs.Call.{moved, bestAt, rewrite, isNode, nodeFault, wordFault, rootFault, scratchFault, nodeNumber, nodeCall, namedBy, pairNumber, pairRewrite, pairCall, treeNumber, treeCall}
+use Rattle.moves.specs.Call.{moved, rewrite, isNode, nodeFault, wordFault, rootFault, scratchFault, nodeNumber, nodeCall, namedBy, pairNumber, pairRewrite, pairCall, treeNumber, treeCall}
 use Rattle.moves.proofs.Kept.{Kept, kept-none, best-lowest, best-idle, rewrite-kept}
 use Rattle.rounds.specs.Round.{savingOf}
 

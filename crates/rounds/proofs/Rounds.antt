@@ -1,14 +1,12 @@
 -- Rounds: what one saves is what C falls by; one that does not lower C changed nothing, and then nothing lowers C. So settling
 -- ends with such a graph, in at most as many rounds as its fall and one more. From steps (Steps) and calls (Calls).
-use mathlib.Core.Path.{_≡_, refl, sym, ap, _∙_}
+use mathlib.Core.Path.{_≡_, refl, sym}
 use mathlib.Core.Bool.{Bool, true, false, cond}
-use mathlib.Core.List.{List, [], _∷_}
 use mathlib.Core.Logic.{⊎-elim}
 use Prim.Native.Nat.{ℕ, zero, suc, _+_, _-_, _*_, _≤_, _<_}
 use native.Mathlib.Omega.{arith}
 use borrow.Author.Tests.{eq-eqb, leb-true}
 use lib.Dec.{eqb, leb}
-use Rattle.graph.specs.Finite.{ifLess}
 use Rattle.graph.specs.Graph.{Graph, node, isXor}
 use Rattle.graph.specs.Count.{C}
 use Rattle.graph.specs.Admission.{Admitted}
@@ -18,10 +16,10 @@ use Rattle.moves.specs.Tree.{isRoot}
 use Rattle.moves.specs.Call.{nodeCall, pairCall, treeCall, wordFault}
 use Rattle.moves.proofs.Readers.{both-true}
 use Rattle.moves.proofs.Kept.{Kept, kept-then}
-use Rattle.rounds.specs.Round.{savingOf, Progress, start, after, each, treeAt, nodeAt, pairAt, pairsAt, phases, round}
+use Rattle.rounds.specs.Round.{savingOf, start, each, treeAt, nodeAt, pairAt, pairsAt, phases, round}
 use Rattle.rounds.specs.Settle.{Rounds, settleIn, settle, NothingLowers}
 use Rattle.rounds.proofs.Calls.{node-honest, pair-honest, tree-honest, node-nothing, pair-nothing, tree-nothing}
-use Rattle.rounds.proofs.Steps.{Moved, Sound, after-sound, cond-sound, then-sound, each-sound}
+use Rattle.rounds.proofs.Steps.{Sound, after-sound, cond-sound, then-sound, each-sound}
 
 -- what holds of a graph on which a call saves nothing
 abbrev TreeIdle : ℕ → ℕ → Graph → Type 0

@@ -12,7 +12,7 @@ use Rattle.graph.specs.Answer.{accepted, Outcome, outcome, guarded}
 use Rattle.graph.proofs.Tests.{no-less, both}
 use Rattle.graph.proofs.Admit.{admitted}
 use Rattle.moves.specs.Call.{scratchFault, treeNumber, treeCall}
-use Rattle.rounds.specs.Round.{Progress, start, after, each, treeAt, nodeAt, pairsAt, round}
+use Rattle.rounds.specs.Round.{Progress, start, after, each, treeAt, round}
 use Rattle.rounds.specs.Settle.{Rounds, settleIn, settle, settleNumber, settleCall}
 use Rattle.rounds.proofs.Rounds.{trees-sound, round-kept}
 

@@ -1,15 +1,13 @@
 -- What each step of a round does to the graph, as the inner functions have it: the best moves at a node, at a pair, at a tree.
 -- From the calls' definitions: on an admitted graph none of these calls is refused.
-use mathlib.Core.Path.{_≡_, refl, sym, ap, _∙_}
-use mathlib.Core.Bool.{Bool, true, false, cond}
-use mathlib.Core.List.{List, [], _∷_}
-use Prim.Native.Nat.{ℕ, zero, suc, _+_, _*_, _≤_, _<_}
-use native.Mathlib.Omega.{arith}
+use mathlib.Core.Path.{_≡_, ap}
+use mathlib.Core.Bool.{true, false}
+use mathlib.Core.List.{[], _∷_}
+use Prim.Native.Nat.{ℕ, _*_, _≤_, _<_}
 use borrow.Author.Tests.{eq-eqb, ne-eqb}
-use lib.Dec.{eqb}
 use Rattle.graph.specs.Graph.{Graph, node}
 use Rattle.graph.specs.Admission.{Admitted}
-use Rattle.graph.specs.Answer.{Outcome, guarded}
+use Rattle.graph.specs.Answer.{Outcome}
 use Rattle.moves.specs.Tree.{isRoot, tree}
 use Rattle.moves.specs.Call.{moved, bestAt, rewrite, wordFault, nodeNumber, nodeCall, pairNumber, pairRewrite, pairCall, treeNumber, treeCall}
 use Rattle.rounds.specs.Round.{Progress, after, treeAt, nodeAt, pairAt}

@@ -1,5 +1,5 @@
 -- The worked settling holds of the definitions: by computation.
-use mathlib.Core.Path.{_≡_, refl}
+use mathlib.Core.Path.{refl}
 use mathlib.Core.List.{flatMap}
 use Rattle.graph.specs.Finite.{tab, sum, count, ifLess, first, firstOf}
 use Rattle.graph.specs.Graph.{turn, isXor, isEdge}

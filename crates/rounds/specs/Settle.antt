@@ -12,7 +12,7 @@ use Rattle.choice.specs.Choice.{Fits}
 use Rattle.moves.specs.Rows.{movesAt}
 use Rattle.moves.specs.Tree.{isRoot, tree}
 use Rattle.moves.specs.Call.{moved, scratchFault, isNode, wordFault, namedBy}
-use Rattle.rounds.specs.Round.{Progress, round}
+use Rattle.rounds.specs.Round.{round}
 
 -- the rounds made, and the graph as they leave it
 pub record Rounds : Type 0 where

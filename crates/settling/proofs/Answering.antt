@@ -1,8 +1,7 @@
 -- What the settling of an admitted graph and a refusal come to is the call's definition. From the laws on answers and admission.
-use mathlib.Core.Path.{_≡_, refl, sym, ap, _∙_}
+use mathlib.Core.Path.{_≡_, sym, ap, _∙_}
 use mathlib.Core.List.{List, [], _∷_}
 use Prim.Native.Nat.{ℕ, _*_, _≤_}
-use native.Mathlib.Omega.{arith}
 use Rattle.graph.specs.Graph.{Graph}
 use Rattle.graph.specs.Count.{C}
 use Rattle.graph.specs.Admission.{Admitted}
@@ -12,7 +11,7 @@ use Rattle.graph.proofs.Admit.{admitted}
 use Rattle.graph.proofs.Answers.{refused-outcome, accepted-outcome}
 use Rattle.moves.specs.Call.{scratchFault}
 use Rattle.state.specs.State.{stands}
-use Rattle.rounds.specs.Settle.{Rounds, settle, settleNumber, settleCall}
+use Rattle.rounds.specs.Settle.{settle, settleNumber, settleCall}
 use Rattle.settling.specs.Phase.{AllRounds, SettledTo}
 
 pub passed : (g : Graph) (s : ℕ) → settleNumber g s ≡ 0 → Admitted g × (8 * g .N ≤ s)

@@ -1,15 +1,14 @@
 -- Rounds over a state, one after the other, are settling: what is left after a round is the whole. From what is left
 -- after a round (crate rounds, Rest) and from what the phases of a round make of a state.
-use mathlib.Core.Path.{_≡_, refl, sym, ap, _∙_}
+use mathlib.Core.Path.{_≡_, refl, ap, _∙_}
 use mathlib.Core.List.{List}
-use Prim.Native.Nat.{ℕ, zero, suc, _+_, _-_, _*_, _≤_, _<_}
+use Prim.Native.Nat.{ℕ, suc, _+_, _-_, _≤_, _<_}
 use native.Mathlib.Omega.{arith}
 use native.Mathlib.Numerals.{add-one}
 use lib.ListN.{length}
 use Rattle.graph.specs.Graph.{Graph}
 use Rattle.graph.specs.Turned.{turnedBy}
 use Rattle.graph.specs.Count.{C}
-use Rattle.graph.specs.Admission.{Admitted}
 use Rattle.graph.proofs.Adds.{C-le}
 use Rattle.state.specs.State.{stands, Ordered}
 use Rattle.state.proofs.Stands.{stands-admitted}

@@ -4,7 +4,7 @@ use mathlib.Core.Path.{_≡_, refl, sym, ap, _∙_}
 use mathlib.Core.Bool.{Bool, true, false, cond, _&&_}
 use mathlib.Core.List.{List, [], _∷_}
 use mathlib.Core.Logic.{⊎-elim}
-use Prim.Native.Nat.{ℕ, zero, suc, _+_, _-_, _*_, _≤_, _<_}
+use Prim.Native.Nat.{ℕ, zero, suc, _+_, _-_, _≤_, _<_}
 use native.Mathlib.Omega.{arith}
 use native.Mathlib.Numerals.{add-one}
 use lib.Dec.{leb}
@@ -20,7 +20,7 @@ use Rattle.moves.proofs.TreeBest.{reader-node}
 use Rattle.state.specs.State.{field, stands, Ordered}
 use Rattle.state.specs.Step.{Made}
 use Rattle.trees.specs.Stepping.{TreeMade}
-use Rattle.state.proofs.Alike.{Alike, alike-xor, alike-isRoot}
+use Rattle.state.proofs.Alike.{alike-xor, alike-isRoot}
 use Rattle.state.proofs.Stands.{stands-alike, stands-admitted}
 use Rattle.rounds.specs.Round.{Progress, each, treeAt, nodeAt, pairAt, pairsAt}
 use Rattle.settling.specs.Phase.{Phase}

@@ -7,7 +7,7 @@ use Rattle.graph.specs.Graph.{Graph}
 use Rattle.graph.specs.Count.{C}
 use Rattle.state.specs.State.{stands, Ordered}
 use Rattle.rounds.specs.Round.{Progress}
-use Rattle.rounds.specs.Settle.{Rounds, settle}
+use Rattle.rounds.specs.Settle.{settle}
 
 -- tables g and scratch sc became g′ and sc′, in order, as the steps `made` of a round make of the graph that they stood for; c is
 -- C of the graph that they stand for now

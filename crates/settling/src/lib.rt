@@ -5,9 +5,9 @@ ghost use Rattle.graph.specs.Answer.{outcome, ScratchKept};
 ghost use Rattle.rounds.specs.Settle.{settleCall};
 ghost use Rattle.settling.specs.Settle.{settledAnswer};
 
-pub mod all;
-pub mod faults;
-pub mod phases;
+mod all;
+mod faults;
+mod phases;
 
 // What settling answers.
 pub enum Settled {

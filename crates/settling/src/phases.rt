@@ -1,12 +1,11 @@
 // The three phases of a round, over the state that crate state keeps in scratch.
 ghost use mathlib.Core.Path.{_≡_};
-ghost use Prim.Native.Nat.{_*_, _≤_, _<_};
+ghost use Prim.Native.Nat.{_*_, _<_};
 ghost use lib.ListN.{length};
-ghost use mathlib.Core.Bool.{true};
 ghost use Rattle.graph.specs.Graph.{graphOf};
 ghost use Rattle.graph.specs.Count.{C};
 ghost use Rattle.state.specs.State.{stands, Ordered};
-ghost use Rattle.rounds.specs.Round.{each, treeAt, nodeAt, pairAt, pairsAt};
+ghost use Rattle.rounds.specs.Round.{each, treeAt, nodeAt, pairsAt};
 ghost use Rattle.settling.specs.Phase.{Phase};
 use graph::literal::MARK;
 

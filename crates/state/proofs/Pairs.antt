@@ -12,12 +12,11 @@ use Rattle.graph.specs.Admission.{Admitted}
 use Rattle.graph.specs.Count.{C}
 use Rattle.graph.specs.Graph.{Graph, node, word, isEdge, isXor}
 use Rattle.graph.proofs.Cases.{lt-or-le, eq-or-ne, true-or-false}
-use Rattle.moves.specs.Apply.{Choice, none, at, put, turns, outputTurns, apply, compose, Permitted}
+use Rattle.moves.specs.Apply.{none, at, put, apply, compose, Permitted}
 use Rattle.moves.specs.Call.{moved, bestAt, isNode, namedBy, pairRewrite, wordFault}
 use Rattle.moves.specs.Decide.{numbersOf, naming, pairCost, FirstPair}
 use Rattle.moves.specs.Rows.{arity, movesAt, combined}
 use Rattle.moves.specs.declared.decide.NodeNumbers.{NodeNumbers}
-use Rattle.moves.proofs.Apply as applied
 use Rattle.moves.proofs.Changed.{at-same, at-other}
 use Rattle.moves.proofs.Compose.{apply-apply}
 use Rattle.moves.proofs.Kept.{rewrite-graph}
@@ -26,7 +25,7 @@ use Rattle.moves.proofs.Readers.{both-true}
 use Rattle.moves.proofs.Moves.{arity-pos, moves-pos, node-row}
 use Rattle.state.specs.State.{stands, Ordered}
 use Rattle.state.specs.Step.{Made}
-use Rattle.state.proofs.Alike.{Alike, alike-movesAt, alike-isNode}
+use Rattle.state.proofs.Alike.{alike-movesAt, alike-isNode}
 use Rattle.moves.proofs.Apply.{apply-alike}
 use Rattle.state.proofs.Stands.{stands-alike, stands-admitted}
 use Rattle.state.proofs.Stores.{kept-same, kept-then}

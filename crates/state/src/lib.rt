@@ -1,4 +1,4 @@
 pub mod moving;
 pub mod now;
-pub mod turning;
+mod turning;
 pub mod writing;

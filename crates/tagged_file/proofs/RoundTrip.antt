@@ -8,7 +8,7 @@ use mathlib.Core.Path.{_≡_, refl, sym, ap, _∙_}
 use mathlib.Core.Bool.{true, false}
 use mathlib.Core.List.{List, [], _∷_, _++_}
 use native.Mathlib.Omega.{arith}
-use borrow.Author.Tests.{eq-eqb, ne-eqb}
+use borrow.Author.Tests.{eq-eqb}
 use lib.Seq.{ext-getD, length-take-le, getD-take}
 use lib.ListN.{length, getD, take, drop, length-append, List·getD-append}
 use Rattle.graph.specs.Graph.{Graph, graphOf, mark, word, output, isEdge}

@@ -6,9 +6,9 @@ ghost use Rattle.file_checks.specs.File.{fieldNumber, fieldPayload};
 ghost use Rattle.tagged_file.specs.Load.{loadedAnswer, loadedGraph, loadCall};
 ghost use Rattle.tagged_file.specs.Write.{writtenAnswer, writeOutcome, writeCall};
 
-pub mod emit;
-pub mod faults;
-pub mod fill;
+mod emit;
+mod faults;
+mod fill;
 
 use file_checks::bytes;
 use file_checks::fields;

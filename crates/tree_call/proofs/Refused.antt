@@ -2,11 +2,11 @@
 use mathlib.Core.Path.{_≡_, refl, _∙_}
 use mathlib.Core.Bool.{true, and-false}
 use mathlib.Core.Logic.{_≢_}
-use Prim.Native.Nat.{ℕ, suc, _*_, _≤_, _<_}
+use Prim.Native.Nat.{ℕ, _*_, _≤_, _<_}
 use native.Mathlib.Omega.{arith}
 use borrow.Author.Tests.{eq-eqb, ne-eqb}
 use Rattle.graph.specs.Finite.{first}
-use Rattle.graph.specs.Graph.{Graph, node}
+use Rattle.graph.specs.Graph.{Graph}
 use Rattle.graph.specs.Count.{readers, nodeReaders}
 use Rattle.graph.specs.Admission.{admissionNumber, Admitted}
 use Rattle.graph.proofs.Admit.{admitted}
@@ -14,7 +14,7 @@ use Rattle.graph.specs.Answer.{Outcome, outcome, refused}
 use Rattle.graph.proofs.Answers.{first-le, ifLess-le, admission-le, refused-outcome, accepted-outcome}
 use Rattle.graph.proofs.Cases.{cond-le}
 use Rattle.graph.proofs.Tests.{off, both, fault, none, passes, less, no-less}
-use Rattle.moves.specs.Call.{isNode, nodeFault, rootFault, scratchFault, treeNumber, rewrite, treeCall}
+use Rattle.moves.specs.Call.{nodeFault, rootFault, scratchFault, treeNumber, rewrite, treeCall}
 use Rattle.moves.specs.Tree.{isRoot, IsRoot, tree}
 use Rattle.moves.proofs.Known.{node-known, node-fault-le}
 

@@ -4,8 +4,8 @@ ghost use Rattle.graph.specs.Answer.{outcome, ScratchKept};
 ghost use Rattle.graph.specs.Graph.{graphOf};
 ghost use Rattle.moves.specs.Call.{savingAnswer, treeCall};
 
-pub mod faults;
-pub mod rewrite;
+mod faults;
+mod rewrite;
 
 use graph::faults::refused_by;
 use moves::Saving;

@@ -4,19 +4,19 @@ use mathlib.Core.Path.{_≡_, refl, sym, ap, _∙_}
 use mathlib.Core.Bool.{Bool, true, false}
 use mathlib.Core.List.{List}
 use mathlib.Core.Logic.{⊎-elim, _≢_}
-use Prim.Native.Nat.{ℕ, suc, _+_, _-_, _*_, _/_, _%_, _≤_, _<_}
+use Prim.Native.Nat.{ℕ, suc, _+_, _-_, _*_, _/_, _≤_, _<_}
 use native.Mathlib.Omega.{arith}
 use native.Mathlib.Nat.{eq-or-lt-of-le}
 use Rattle.graph.specs.Graph.{Graph, mark, node, word, isXor}
 use Rattle.graph.specs.Count.{readers}
 use Rattle.graph.specs.Admission.{Admitted}
-use Rattle.graph.proofs.Cases.{true-or-false, eq-or-ne, lt-or-le}
+use Rattle.graph.proofs.Cases.{eq-or-ne, lt-or-le}
 use Rattle.graph.proofs.Tests.{equal, unequal}
 use Rattle.choice.specs.Choice.{FirstBelow}
 use Rattle.moves.specs.Rows.{movesAt}
 use Rattle.moves.specs.Apply.{own}
 use Rattle.moves.specs.Tree.{isRoot, place, rootOf}
-use Rattle.moves.specs.Cost.{inner, wordCosts, moveCost, rootCost, shown, shows, Decided, baseCost}
+use Rattle.moves.specs.Cost.{inner, wordCosts, moveCost, rootCost, shown, shows, baseCost}
 use Rattle.moves.specs.Decide.{costWith}
 use Rattle.moves.proofs.Local.{with-named}
 use Rattle.moves.proofs.NodeCosts.{move-is, root-is}

@@ -1,10 +1,9 @@
 -- The moves of a decided tree made one by one, by falling index: the state then stands for the graph after the tree call. From the
 -- law of composition and the laws on states.
 use mathlib.Core.Path.{_≡_, refl, sym, ap, _∙_, fun-ext}
-use mathlib.Core.Bool.{Bool, true, false}
 use mathlib.Core.List.{List}
 use mathlib.Core.Logic.{⊎-elim, _≢_}
-use Prim.Native.Nat.{ℕ, zero, suc, _+_, _-_, _%_, _≤_, _<_}
+use Prim.Native.Nat.{ℕ, suc, _+_, _-_, _≤_, _<_}
 use native.Mathlib.Omega.{arith}
 use native.Mathlib.Nat.{eq-or-lt-of-le}
 use borrow.Author.Tests.{eq-eqb, ne-eqb, lt-ltb, le-ltb}
@@ -13,7 +12,7 @@ use Rattle.graph.specs.Admission.{Admitted}
 use Rattle.graph.proofs.Cases.{eq-or-ne, lt-or-le}
 use Rattle.moves.specs.Rows.{movesAt}
 use Rattle.moves.specs.Apply.{Choice, Permitted, none, at, put, apply, compose}
-use Rattle.moves.specs.Tree.{isRoot, rootOf, tree}
+use Rattle.moves.specs.Tree.{rootOf, tree}
 use Rattle.moves.specs.Call.{moved, bestAt}
 use Rattle.moves.proofs.Changed.{at-same, at-other}
 use Rattle.moves.proofs.Compose.{apply-apply}

@@ -1,14 +1,14 @@
 -- The costs of a tree's nodes as scratch has them, and as the recursion gives them. What inner functions ask of each other, and
 -- no promise to a caller.
 use mathlib.Core.Path.{_≡_}
-use mathlib.Core.Bool.{Bool, not, cond, _&&_}
+use mathlib.Core.Bool.{Bool, not, _&&_}
 use mathlib.Core.List.{List, [], _∷_, _++_}
 use mathlib.Core.Logic.{_≢_}
 use Prim.Native.Nat.{ℕ, zero, suc, _+_, _-_, _*_, _/_, _%_, _≤_, _<_}
 use lib.Dec.{ltb, eqb}
 use lib.ListN.{length, getD}
 use Rattle.graph.specs.Finite.{ifEqual}
-use Rattle.graph.specs.Graph.{Graph, mark, node, word, isEdge}
+use Rattle.graph.specs.Graph.{Graph, mark, node}
 use Rattle.moves.specs.Tree.{rootOf}
 use Rattle.choice.specs.Choice.{FirstBelow}
 use Rattle.moves.specs.Cost.{inner, bitCost}

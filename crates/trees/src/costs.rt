@@ -8,7 +8,7 @@ ghost use Rattle.graph.specs.Finite.{ifEqual};
 ghost use Rattle.graph.specs.Graph.{graphOf, mark};
 ghost use Rattle.moves.specs.Decide.{Numbers, MovesOf};
 ghost use Rattle.moves.specs.Tree.{isRoot};
-ghost use Rattle.moves.specs.Cost.{edgeCost, turnedCost, wordCosts, bitCost};
+ghost use Rattle.moves.specs.Cost.{edgeCost, wordCosts, bitCost};
 ghost use Rattle.state.specs.State.{stands, Ordered};
 ghost use Rattle.trees.specs.Costing.{innerAt, costAt, LeastCost, CostBits, CostedBelow, CostsOnly};
 use crate::fields::read;

@@ -1,7 +1,7 @@
-pub mod costs;
-pub mod deciding;
-pub mod fields;
-pub mod fill;
-pub mod links;
+mod costs;
+mod deciding;
+mod fields;
+mod fill;
+mod links;
 pub mod making;
 pub mod start;

@@ -1,12 +1,8 @@
 -- `all_rounds` makes rounds until one does not lower C: what is left after each is the rest of settling.
-use mathlib.Core.Path.{_≡_, refl, sym, ap, _∙_}
-use Prim.Native.Nat.{ℕ, _+_, _*_, _≤_, _<_}
+use mathlib.Core.Path.{_≡_, refl, _∙_}
 use native.Mathlib.Omega.{arith}
 use lib.ListN.{length}
-use Rattle.graph.specs.Graph.{Graph, graphOf}
-use Rattle.graph.proofs.Adds.{C-le}
-use Rattle.state.specs.State.{stands}
-use Rattle.state.proofs.Stands.{stands-admitted}
+use Rattle.graph.specs.Graph.{graphOf}
 use Rattle.settling.proofs.Repeating.{Going, count-few, going-first, going-last, going-few, going-more}
 use Rattle.settling.proofs.all.all_rounds.Statement.{statement}
 use Rattle.settling.proofs.all.all_rounds.Tie as tie

@@ -1,5 +1,5 @@
 -- `settle_admitted` fills scratch, makes all rounds and writes the pending turns out: that is settling.
-use mathlib.Core.Path.{_≡_, sym, ap, _∙_}
+use mathlib.Core.Path.{sym, ap, _∙_}
 use Rattle.graph.specs.Count.{C}
 use Rattle.settling.proofs.Answering.{settled-to}
 use borrow.Author.Needs.{needs}

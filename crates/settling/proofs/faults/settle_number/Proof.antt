@@ -1,5 +1,5 @@
 -- `settle_number` is the first fault of a settling: that of the admission check, or short scratch.
-use mathlib.Core.Path.{_≡_, refl, sym, _∙_}
+use mathlib.Core.Path.{refl, sym, _∙_}
 use native.Mathlib.Omega.{arith}
 use Rattle.graph.specs.Graph.{Graph, graphOf}
 use Rattle.graph.proofs.Tests.{fault, none, less, no-less}

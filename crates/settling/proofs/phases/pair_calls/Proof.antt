@@ -1,9 +1,9 @@
 -- `pair_calls` makes the pair calls at each node: its loop has made those at the nodes below v.
-use mathlib.Core.Path.{_≡_, refl, sym, ap, _∙_}
-use Prim.Native.Nat.{ℕ, _+_, _-_, _≤_, _<_}
+use mathlib.Core.Path.{_≡_, refl, _∙_}
+use Prim.Native.Nat.{_-_, _≤_}
 use native.Mathlib.Omega.{arith}
 use lib.ListN.{length}
-use Rattle.graph.specs.Graph.{Graph, graphOf}
+use Rattle.graph.specs.Graph.{graphOf}
 use Rattle.rounds.specs.Round.{each, pairsAt}
 use Rattle.settling.specs.Phase.{Phase}
 use Rattle.settling.proofs.Stepping.{each-none, each-more}

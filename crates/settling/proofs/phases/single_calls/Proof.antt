@@ -1,9 +1,9 @@
 -- `single_calls` makes the node call at each node: its loop has made those at the nodes below v.
-use mathlib.Core.Path.{_≡_, refl, sym, ap, _∙_}
-use Prim.Native.Nat.{ℕ, _+_, _-_, _≤_, _<_}
+use mathlib.Core.Path.{_≡_, refl, _∙_}
+use Prim.Native.Nat.{_-_, _≤_}
 use native.Mathlib.Omega.{arith}
 use lib.ListN.{length}
-use Rattle.graph.specs.Graph.{Graph, graphOf}
+use Rattle.graph.specs.Graph.{graphOf}
 use Rattle.rounds.specs.Round.{each, nodeAt}
 use Rattle.settling.specs.Phase.{Phase}
 use Rattle.settling.proofs.Stepping.{each-none, each-more, node-phase}

@@ -1,5 +1,4 @@
 -- `tree_call_at` makes the tree call at a root, which the mark in field 3 tells, and nothing elsewhere.
-use native.Mathlib.Omega.{arith}
 use Rattle.graph.specs.Graph.{Graph, graphOf}
 use Rattle.settling.proofs.Stepping.{marked-root, unmarked-inner, tree-idle, tree-phase}
 use borrow.Author.Needs.{needs}
