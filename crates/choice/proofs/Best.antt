@@ -67,20 +67,6 @@ module _ (f : List ℕ → ℕ) (ns : List ℕ) (ok : Fits ns (zeros ns)) where
   pub best-earlier : (l : List ℕ) → List·Memᴰ l (choices ns) → l ≺ best f ns → f (best f ns) < f l
   best-earlier l m = best-is f ns (zeros ns) ok .earlier-more l (mem-fits ns l m)
 
-  pub best-nothing : ((l : List ℕ) → List·Memᴰ l (choices ns) → f (zeros ns) ≤ f l) → best f ns ≡ zeros ns
-  best-nothing h = best-zeros f ns ok (h (best f ns) best-among)
-
--- only the cost of the choices matters
-pub Best-cong : (f g : List ℕ → ℕ) (ns b : List ℕ) → ((l : List ℕ) → Fits ns l → f l ≡ g l) → Best f ns b → Best g ns b
-Best-cong f g ns b e h = record {
-  fits = h .fits;
-  none-less = λ l i. omega (arith, e l i, e b (h .fits), h .none-less l i);
-  earlier-more = λ l i s. omega (arith, e l i, e b (h .fits), h .earlier-more l i s);
-}
-
-pub best-cong : (f g : List ℕ → ℕ) (ns : List ℕ) → Fits ns (zeros ns) → ((l : List ℕ) → Fits ns l → f l ≡ g l) → best f ns ≡ best g ns
-best-cong f g ns ok e = unique g ns (best f ns) (Best-cong f g ns (best f ns) e (best-is f ns (zeros ns) ok))
-
 -- the first of the least of a range
 range-first : (c : ℕ → ℕ) (n : ℕ) → 0 < n → First c (least c 0 (from 0 n)) (from 0 n)
 unfolding from
@@ -137,7 +123,3 @@ module _ (f : List ℕ → ℕ) (n : ℕ) (ns : List ℕ) (ok : Fits ns (zeros n
       earlier-more [] g e = absurd g
       earlier-more (k ∷ l) g (inl e) = omega (arith, h .first k e, is k .none-less l (g .1))
       earlier-more (k ∷ l) g (inr e) = rw (e .0) (is m .earlier-more l (g .1) (e .1))
-
-  -- the same, with the move computed
-  pub best-cons-least : 0 < n → best f (n ∷ ns) ≡ least costOf 0 (from 0 n) ∷ best (λ l. f (least costOf 0 (from 0 n) ∷ l)) ns
-  best-cons-least h = best-cons (least costOf 0 (from 0 n)) (least-below costOf n h)

@@ -1,4 +1,5 @@
--- What the inner functions say: words by index, of which bit place j has the values under the assignment of place j.
+-- What the inner functions say, and no promise to a caller: words by index, of which bit place j has the values under the
+-- assignment of place j.
 use mathlib.Core.Path.{_≡_}
 use mathlib.Core.List.{List, [], _∷_, _++_, map}
 use Prim.Native.Nat.{ℕ, _+_, _*_, _<_}

@@ -8,7 +8,7 @@ use lib.Dec.{eqb}
 use mathlib.Core.Bool.{true, false, cond}
 use borrow.Author.Tests.{eq-eqb, ne-eqb, eqb-false}
 use lib.Seq.{ext-getD}
-use lib.ListN.{length, getD, List·getD-eq-default}
+use lib.ListN.{length, getD}
 use Rattle.graph.specs.Finite.{sum, tab}
 use Rattle.graph.proofs.Cases.{true-or-false}
 
@@ -22,9 +22,6 @@ unfolding tab
 getD-tab zero f i h = absurd (not-suc-le-zero h)
 getD-tab (suc n) f zero h = refl
 getD-tab (suc n) f (suc i) h = getD-tab n (λ j. f (suc j)) i (le-of-suc-le-suc h)
-
-pub getD-tab-past : (n : ℕ) (f : ℕ → ℕ) (i : ℕ) → n ≤ i → getD (tab n f) i 0 ≡ 0
-getD-tab-past n f i h = List·getD-eq-default (tab n f) 0 (rw length-tab h)
 
 pub sum-same : (n : ℕ) (f g : ℕ → ℕ) → ((j : ℕ) → j < n → f j ≡ g j) → sum n f ≡ sum n g
 unfolding sum

@@ -1,6 +1,6 @@
 -- A table rewritten in place from the front: place i holds f i below j, and what it held from j on. From the laws on
 -- tables.
-use mathlib.Core.Path.{_≡_, refl, sym, _∙_}
+use mathlib.Core.Path.{_≡_, sym, _∙_}
 use mathlib.Core.Bool.{cond}
 use mathlib.Core.Logic.{⊎-elim}
 use mathlib.Core.List.{List}
@@ -19,10 +19,6 @@ pub swept : (ℕ → ℕ) → List ℕ → ℕ → List ℕ
 swept f l j = tab (length l) (λ i. cond (ltb i j) (f i) (getD l i 0))
 
 module _ (f : ℕ → ℕ) (l : List ℕ) where
-  pub swept-is : (j : ℕ) → swept f l j ≡ tab (length l) (λ i. cond (ltb i j) (f i) (getD l i 0))
-  unfolding swept
-  swept-is j = refl
-
   pub length-swept : (j : ℕ) → length (swept f l j) ≡ length l
   unfolding swept
   length-swept j = length-tab _ _

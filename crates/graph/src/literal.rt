@@ -3,7 +3,7 @@ ghost use mathlib.Core.Path.{_≡_};
 ghost use mathlib.Core.Bool.{not, _&&_};
 ghost use Prim.Native.Nat.{_%_, _≤_};
 ghost use lib.Dec.{eqb};
-ghost use Rattle.graph.specs.Graph.{mark, index, complement, turn};
+ghost use Rattle.graph.specs.Graph.{mark, index, turn};
 
 pub const MARK: u32 = 4294967295;
 
@@ -11,12 +11,6 @@ pub fn index_of(x: u32) -> u32
     ensures { λ r. ⌜ r ≡ index x ⌝ }
 {
     x / 2
-}
-
-pub fn bit_of(x: u32) -> u32
-    ensures { λ r. ⌜ r ≡ complement x ⌝ }
-{
-    x % 2
 }
 
 // A literal turned t times.

@@ -98,10 +98,6 @@ module _ (g : Graph) (adm : Admitted g) (us : List ℕ) where
   unfolding bestAt movedC
   best-lowest ms h = best-is (movedC g us) counts (zeros counts) (movesAt-fit g us) .none-less ms h
 
-  pub best-fits : Fits counts (bestAt g us)
-  unfolding bestAt
-  best-fits = best-is (movedC g us) counts (zeros counts) (movesAt-fit g us) .fits
-
   pub best-no-more : C (moved g us (bestAt g us)) ≤ C g
   best-no-more = omega (arith, best-lowest (zeros counts) (movesAt-fit g us), ap C zeros-nothing)
 

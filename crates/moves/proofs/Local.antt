@@ -68,11 +68,5 @@ module _ (g : Graph) (t t′ : ℕ → Bool) (v B : ℕ) (below : (i : ℕ) → 
   same-at : (i s : ℕ) → i < 3 → isEdge g (3 * v + i) ≡ true → t′ (word g (3 * v + i) / 2) ≡ true → s < 2 → c (word g (3 * v + i) / 2) s ≡ c′ (word g (3 * v + i) / 2) s
   same-at i s l e q h = same _ s (alike-at i l e ∙ q) (below i l e) h
 
-  pub own-local : (k : ℕ) → ownCost g t c v k ≡ ownCost g t′ c′ v k
-  own-local = own-named g g t t′ c c′ v refl refl (λ i l. refl) (λ i l. refl) alike-at same-at
-
-  pub move-local : (s : ℕ) → moveCost g t c v s ≡ moveCost g t′ c′ v s
-  move-local = move-named g g t t′ c c′ v refl refl (λ i l. refl) (λ i l. refl) alike-at same-at
-
   pub bit-local : (s : ℕ) → bitCost g t c v s ≡ bitCost g t′ c′ v s
   bit-local = bit-named g g t t′ c c′ v refl refl (λ i l. refl) (λ i l. refl) alike-at same-at

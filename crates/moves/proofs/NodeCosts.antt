@@ -2,7 +2,7 @@
 -- numbers are bits. From the rows and the readers of a root.
 use mathlib.Core.Path.{_≡_, refl, sym, ap, _∙_, fun-ext}
 use mathlib.Core.Bool.{Bool, true, false, cond}
-use mathlib.Core.List.{List, [], _∷_}
+use mathlib.Core.List.{List}
 use Prim.Native.Nat.{ℕ, zero, suc, _+_, _-_, _*_, _/_, _%_, _≤_, _<_}
 use native.Mathlib.Omega.{arith}
 use lib.ListN.{getD}
@@ -64,11 +64,6 @@ module _ (g : Graph) (t : ℕ → Bool) (c : ℕ → ℕ → ℕ) (v : ℕ) wher
       let a = least-moves g (moveCost g t c v 0) (node g v) in
       let b = least-moves g (moveCost g t c v 1) (node g v) in
       omega (arith, a .low _ (b .below), b .low _ (a .below), near (pick (moveCost g t c v 0) (movesAt g (node g v))), near (pick (moveCost g t c v 1) (movesAt g (node g v))))
-
-  pub six-costs : (p q r s x y : ℕ) → p ≡ turnedCost g t c v 0 0 → q ≡ turnedCost g t c v 0 1 → r ≡ turnedCost g t c v 1 0 → s ≡ turnedCost g t c v 1 1
-      → x ≡ turnedCost g t c v 2 0 → y ≡ turnedCost g t c v 2 1 → (p ∷ q ∷ r ∷ s ∷ x ∷ y ∷ []) ≡ wordCosts g t c v
-  unfolding wordCosts
-  six-costs p q r s x y e₀ e₁ e₂ e₃ e₄ e₅ = rw (e₀, e₁, e₂, e₃, e₄, e₅)
 
 -- where costs are bits, so are the numbers
 module _ (g : Graph) (t : ℕ → Bool) (c : ℕ → ℕ → ℕ) (v : ℕ) (low : (u s : ℕ) → c u s ≤ 1) where

@@ -6,17 +6,13 @@ use mathlib.Core.Logic.{_⊎_, inl, inr, _≢_}
 use Prim.Native.Nat.{ℕ, zero, suc, _+_}
 use native.Mathlib.Omega.{arith}
 use lib.Dec.{eqb, ltb}
-use Rattle.graph.specs.Admission.{Admitted}
 use Rattle.graph.specs.Graph.{Graph, node}
 use Rattle.graph.proofs.Cases.{eq-or-ne}
-use Rattle.moves.specs.Apply.{Choice, apply, at, none, put}
-use Rattle.moves.specs.Call.{bestAt}
-use Rattle.moves.specs.Cost.{Costs, Decided}
-use Rattle.moves.specs.Tree.{rootOf, members, tree, IsRoot}
+use Rattle.moves.specs.Apply.{Choice, at, none, put}
+use Rattle.moves.specs.Tree.{rootOf, members, tree}
 use Rattle.moves.proofs.Changed.{at-same, at-other}
 use Rattle.moves.proofs.Potential.{undecided, undecided-yes, undecided-no, undecided-past, undecided-same}
 use Rattle.moves.proofs.Programme.{members-zero, members-in, members-out}
-use Rattle.moves.proofs.TreeBest.{tree-best}
 
 -- m in the tree of r, 0 elsewhere
 unfoldable pub within : Graph → ℕ → Choice → Choice
@@ -51,8 +47,3 @@ module _ (g : Graph) (r : ℕ) (m : Choice) where
   pub put-tree : put none (tree g r) (map m (tree g r)) ≡ within g r m
   unfolding tree within undecided
   put-tree = fun-ext (λ u. put-members (g .N) none u)
-
--- the graph after the tree call
-pub tree-call : (g : Graph) (r : ℕ) (c : ℕ → ℕ → ℕ) (o : ℕ → ℕ) (m : Choice) → Admitted g → IsRoot g r → Costs g c o → Decided g c r m
-    → apply g (put none (tree g r) (bestAt g (tree g r))) ≡ apply g (within g r m)
-tree-call g r c o m adm i cs dec = rw (← tree-best g r c o m adm i cs dec, put-tree g r m)

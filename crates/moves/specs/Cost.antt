@@ -1,4 +1,5 @@
--- What a tree costs, node by node. c u s is the cost of the non-root u whose reader shows it the bit s.
+-- What a tree costs, node by node: what the tree's programme computes, and no promise to a caller. c u s is the cost of the
+-- non-root u whose reader shows it the bit s.
 use mathlib.Core.Path.{_≡_}
 use mathlib.Core.Bool.{Bool, false, not, cond, _&&_}
 use mathlib.Core.List.{List, [], _∷_}

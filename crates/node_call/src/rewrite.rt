@@ -30,7 +30,7 @@ pub fn rewrite_node(
     let m = decide::first_least(n.xor, n.moves, z, n.readers, n.odd);
     let before = decide::move_cost(n.xor, z, n.readers, n.odd, 0);
     let after = decide::move_cost(n.xor, z, n.readers, n.odd, m);
-    write::write_moves(inputs, nodes, outputs, node_table, output_table, v, m, v, m);
+    write::make_moves(inputs, nodes, outputs, node_table, output_table, v, m, v, m);
     before - after
 }
 
@@ -55,7 +55,7 @@ pub fn rewrite_pair(
     let m = best.node;
     let before = decide::pair_cost(named, node, which, 0, 0);
     let after = decide::pair_cost(named, node, which, k, m);
-    write::write_moves(inputs, nodes, outputs, node_table, output_table, p, k, v, m);
+    write::make_moves(inputs, nodes, outputs, node_table, output_table, p, k, v, m);
     before - after
 }
 

@@ -108,3 +108,24 @@ pub fn write_moves(
     write_nodes(inputs, nodes, node_table, a, b);
     write_outputs(outputs, output_table, a, b);
 }
+
+// The same, with no sweep where neither move turns a word.
+pub fn make_moves(
+    inputs: u32,
+    nodes: u32,
+    outputs: u32,
+    node_table: &mut [u32],
+    output_table: &mut [u32],
+    p: u32,
+    k: u32,
+    v: u32,
+    m: u32,
+)
+    requires { ⌜ Admitted (graphOf inputs nodes outputs (now «node_table») (now «output_table»)) × (p < nodes) × (v < nodes) × (k < movesAt (graphOf inputs nodes outputs (now «node_table») (now «output_table»)) (inputs + 1 + p)) × (m < movesAt (graphOf inputs nodes outputs (now «node_table») (now «output_table»)) (inputs + 1 + v)) ⌝ }
+    ensures { λ _. ⌜ graphOf inputs nodes outputs (now («node_table» .exit)) (now («output_table» .exit)) ≡ apply (graphOf inputs nodes outputs (now («node_table» .entry)) (now («output_table» .entry))) (at (at none (inputs + 1 + p) k) (inputs + 1 + v) m) ⌝ }
+{
+    if k + m == 0 {
+        return;
+    }
+    write_moves(inputs, nodes, outputs, node_table, output_table, p, k, v, m);
+}

@@ -9,10 +9,6 @@ use Rattle.graph.proofs.Tests.{equal, unequal}
 use Rattle.tagged_file.specs.Write.{big, fieldOf, nodeField, outputField, nodeFieldAt, outputFieldAt, endField}
 use Rattle.tagged_file.proofs.Stores.{then}
 
-pub length-big : (x : ℕ) → length (big 4 x) ≡ 4
-unfolding big
-length-big x = refl
-
 pub end-is : endField ≡ 5 ∷ 0 ∷ 0 ∷ []
 unfolding endField fieldOf big
 end-is = refl

@@ -1,4 +1,4 @@
--- A inOrder of stores: from the front, and one after another. Assumes nothing.
+-- A run of stores: from the front, and one after another. Assumes nothing.
 use Prim.Native.Nat.{ℕ, suc, _+_, _≤_}
 use mathlib.Core.Path.{_≡_, ap, _∙_}
 use mathlib.Core.List.{List, [], _∷_, _++_}
@@ -7,7 +7,7 @@ use native.Mathlib.Nat.{zero-add}
 use lib.ListN.{length, drop, set}
 use lib.Seq.{sets, sets-eq}
 
--- a inOrder of stores from the front
+-- a run of stores from the front
 pub front : (vs t : List ℕ) (k : ℕ) → length vs ≡ k → k ≤ length t → sets t 0 vs ≡ vs ++ drop k t
 front vs t k e h = sets-eq vs t 0 (omega arith) ∙ ap (λ (j : ℕ). vs ++ drop j t) (zero-add (length vs) ∙ e)
 
@@ -15,6 +15,6 @@ pub sets-append : (a b t : List ℕ) (at at′ : ℕ) → at′ ≡ at + length 
 sets-append [] b t at at′ e = let q : at′ ≡ at = omega arith in rw q
 sets-append (x ∷ a) b t at at′ e = sets-append a b (set t at x) (suc at) at′ (omega arith)
 
--- what a second inOrder leaves that follows the first
+-- what a second run leaves that follows the first
 pub then : (t t₁ t₂ a b : List ℕ) (at at′ : ℕ) → t₁ ≡ sets t at a → t₂ ≡ sets t₁ at′ b → at′ ≡ at + length a → t₂ ≡ sets t at (a ++ b)
 then t t₁ t₂ a b at at′ e₁ e₂ e = e₂ ∙ ap (λ (l : List ℕ). sets l at′ b) e₁ ∙ sets-append a b t at at′ e

@@ -1,6 +1,6 @@
 -- What the sweeps at the start leave in scratch. While readers are counted, field 4 has those in the node table and field 5 the
--- place of the last of them; fields 6 and 7 have the same of the output table. What inner functions ask of each other, and no
--- promise to a caller.
+-- place of the last of them; fields 6 and 7 have the same of the output table. What inner functions ask of each other, and
+-- no promise to a caller.
 use mathlib.Core.Path.{_≡_}
 use mathlib.Core.List.{List}
 use mathlib.Core.Logic.{_≢_}

@@ -1,5 +1,5 @@
--- How the links of the trees' nodes are made, from the highest node down. What inner functions ask of each other, and no promise
--- to a caller.
+-- How the links of the trees' nodes are made, from the highest node down. What inner functions ask of each other, and
+-- no promise to a caller.
 use mathlib.Core.Path.{_≡_}
 use mathlib.Core.Bool.{true, false, cond}
 use mathlib.Core.List.{List}

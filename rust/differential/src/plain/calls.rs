@@ -1,4 +1,4 @@
-//! The node and pair calls: each decides, then writes in one sweep of each table.
+//! The node and pair calls: each decides, then writes in one sweep of each table where something turns.
 
 use super::decide::{best_pair, flags, Costs, Numbers};
 use super::{adds, admit, Number, View};
@@ -103,8 +103,10 @@ pub fn node_call(t: &mut Tables, node: u32) -> Result<u32, Number> {
     }
     let numbers = numbers_of(&g, node);
     let least = numbers.best();
-    let made = (node, *flags(numbers.xor, least.number));
-    t.write(made, made);
+    if least.number != 0 {
+        let made = (node, *flags(numbers.xor, least.number));
+        t.write(made, made);
+    }
     Ok(numbers.cost(0) - least.cost)
 }
 
@@ -126,6 +128,8 @@ pub fn pair_call(t: &mut Tables, node: u32, word: u32) -> Result<u32, Number> {
     let which = [0, 1, 2].map(|k| g.node_table[at + k] / 2 == named);
     let (first, second) = (numbers_of(&g, named), numbers_of(&g, node));
     let best = best_pair(&first, &second, which);
-    t.write((named, *flags(first.xor, best.named)), (node, *flags(second.xor, best.node)));
+    if best.named + best.node != 0 {
+        t.write((named, *flags(first.xor, best.named)), (node, *flags(second.xor, best.node)));
+    }
     Ok(best.saved)
 }

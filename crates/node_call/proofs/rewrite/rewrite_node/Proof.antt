@@ -36,8 +36,8 @@ move-cost-requires-2 c κs =
     let k = counted g (a .v) (n .result) (s .pre .0) (n .ensures) in
     (k .numbers, moves-row _ _ _ (k .has) (c .before .first-least .ensures .below))
 
-write-moves-requires : tie.Need-write-moves-requires
-write-moves-requires c κs =
+make-moves-requires : tie.Need-make-moves-requires
+make-moves-requires c κs =
     let s = c .before .before .before .before .before .before .before .before .before .before .before in
     let a = s .args in
     let g : Graph = graphOf (a .inputs) (a .nodes) (a .outputs) (a .node-table .now) (a .output-table .now) in
@@ -65,7 +65,7 @@ returns c =
     let a = s .args in
     let g : Graph = graphOf (a .inputs) (a .nodes) (a .outputs) (a .node-table .now) (a .output-table .now) in
     let n = c .before .before .before .before .before .before .before .before .before .before .before .numbers-of in
-    node-outcome g (s .pre .0) (a .v) (s .pre .1) (n .result) (n .ensures) _ (c .before .before .before .before .before .before .before .before .before .first-least .ensures) _ _ (c .before .before .before .before .write-moves .ensures) (rw (c .before .before .before .before .before .before .before .before .move-cost .ensures .0, c .before .before .before .before .before .before .before .move-cost2 .ensures .0))
+    node-outcome g (s .pre .0) (a .v) (s .pre .1) (n .result) (n .ensures) _ (c .before .before .before .before .before .before .before .before .before .first-least .ensures) _ _ (c .before .before .before .before .make-moves .ensures) (rw (c .before .before .before .before .before .before .before .before .move-cost .ensures .0, c .before .before .before .before .before .before .before .move-cost2 .ensures .0))
 
 pub rewrite-node-spec : {M : Type 1} → statement M
 rewrite-node-spec =
@@ -75,7 +75,7 @@ rewrite-node-spec =
     first-least-requires
     move-cost-requires
     move-cost-requires-2
-    write-moves-requires
+    make-moves-requires
     sub-result
     same-length
     same-length-2

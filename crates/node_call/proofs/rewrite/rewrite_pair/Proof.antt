@@ -59,8 +59,8 @@ pair-cost-requires-2 c κs =
     let b = c .before .first-pair .ensures in
     (counted g (a .p) (p .result) (s .pre .0) (p .ensures), counted g (a .v) (n .result) (s .pre .0) (n .ensures), naming-bits g (a .v) _ (w .result) wn, b .below, b .fits)
 
-write-moves-requires : tie.Need-write-moves-requires
-write-moves-requires c κs =
+make-moves-requires : tie.Need-make-moves-requires
+make-moves-requires c κs =
     let s = c .before .before .before .before .before .before .before .before .before .before .before .before .before .before .before in
     let a = s .args in
     let g : Graph = graphOf (a .inputs) (a .nodes) (a .outputs) (a .node-table .now) (a .output-table .now) in
@@ -98,7 +98,7 @@ returns c =
     let n = c .before .before .before .before .before .before .before .before .before .before .before .before .numbers-of2 in
     let w = c .before .before .before .before .before .before .before .before .before .before .which-name in
     let wn = w .ensures (a .inputs) (a .nodes) (a .outputs) (a .output-table .now) in
-    pair-outcome g (s .pre .0) (a .p) (a .v) (s .pre .1) (s .pre .2) (p .result) (n .result) (w .result) (p .ensures) (n .ensures) wn _ _ (c .before .before .before .before .before .before .before .before .before .first-pair .ensures) _ _ (c .before .before .before .before .write-moves .ensures) (rw (c .before .before .before .before .before .before .before .before .pair-cost .ensures, c .before .before .before .before .before .before .before .pair-cost2 .ensures))
+    pair-outcome g (s .pre .0) (a .p) (a .v) (s .pre .1) (s .pre .2) (p .result) (n .result) (w .result) (p .ensures) (n .ensures) wn _ _ (c .before .before .before .before .before .before .before .before .before .first-pair .ensures) _ _ (c .before .before .before .before .make-moves .ensures) (rw (c .before .before .before .before .before .before .before .before .pair-cost .ensures, c .before .before .before .before .before .before .before .pair-cost2 .ensures))
 
 pub rewrite-pair-spec : {M : Type 1} → statement M
 rewrite-pair-spec =
@@ -112,7 +112,7 @@ rewrite-pair-spec =
     first-pair-requires
     pair-cost-requires
     pair-cost-requires-2
-    write-moves-requires
+    make-moves-requires
     sub-result
     same-length
     same-length-2
