@@ -11,9 +11,6 @@ use borrow.Author.Needs.{needs}
 use Rattle.evaluation.proofs.evaluate.Statement.{statement}
 use Rattle.evaluation.proofs.evaluate.Tie as tie
 
-evaluate-number-requires : tie.Need-evaluate-number-requires
-evaluate-number-requires c κs = search needs
-
 refused-by-requires : tie.Need-refused-by-requires
 refused-by-requires c κs =
     let n = c .before in
@@ -37,12 +34,6 @@ evaluate-words-requires c κs =
     (sym (n .evaluate-number .ensures) ∙ c .before .before .if1 .left) in
     (l .admitted, l .words, l .scratch, l .results)
 
-same-length : tie.Need-same-length
-same-length c = search needs
-
-same-length-2 : tie.Need-same-length-2
-same-length-2 c = search needs
-
 returns-2 : tie.Need-returns-2
 unfolding resultsAfter
 returns-2 c =
@@ -55,10 +46,10 @@ pub evaluate-spec : {M : Type 1} → statement M
 evaluate-spec =
     tie.close
     (tie.spec
-    evaluate-number-requires
+    (λ c κs. search needs)
     refused-by-requires
     returns
     evaluate-words-requires
-    same-length
-    same-length-2
+    (λ c. search needs)
+    (λ c. search needs)
     returns-2)

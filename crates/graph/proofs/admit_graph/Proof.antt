@@ -6,9 +6,6 @@ use Rattle.graph.proofs.Answers.{refused-is, accepted-is, admission-ran
 use Rattle.graph.proofs.admit_graph.Statement.{statement}
 use Rattle.graph.proofs.admit_graph.Tie as tie
 
-admission-number-requires : tie.Need-admission-number-requires
-admission-number-requires c κs = search needs
-
 refused-by-requires : tie.Need-refused-by-requires
 refused-by-requires c κs =
     let a = c .before .before .before .before .args in
@@ -25,4 +22,4 @@ returns-2 c = accepted-is _ _ (sym (c .before .admission-number .ensures) ∙ c 
 
 pub admit-graph-spec : {M : Type 1} → statement M
 admit-graph-spec =
-    tie.close (tie.spec admission-number-requires refused-by-requires returns returns-2)
+    tie.close (tie.spec (λ c κs. search needs) refused-by-requires returns returns-2)

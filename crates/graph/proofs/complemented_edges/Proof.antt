@@ -10,9 +10,6 @@ use Rattle.graph.proofs.Answers.{refused-is, accepted-is, admission-ran
 use Rattle.graph.proofs.complemented_edges.Statement.{statement}
 use Rattle.graph.proofs.complemented_edges.Tie as tie
 
-admission-number-requires : tie.Need-admission-number-requires
-admission-number-requires c κs = search needs
-
 refused-by-requires : tie.Need-refused-by-requires
 refused-by-requires c κs =
     let a = c .before .before .before .before .args in
@@ -36,7 +33,7 @@ pub complemented-edges-spec : {M : Type 1} → statement M
 complemented-edges-spec =
     tie.close
     (tie.spec
-    admission-number-requires
+    (λ c κs. search needs)
     refused-by-requires
     returns
     complemented-requires

@@ -11,21 +11,12 @@ use Rattle.node_call.proofs.Refusing.{node-range, node-accepted}
 use Rattle.node_call.proofs.node_call.Statement.{statement}
 use Rattle.node_call.proofs.node_call.Tie as tie
 
-node-number-requires : tie.Need-node-number-requires
-node-number-requires c κs = search needs
-
 refused-by-requires : tie.Need-refused-by-requires
 refused-by-requires c κs =
     let s = c .before .before .before .before .before .before in
     let a = s .args in
     let g : Graph = graphOf (a .inputs) (a .nodes) (a .outputs) (a .node-table .now) (a .output-table .now) in
     node-range g (a .node) _ (c .before .node-number .ensures) (c .if1 .taken)
-
-same-length : tie.Need-same-length
-same-length c = search needs
-
-same-length-2 : tie.Need-same-length-2
-same-length-2 c = search needs
 
 returns : tie.Need-returns
 unfolding nodeCall
@@ -58,12 +49,6 @@ rewrite-node-requires c κs =
     let d = node-accepted g (a .node) (sym (c .before .before .before .node-number .ensures) ∙ c .before .before .if1 .left) in
     (d .admitted, omega (arith, d .after, d .before))
 
-same-length-3 : tie.Need-same-length-3
-same-length-3 c = search needs
-
-same-length-4 : tie.Need-same-length-4
-same-length-4 c = search needs
-
 returns-2 : tie.Need-returns-2
 unfolding nodeCall
 returns-2 c =
@@ -78,14 +63,14 @@ pub node-call-spec : {M : Type 1} → statement M
 node-call-spec =
     tie.close
     (tie.spec
-    node-number-requires
+    (λ c κs. search needs)
     refused-by-requires
-    same-length
-    same-length-2
+    (λ c. search needs)
+    (λ c. search needs)
     returns
     add-v
     sub-v
     rewrite-node-requires
-    same-length-3
-    same-length-4
+    (λ c. search needs)
+    (λ c. search needs)
     returns-2)

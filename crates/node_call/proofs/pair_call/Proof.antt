@@ -8,21 +8,12 @@ use Rattle.node_call.proofs.Refusing.{pair-range}
 use Rattle.node_call.proofs.pair_call.Statement.{statement}
 use Rattle.node_call.proofs.pair_call.Tie as tie
 
-pair-number-requires : tie.Need-pair-number-requires
-pair-number-requires c κs = search needs
-
 refused-by-requires : tie.Need-refused-by-requires
 refused-by-requires c κs =
     let s = c .before .before .before .before .before .before in
     let a = s .args in
     let g : Graph = graphOf (a .inputs) (a .nodes) (a .outputs) (a .node-table .now) (a .output-table .now) in
     pair-range g (a .node) (a .word) _ (c .before .pair-number .ensures) (c .if1 .taken)
-
-same-length : tie.Need-same-length
-same-length c = search needs
-
-same-length-2 : tie.Need-same-length-2
-same-length-2 c = search needs
 
 returns : tie.Need-returns
 unfolding pairCall
@@ -36,12 +27,6 @@ returns c =
 rewrite-named-requires : tie.Need-rewrite-named-requires
 rewrite-named-requires c κs = sym (c .before .before .before .pair-number .ensures) ∙ c .before .before .if1 .left
 
-same-length-3 : tie.Need-same-length-3
-same-length-3 c = search needs
-
-same-length-4 : tie.Need-same-length-4
-same-length-4 c = search needs
-
 returns-2 : tie.Need-returns-2
 unfolding pairCall
 returns-2 c =
@@ -54,12 +39,12 @@ pub pair-call-spec : {M : Type 1} → statement M
 pair-call-spec =
     tie.close
     (tie.spec
-    pair-number-requires
+    (λ c κs. search needs)
     refused-by-requires
-    same-length
-    same-length-2
+    (λ c. search needs)
+    (λ c. search needs)
     returns
     rewrite-named-requires
-    same-length-3
-    same-length-4
+    (λ c. search needs)
+    (λ c. search needs)
     returns-2)

@@ -6,15 +6,6 @@ use borrow.Author.Needs.{needs}
 use Rattle.reducer.proofs.reducer_count.Statement.{statement}
 use Rattle.reducer.proofs.reducer_count.Tie as tie
 
-complemented-edges-requires : tie.Need-complemented-edges-requires
-complemented-edges-requires c κs = search needs
-
-count-told-requires : tie.Need-count-told-requires
-count-told-requires c κs = search needs
-
-count-number-requires : tie.Need-count-number-requires
-count-number-requires c κs = search needs
-
 returns : tie.Need-returns
 returns c =
     let e = c .before .before .before .complemented-edges .ensures in
@@ -23,4 +14,4 @@ returns c =
 pub reducer-count-spec : {M : Type 1} → statement M
 reducer-count-spec =
     tie.close
-    (tie.spec complemented-edges-requires count-told-requires count-number-requires returns)
+    (tie.spec (λ c κs. search needs) (λ c κs. search needs) (λ c κs. search needs) returns)

@@ -5,18 +5,6 @@ use borrow.Author.Needs.{needs}
 use Rattle.reducer.proofs.reducer_evaluate.Statement.{statement}
 use Rattle.reducer.proofs.reducer_evaluate.Tie as tie
 
-evaluate-requires : tie.Need-evaluate-requires
-evaluate-requires c κs = search needs
-
-evaluated-number-requires : tie.Need-evaluated-number-requires
-evaluated-number-requires c κs = search needs
-
-same-length : tie.Need-same-length
-same-length c = search needs
-
-same-length-2 : tie.Need-same-length-2
-same-length-2 c = search needs
-
 returns : tie.Need-returns
 returns c =
     let e = c .before .before .before .before .before .evaluate .ensures in
@@ -25,4 +13,4 @@ returns c =
 pub reducer-evaluate-spec : {M : Type 1} → statement M
 reducer-evaluate-spec =
     tie.close
-    (tie.spec evaluate-requires evaluated-number-requires same-length same-length-2 returns)
+    (tie.spec (λ c κs. search needs) (λ c κs. search needs) (λ c. search needs) (λ c. search needs) returns)

@@ -13,15 +13,6 @@ use borrow.Author.Needs.{needs}
 use Rattle.reducer.proofs.reducer_field.Statement.{statement}
 use Rattle.reducer.proofs.reducer_field.Tie as tie
 
-field-number-requires : tie.Need-field-number-requires
-field-number-requires c κs = search needs
-
-field-requires : tie.Need-field-requires
-field-requires c κs = search needs
-
-field-told-requires : tie.Need-field-told-requires
-field-told-requires c κs = search needs
-
 returns : tie.Need-returns
 unfolding fieldAnswer
 returns c =
@@ -36,4 +27,4 @@ returns c =
 
 pub reducer-field-spec : {M : Type 1} → statement M
 reducer-field-spec =
-    tie.close (tie.spec field-number-requires field-requires field-told-requires returns)
+    tie.close (tie.spec (λ c κs. search needs) (λ c κs. search needs) (λ c κs. search needs) returns)

@@ -7,21 +7,6 @@ use borrow.Author.Needs.{needs}
 use Rattle.reducer.proofs.reducer_load.Statement.{statement}
 use Rattle.reducer.proofs.reducer_load.Tie as tie
 
-load-requires : tie.Need-load-requires
-load-requires c κs = search needs
-
-loaded-told-requires : tie.Need-loaded-told-requires
-loaded-told-requires c κs = search needs
-
-loaded-number-requires : tie.Need-loaded-number-requires
-loaded-number-requires c κs = search needs
-
-same-length : tie.Need-same-length
-same-length c = search needs
-
-same-length-2 : tie.Need-same-length-2
-same-length-2 c = search needs
-
 returns : tie.Need-returns
 returns c =
     let l = c .before .before .before .before .before .before .before .load in
@@ -40,9 +25,9 @@ pub reducer-load-spec : {M : Type 1} → statement M
 reducer-load-spec =
     tie.close
     (tie.spec
-    load-requires
-    loaded-told-requires
-    loaded-number-requires
-    same-length
-    same-length-2
+    (λ c κs. search needs)
+    (λ c κs. search needs)
+    (λ c κs. search needs)
+    (λ c. search needs)
+    (λ c. search needs)
     returns)

@@ -6,21 +6,6 @@ use borrow.Author.Needs.{needs}
 use Rattle.reducer.proofs.reducer_pair.Statement.{statement}
 use Rattle.reducer.proofs.reducer_pair.Tie as tie
 
-pair-call-requires : tie.Need-pair-call-requires
-pair-call-requires c κs = search needs
-
-saving-told-requires : tie.Need-saving-told-requires
-saving-told-requires c κs = search needs
-
-saving-number-requires : tie.Need-saving-number-requires
-saving-number-requires c κs = search needs
-
-same-length : tie.Need-same-length
-same-length c = search needs
-
-same-length-2 : tie.Need-same-length-2
-same-length-2 c = search needs
-
 returns : tie.Need-returns
 returns c =
     let e = c .before .before .before .before .before .before .before .pair-call .ensures in (
@@ -32,9 +17,9 @@ pub reducer-pair-spec : {M : Type 1} → statement M
 reducer-pair-spec =
     tie.close
     (tie.spec
-    pair-call-requires
-    saving-told-requires
-    saving-number-requires
-    same-length
-    same-length-2
+    (λ c κs. search needs)
+    (λ c κs. search needs)
+    (λ c κs. search needs)
+    (λ c. search needs)
+    (λ c. search needs)
     returns)

@@ -7,27 +7,6 @@ use borrow.Author.Needs.{needs}
 use Rattle.reducer.proofs.reducer_replay.Statement.{statement}
 use Rattle.reducer.proofs.reducer_replay.Tie as tie
 
-replay-requires : tie.Need-replay-requires
-replay-requires c κs = search needs
-
-replayed-told-requires : tie.Need-replayed-told-requires
-replayed-told-requires c κs = search needs
-
-replayed-number-requires : tie.Need-replayed-number-requires
-replayed-number-requires c κs = search needs
-
-same-length : tie.Need-same-length
-same-length c = search needs
-
-same-length-2 : tie.Need-same-length-2
-same-length-2 c = search needs
-
-same-length-3 : tie.Need-same-length-3
-same-length-3 c = search needs
-
-same-length-4 : tie.Need-same-length-4
-same-length-4 c = search needs
-
 returns : tie.Need-returns
 returns c =
     let p = c .before .before .before .before .before .before .before .before .before .before .before .replay in
@@ -57,11 +36,11 @@ pub reducer-replay-spec : {M : Type 1} → statement M
 reducer-replay-spec =
     tie.close
     (tie.spec
-    replay-requires
-    replayed-told-requires
-    replayed-number-requires
-    same-length
-    same-length-2
-    same-length-3
-    same-length-4
+    (λ c κs. search needs)
+    (λ c κs. search needs)
+    (λ c κs. search needs)
+    (λ c. search needs)
+    (λ c. search needs)
+    (λ c. search needs)
+    (λ c. search needs)
     returns)

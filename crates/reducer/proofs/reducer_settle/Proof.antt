@@ -7,24 +7,6 @@ use borrow.Author.Needs.{needs}
 use Rattle.reducer.proofs.reducer_settle.Statement.{statement}
 use Rattle.reducer.proofs.reducer_settle.Tie as tie
 
-settle-requires : tie.Need-settle-requires
-settle-requires c κs = search needs
-
-settled-told-requires : tie.Need-settled-told-requires
-settled-told-requires c κs = search needs
-
-settled-number-requires : tie.Need-settled-number-requires
-settled-number-requires c κs = search needs
-
-same-length : tie.Need-same-length
-same-length c = search needs
-
-same-length-2 : tie.Need-same-length-2
-same-length-2 c = search needs
-
-same-length-3 : tie.Need-same-length-3
-same-length-3 c = search needs
-
 returns : tie.Need-returns
 returns c =
     let t = c .before .before .before .before .before .before .before .before .before .settle .ensures in
@@ -40,10 +22,10 @@ pub reducer-settle-spec : {M : Type 1} → statement M
 reducer-settle-spec =
     tie.close
     (tie.spec
-    settle-requires
-    settled-told-requires
-    settled-number-requires
-    same-length
-    same-length-2
-    same-length-3
+    (λ c κs. search needs)
+    (λ c κs. search needs)
+    (λ c κs. search needs)
+    (λ c. search needs)
+    (λ c. search needs)
+    (λ c. search needs)
     returns)

@@ -7,24 +7,6 @@ use borrow.Author.Needs.{needs}
 use Rattle.reducer.proofs.reducer_tree.Statement.{statement}
 use Rattle.reducer.proofs.reducer_tree.Tie as tie
 
-tree-call-requires : tie.Need-tree-call-requires
-tree-call-requires c κs = search needs
-
-saving-told-requires : tie.Need-saving-told-requires
-saving-told-requires c κs = search needs
-
-saving-number-requires : tie.Need-saving-number-requires
-saving-number-requires c κs = search needs
-
-same-length : tie.Need-same-length
-same-length c = search needs
-
-same-length-2 : tie.Need-same-length-2
-same-length-2 c = search needs
-
-same-length-3 : tie.Need-same-length-3
-same-length-3 c = search needs
-
 returns : tie.Need-returns
 returns c =
     let t = c .before .before .before .before .before .before .before .before .before .tree-call .ensures in
@@ -40,10 +22,10 @@ pub reducer-tree-spec : {M : Type 1} → statement M
 reducer-tree-spec =
     tie.close
     (tie.spec
-    tree-call-requires
-    saving-told-requires
-    saving-number-requires
-    same-length
-    same-length-2
-    same-length-3
+    (λ c κs. search needs)
+    (λ c κs. search needs)
+    (λ c κs. search needs)
+    (λ c. search needs)
+    (λ c. search needs)
+    (λ c. search needs)
     returns)

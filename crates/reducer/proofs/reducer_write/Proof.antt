@@ -6,18 +6,6 @@ use borrow.Author.Needs.{needs}
 use Rattle.reducer.proofs.reducer_write.Statement.{statement}
 use Rattle.reducer.proofs.reducer_write.Tie as tie
 
-write-requires : tie.Need-write-requires
-write-requires c κs = search needs
-
-written-told-requires : tie.Need-written-told-requires
-written-told-requires c κs = search needs
-
-written-number-requires : tie.Need-written-number-requires
-written-number-requires c κs = search needs
-
-same-length : tie.Need-same-length
-same-length c = search needs
-
 returns : tie.Need-returns
 returns c =
     let e = c .before .before .before .before .before .write .ensures in (
@@ -28,4 +16,4 @@ returns c =
 pub reducer-write-spec : {M : Type 1} → statement M
 reducer-write-spec =
     tie.close
-    (tie.spec write-requires written-told-requires written-number-requires same-length returns)
+    (tie.spec (λ c κs. search needs) (λ c κs. search needs) (λ c κs. search needs) (λ c. search needs) returns)

@@ -10,9 +10,6 @@ use Rattle.replay.proofs.replay.Tie as tie
 returns : tie.Need-returns
 returns c = refused-words _ _ _ _ _ _ 101 (code-left _ _ (c .if1 .taken)) (λ z. omega arith)
 
-kinds-number-requires : tie.Need-kinds-number-requires
-kinds-number-requires c κs = search needs
-
 returns-2 : tie.Need-returns-2
 returns-2 c =
     refused-words _ _ _ _ _ _ 102 (code-kinds _ _ (c .before .before .if1 .left) (λ z. c .if2 .taken (c .before .kinds-number .ensures ∙ z))) (λ z. omega arith)
@@ -22,41 +19,11 @@ returns-3 c =
     let k = sym (c .before .before .kinds-number .ensures) ∙ c .before .if2 .left in
     refused-words _ _ _ _ _ _ 4 (code-short _ _ (c .before .before .before .if1 .left) k (omega arith)) (λ z. omega arith)
 
-load-requires : tie.Need-load-requires
-load-requires c κs = search needs
-
-enum-known-answer : tie.Need-enum-known-answer
-enum-known-answer c = search needs
-
-enum-known-answer-2 : tie.Need-enum-known-answer-2
-enum-known-answer-2 c = search needs
-
-make-calls-requires : tie.Need-make-calls-requires
-make-calls-requires c κs = search needs
-
-same-length : tie.Need-same-length
-same-length c = search needs
-
-same-length-2 : tie.Need-same-length-2
-same-length-2 c = search needs
-
 returns-4 : tie.Need-returns-4
 returns-4 c =
     let l = c .before .before .before .before .before .before .before in
     let e = l .before .before .before in
     refused-file _ _ _ _ _ _ (c .before .answer .given .0 .0) _ _ (code-none _ _ (e .before .before .before .if1 .left) (sym (e .before .before .kinds-number .ensures) ∙ e .before .if2 .left) (omega (arith, e .if3 .left))) (at-case _ _ _ _ _ (c .before .answer .given .1) (l .load .ensures))
-
-same-length-3 : tie.Need-same-length-3
-same-length-3 c = search needs
-
-same-length-4 : tie.Need-same-length-4
-same-length-4 c = search needs
-
-same-length-5 : tie.Need-same-length-5
-same-length-5 c = search needs
-
-same-length-6 : tie.Need-same-length-6
-same-length-6 c = search needs
 
 returns-5 : tie.Need-returns-5
 returns-5 c =
@@ -70,18 +37,18 @@ replay-spec =
     tie.close
     (tie.spec
     returns
-    kinds-number-requires
+    (λ c κs. search needs)
     returns-2
     returns-3
-    load-requires
-    enum-known-answer
-    enum-known-answer-2
-    make-calls-requires
-    same-length
-    same-length-2
+    (λ c κs. search needs)
+    (λ c. search needs)
+    (λ c. search needs)
+    (λ c κs. search needs)
+    (λ c. search needs)
+    (λ c. search needs)
     returns-4
-    same-length-3
-    same-length-4
-    same-length-5
-    same-length-6
+    (λ c. search needs)
+    (λ c. search needs)
+    (λ c. search needs)
+    (λ c. search needs)
     returns-5)

@@ -12,9 +12,6 @@ returns c =
     let a = c .before .before .before .before .before .before .args in
     (report-refused 103 (a .file .now) (a .node-table .now) (a .output-table .now) _ (a .buffer .now) (short-scratch _ _ _ _ (c .if1 .taken)) (λ z. omega arith), (λ n. refl, λ n. refl))
 
-buffer-number-requires : tie.Need-buffer-number-requires
-buffer-number-requires c κs = search needs
-
 returns-2 : tie.Need-returns-2
 returns-2 c =
     let a = c .before .before .before .before .before .before .before .before .args in
@@ -26,18 +23,6 @@ put-report-requires c κs =
     let e = c .before .before .before .before in
     let q = enough-is _ _ _ _ (enough _ _ _ _ (e .before .before .if1 .left) (sym (e .before .buffer-number .ensures) ∙ e .if2 .left)) in
     omega arith
-
-same-length : tie.Need-same-length
-same-length c = search needs
-
-same-length-2 : tie.Need-same-length-2
-same-length-2 c = search needs
-
-same-length-3 : tie.Need-same-length-3
-same-length-3 c = search needs
-
-same-length-4 : tie.Need-same-length-4
-same-length-4 c = search needs
 
 returns-3 : tie.Need-returns-3
 returns-3 c =
@@ -53,11 +38,11 @@ report-spec =
     tie.close
     (tie.spec
     returns
-    buffer-number-requires
+    (λ c κs. search needs)
     returns-2
     put-report-requires
-    same-length
-    same-length-2
-    same-length-3
-    same-length-4
+    (λ c. search needs)
+    (λ c. search needs)
+    (λ c. search needs)
+    (λ c. search needs)
     returns-3)

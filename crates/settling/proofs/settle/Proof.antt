@@ -5,32 +5,11 @@ use borrow.Author.Needs.{needs}
 use Rattle.settling.proofs.settle.Statement.{statement}
 use Rattle.settling.proofs.settle.Tie as tie
 
-settle-number-requires : tie.Need-settle-number-requires
-settle-number-requires c κs = search needs
-
-refused-by-requires : tie.Need-refused-by-requires
-refused-by-requires c κs = search needs
-
-same-length : tie.Need-same-length
-same-length c = search needs
-
-same-length-2 : tie.Need-same-length-2
-same-length-2 c = search needs
-
 returns : tie.Need-returns
 returns c = let e = c .before .before .settle-number .ensures .0 in (refused-settling _ _ _ (c .refused-by .ensures ∙ e) (λ z. c .before .if1 .taken (e ∙ z)), λ z. refl)
 
 settle-admitted-requires : tie.Need-settle-admitted-requires
 settle-admitted-requires c κs = let l = c .before .before .before in passed _ _ (sym (l .before .settle-number .ensures .0) ∙ l .if1 .left)
-
-same-length-3 : tie.Need-same-length-3
-same-length-3 c = search needs
-
-same-length-4 : tie.Need-same-length-4
-same-length-4 c = search needs
-
-same-length-5 : tie.Need-same-length-5
-same-length-5 c = search needs
 
 returns-2 : tie.Need-returns-2
 returns-2 c =
@@ -42,13 +21,13 @@ pub settle-spec : {M : Type 1} → statement M
 settle-spec =
     tie.close
     (tie.spec
-    settle-number-requires
-    refused-by-requires
-    same-length
-    same-length-2
+    (λ c κs. search needs)
+    (λ c κs. search needs)
+    (λ c. search needs)
+    (λ c. search needs)
     returns
     settle-admitted-requires
-    same-length-3
-    same-length-4
-    same-length-5
+    (λ c. search needs)
+    (λ c. search needs)
+    (λ c. search needs)
     returns-2)

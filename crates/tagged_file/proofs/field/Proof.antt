@@ -9,30 +9,12 @@ use borrow.Author.Needs.{needs}
 use Rattle.tagged_file.proofs.field.Statement.{statement}
 use Rattle.tagged_file.proofs.field.Tie as tie
 
-due-requires : tie.Need-due-requires
-due-requires c κs = search needs
-
-slice-aggregate-result : tie.Need-slice-aggregate-result
-slice-aggregate-result c = search needs
-
 returns : tie.Need-returns
 unfolding fieldPayload
 returns c = unequal _ _ _ _ (λ e. omega arith) refl
 
 two-requires : tie.Need-two-requires
 two-requires c κs = omega (arith, due-is 1 5 (now (c .before .before .before .args .bytes)) (omega arith))
-
-cast-n : tie.Need-cast-n
-cast-n c = search needs
-
-add-result : tie.Need-add-result
-add-result c = search needs
-
-sub-result : tie.Need-sub-result
-sub-result c = search needs
-
-part-result-start : tie.Need-part-result-start
-part-result-start c = search needs
 
 part-result-end : tie.Need-part-result-end
 part-result-end c = omega (arith, due-is 1 5 (now (c .before .before .before .before .args .bytes)) (omega arith))
@@ -45,13 +27,13 @@ pub field-spec : {M : Type 1} → statement M
 field-spec =
     tie.close
     (tie.spec
-    due-requires
-    slice-aggregate-result
+    (λ c κs. search needs)
+    (λ c. search needs)
     returns
     two-requires
-    cast-n
-    add-result
-    sub-result
-    part-result-start
+    (λ c. search needs)
+    (λ c. search needs)
+    (λ c. search needs)
+    (λ c. search needs)
     part-result-end
     returns-2)

@@ -9,9 +9,6 @@ use Rattle.tagged_file.proofs.Whole.{passed, nodes-asked, outputs-asked
 use Rattle.tagged_file.proofs.load.Statement.{statement}
 use Rattle.tagged_file.proofs.load.Tie as tie
 
-file-number-requires : tie.Need-file-number-requires
-file-number-requires c κs = search needs
-
 refused-by-requires : tie.Need-refused-by-requires
 refused-by-requires c κs = file-fault _ _ _ _ (c .before .file-number .ensures) (c .if1 .taken)
 
@@ -48,9 +45,6 @@ part-fill-nodes-start c =
     let p = passed (now (e .before .before .before .before .before .args .file)) _ _ (sym (e .before .file-number .ensures) ∙ e .if1 .left) in
     omega (arith, p .head)
 
-part-fill-nodes-end : tie.Need-part-fill-nodes-end
-part-fill-nodes-end c = search needs
-
 fill-nodes-requires : tie.Need-fill-nodes-requires
 fill-nodes-requires c κs =
     let e = c .before .before .before .before .before in
@@ -63,12 +57,6 @@ fill-outputs-requires c κs =
     let p = passed (now (e .before .before .before .before .before .args .file)) _ _ (sym (e .before .file-number .ensures) ∙ e .if1 .left) in
     outputs-asked _ _ _ _ _ _ _ p (c .before .before .before .before .before .before .before .four2 .ensures) (c .before .before .before .before .before .before .four3 .ensures)
     (rest 15 (now (e .before .before .before .before .before .args .file))) (c .before .before .before .fill-nodes .ensures .0)
-
-same-length : tie.Need-same-length
-same-length c = search needs
-
-same-length-2 : tie.Need-same-length-2
-same-length-2 c = search needs
 
 returns-2 : tie.Need-returns-2
 returns-2 c =
@@ -85,7 +73,7 @@ pub load-spec : {M : Type 1} → statement M
 load-spec =
     tie.close
     (tie.spec
-    file-number-requires
+    (λ c κs. search needs)
     refused-by-requires
     returns
     four-requires
@@ -93,9 +81,9 @@ load-spec =
     four-requires-3
     sub-fill-nodes
     part-fill-nodes-start
-    part-fill-nodes-end
+    (λ c. search needs)
     fill-nodes-requires
     fill-outputs-requires
-    same-length
-    same-length-2
+    (λ c. search needs)
+    (λ c. search needs)
     returns-2)

@@ -7,9 +7,6 @@ use borrow.Author.Needs.{needs}
 use Rattle.tagged_file.proofs.write.Statement.{statement}
 use Rattle.tagged_file.proofs.write.Tie as tie
 
-write-number-requires : tie.Need-write-number-requires
-write-number-requires c κs = search needs
-
 refused-by-requires : tie.Need-refused-by-requires
 refused-by-requires c κs = write-fault _ _ _ (c .before .write-number .ensures) (c .if1 .taken)
 
@@ -24,9 +21,6 @@ put-file-requires c κs =
     let m = admitted g (p .0) in
     (m .long-nodes, (m .long-outputs, p .1))
 
-same-length : tie.Need-same-length
-same-length c = search needs
-
 returns-2 : tie.Need-returns-2
 returns-2 c = write-accepted _ _ _ _ (sym (c .before .before .before .before .before .write-number .ensures) ∙ c .before .before .before .before .if1 .left) (c .before .before .put-file .ensures .0) (c .before .before .put-file .ensures .1)
 
@@ -34,9 +28,9 @@ pub write-spec : {M : Type 1} → statement M
 write-spec =
     tie.close
     (tie.spec
-    write-number-requires
+    (λ c κs. search needs)
     refused-by-requires
     returns
     put-file-requires
-    same-length
+    (λ c. search needs)
     returns-2)

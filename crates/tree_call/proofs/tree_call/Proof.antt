@@ -9,21 +9,12 @@ use borrow.Author.Needs.{needs}
 use Rattle.tree_call.proofs.tree_call.Statement.{statement}
 use Rattle.tree_call.proofs.tree_call.Tie as tie
 
-tree-number-requires : tie.Need-tree-number-requires
-tree-number-requires c κs = search needs
-
 refused-by-requires : tie.Need-refused-by-requires
 refused-by-requires c κs =
     let st = c .before .before .before .before .before .before .before in
     let a = st .args in
     let g : Graph = graphOf (a .inputs) (a .nodes) (a .outputs) (a .node-table .now) (a .output-table .now) in
     tree-range g (length (a .scratch .now)) (a .root) (c .before .tree-number .result) (c .before .tree-number .ensures) (c .if1 .taken)
-
-same-length : tie.Need-same-length
-same-length c = search needs
-
-same-length-2 : tie.Need-same-length-2
-same-length-2 c = search needs
 
 returns : tie.Need-returns
 returns c =
@@ -43,15 +34,6 @@ rewrite-tree-requires c κs =
     let z : n ≡ 0 = c .before .before .before .if1 .left in
     accepted-by g (length (a .scratch .now)) (a .root) (sym e ∙ z)
 
-same-length-3 : tie.Need-same-length-3
-same-length-3 c = search needs
-
-same-length-4 : tie.Need-same-length-4
-same-length-4 c = search needs
-
-same-length-5 : tie.Need-same-length-5
-same-length-5 c = search needs
-
 returns-2 : tie.Need-returns-2
 returns-2 c =
     let st = c .before .before .before .before .before .before .before .before .before .before .before .before .before .before .before .before .before in
@@ -66,13 +48,13 @@ pub tree-call-spec : {M : Type 1} → statement M
 tree-call-spec =
     tie.close
     (tie.spec
-    tree-number-requires
+    (λ c κs. search needs)
     refused-by-requires
-    same-length
-    same-length-2
+    (λ c. search needs)
+    (λ c. search needs)
     returns
     rewrite-tree-requires
-    same-length-3
-    same-length-4
-    same-length-5
+    (λ c. search needs)
+    (λ c. search needs)
+    (λ c. search needs)
     returns-2)

@@ -6,18 +6,9 @@ use borrow.Author.Needs.{needs}
 use Rattle.answers.proofs.told.settled_told.Statement.{statement}
 use Rattle.answers.proofs.told.settled_told.Tie as tie
 
-enum-known-answer : tie.Need-enum-known-answer
-enum-known-answer c = search needs
-
-enum-told : tie.Need-enum-told
-enum-told c = search needs
-
 returns : tie.Need-returns
 returns c =
     sym (ap (λ a. told (settledAnswer a) (c .before .before .before .args .before)) (c .before .answer .given .1))
 
-returns-2 : tie.Need-returns-2
-returns-2 c = search needs
-
 pub settled-told-spec : {M : Type 1} → statement M
-settled-told-spec = tie.close (tie.spec enum-known-answer enum-told returns returns-2)
+settled-told-spec = tie.close (tie.spec (λ c. search needs) (λ c. search needs) returns (λ c. search needs))

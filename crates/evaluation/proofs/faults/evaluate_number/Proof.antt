@@ -26,9 +26,6 @@ slices-held c =
     let a = c .before .before .before .before .before .before .before .before .args in
     long-slices (graphOf (a .inputs) (a .nodes) (a .outputs) (a .node-table .now) (a .output-table .now)) (a .words) (a .results) (c .before .if3 .left) (c .if4 .left)
 
-limit-number-requires : tie.Need-limit-number-requires
-limit-number-requires c κs = search needs
-
 returns : tie.Need-returns
 unfolding evaluateNumber
 returns c =
@@ -68,12 +65,6 @@ literal-number-requires c κs =
     let t = c .before .before in
     (limit-held (t .before .before), table-held t)
 
-scratch-number-requires : tie.Need-scratch-number-requires
-scratch-number-requires c κs = search needs
-
-first-fault-requires : tie.Need-first-fault-requires
-first-fault-requires c κs = search needs
-
 returns-5 : tie.Need-returns-5
 unfolding evaluateNumber scratchNumber
 returns-5 c =
@@ -87,13 +78,13 @@ pub evaluate-number-spec : {M : Type 1} → statement M
 evaluate-number-spec =
     tie.close
     (tie.spec
-    limit-number-requires
+    (λ c κs. search needs)
     returns
     table-number-requires
     returns-2
     returns-3
     returns-4
     literal-number-requires
-    scratch-number-requires
-    first-fault-requires
+    (λ c κs. search needs)
+    (λ c κs. search needs)
     returns-5)

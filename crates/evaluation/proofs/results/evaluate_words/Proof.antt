@@ -18,9 +18,6 @@ fill-nodes-requires c κs =
     let g : Graph = graphOf (a .inputs) (a .nodes) (a .outputs) (a .node-table .now) (a .output-table .now) in
     (s .pre .1, s .pre .0 .long-nodes, s .pre .2, node-below g (s .pre .0))
 
-slice-reshare-prefix-fill-results : tie.Need-slice-reshare-prefix-fill-results
-slice-reshare-prefix-fill-results c = search needs
-
 slice-aggregate-fill-results : tie.Need-slice-aggregate-fill-results
 slice-aggregate-fill-results c =
     let f = c .before .before .before in
@@ -35,12 +32,6 @@ fill-results-requires c κs =
     let e : length (take (a .nodes) (f .fill-nodes .last .1 .1 .1 .1 .0)) ≡ a .nodes =
     length-take-le (a .nodes) (f .fill-nodes .last .1 .1 .1 .1 .0) (omega (arith, f .fill-nodes .kept .1 .1 .1 .1 .0)) in
     (s .pre .1, s .pre .0 .long-outputs, s .pre .3, rw e (s .pre .0 .output-below))
-
-same-length : tie.Need-same-length
-same-length c = search needs
-
-same-length-2 : tie.Need-same-length-2
-same-length-2 c = search needs
 
 returns : tie.Need-returns
 returns c =
@@ -57,9 +48,9 @@ evaluate-words-spec =
     tie.close
     (tie.spec
     fill-nodes-requires
-    slice-reshare-prefix-fill-results
+    (λ c. search needs)
     slice-aggregate-fill-results
     fill-results-requires
-    same-length
-    same-length-2
+    (λ c. search needs)
+    (λ c. search needs)
     returns)

@@ -22,26 +22,11 @@ loop-holds c =
     let a = c .before .before .before .before .args in
     (omega arith, refl, refl, swept-zero (outputWordFrom (byIndex (a .inputs) (a .input-words .now) (a .node-words .now)) (a .output-table .now)) (a .results .now))
 
-word-at-requires : tie.Need-word-at-requires Inv-loop μ-loop
-word-at-requires c κs = omega arith
-
 literal-word-requires : tie.Need-literal-word-requires Inv-loop μ-loop
 literal-word-requires c κs =
     let l = c .before .before in
     let s = l .before .before .before .before .before in
     (s .pre .0, omega (arith, c .word-at .ensures, s .pre .3 (l .loop .o) (omega arith)))
-
-mul-results : tie.Need-mul-results Inv-loop μ-loop
-mul-results c = omega arith
-
-slice-write-results : tie.Need-slice-write-results Inv-loop μ-loop
-slice-write-results c = omega arith
-
-add-o : tie.Need-add-o Inv-loop μ-loop
-add-o c = omega arith
-
-loop-less : tie.Need-loop-less Inv-loop μ-loop
-loop-less c = omega arith
 
 loop-again : tie.Need-loop-again Inv-loop μ-loop
 loop-again c =
@@ -54,9 +39,6 @@ loop-again c =
       swept-next ws (a .output-table .now) (a .results .now) (l .loop .results) (l .loop .o) (c .literal-word .result)
           (omega arith) (l .loop .inv .3) (c .literal-word .ensures ∙ ap (literalWord ws) (c .before .word-at .ensures)),
     )
-
-same-length : tie.Need-same-length Inv-loop μ-loop
-same-length c = omega arith
 
 returns : tie.Need-returns Inv-loop μ-loop
 returns c =
@@ -72,12 +54,12 @@ fill-results-spec =
     Inv-loop
     μ-loop
     loop-holds
-    word-at-requires
+    (λ c κs. omega arith)
     literal-word-requires
-    mul-results
-    slice-write-results
-    add-o
-    loop-less
+    (λ c. omega arith)
+    (λ c. omega arith)
+    (λ c. omega arith)
+    (λ c. omega arith)
     loop-again
-    same-length
+    (λ c. omega arith)
     returns)

@@ -22,9 +22,6 @@ loop-holds c =
     let a = s .args in
     (omega arith, refl, refl, λ j h. row-none (nodesOf (a .inputs) (a .nodes) (a .node-table .now)) (a .input-words .now) j (s .pre .0))
 
-slice-reshare-prefix-node-word : tie.Need-slice-reshare-prefix-node-word Inv-loop μ-loop
-slice-reshare-prefix-node-word c = omega arith
-
 slice-aggregate-node-word : tie.Need-slice-aggregate-node-word Inv-loop μ-loop
 slice-aggregate-node-word c =
     let l = c .before .before .loop in
@@ -37,18 +34,6 @@ node-word-requires c κs =
     let e : length (take (l .loop .v) (l .loop .scratch)) ≡ l .loop .v = length-take-le (l .loop .v) (l .loop .scratch) (omega arith) in
     (s .pre .0, omega arith, rw e (s .pre .3 (l .loop .v) (omega arith)))
 
-mul-scratch : tie.Need-mul-scratch Inv-loop μ-loop
-mul-scratch c = omega arith
-
-slice-write-scratch : tie.Need-slice-write-scratch Inv-loop μ-loop
-slice-write-scratch c = omega arith
-
-add-v : tie.Need-add-v Inv-loop μ-loop
-add-v c = omega arith
-
-loop-less : tie.Need-loop-less Inv-loop μ-loop
-loop-less c = omega arith
-
 loop-again : tie.Need-loop-again Inv-loop μ-loop
 loop-again c =
     let l = c .before .before .before in
@@ -60,9 +45,6 @@ loop-again c =
       λ j h. row-more (nodesOf (a .inputs) (a .nodes) (a .node-table .now)) (a .input-words .now) j (l .loop .scratch) (l .loop .v) (c .node-word .result)
           (omega arith) (l .loop .inv .3 j h) (rw e at (c .node-word .ensures (a .nodes) j h)),
     )
-
-same-length : tie.Need-same-length Inv-loop μ-loop
-same-length c = omega arith
 
 returns : tie.Need-returns Inv-loop μ-loop
 returns c =
@@ -77,13 +59,13 @@ fill-nodes-spec =
     Inv-loop
     μ-loop
     loop-holds
-    slice-reshare-prefix-node-word
+    (λ c. omega arith)
     slice-aggregate-node-word
     node-word-requires
-    mul-scratch
-    slice-write-scratch
-    add-v
-    loop-less
+    (λ c. omega arith)
+    (λ c. omega arith)
+    (λ c. omega arith)
+    (λ c. omega arith)
     loop-again
-    same-length
+    (λ c. omega arith)
     returns)

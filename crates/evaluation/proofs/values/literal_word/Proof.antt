@@ -5,12 +5,6 @@ use borrow.Author.Needs.{needs}
 use Rattle.evaluation.proofs.values.literal_word.Statement.{statement}
 use Rattle.evaluation.proofs.values.literal_word.Tie as tie
 
-index-word-requires : tie.Need-index-word-requires
-index-word-requires c κs = search needs
-
-turned-requires : tie.Need-turned-requires
-turned-requires c κs = search needs
-
 returns : tie.Need-returns
 returns c =
     let i = c .before in
@@ -19,4 +13,4 @@ returns c =
     (i .index-word .ensures) (c .turned .ensures)
 
 pub literal-word-spec : {M : Type 1} → statement M
-literal-word-spec = tie.close (tie.spec index-word-requires turned-requires returns)
+literal-word-spec = tie.close (tie.spec (λ c κs. search needs) (λ c κs. search needs) returns)

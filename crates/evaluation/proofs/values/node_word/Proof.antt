@@ -10,32 +10,11 @@ use borrow.Author.Needs.{needs}
 use Rattle.evaluation.proofs.values.node_word.Statement.{statement}
 use Rattle.evaluation.proofs.values.node_word.Tie as tie
 
-mul-at : tie.Need-mul-at
-mul-at c = search needs
-
-add-word-at : tie.Need-add-word-at
-add-word-at c = search needs
-
-word-at-requires : tie.Need-word-at-requires
-word-at-requires c κs = search needs
-
-word-at-requires-2 : tie.Need-word-at-requires-2
-word-at-requires-2 c κs = search needs
-
 literal-word-requires : tie.Need-literal-word-requires
 literal-word-requires c κs = let s = c .before .before .before .before .before in (s .pre .0, omega (arith, c .word-at2 .ensures, s .pre .2 .first))
 
-add-word-at-2 : tie.Need-add-word-at-2
-add-word-at-2 c = search needs
-
-word-at-requires-3 : tie.Need-word-at-requires-3
-word-at-requires-3 c κs = search needs
-
 literal-word-requires-2 : tie.Need-literal-word-requires-2
 literal-word-requires-2 c κs = let s = c .before .before .before .before .before .before .before in (s .pre .0, omega (arith, c .word-at3 .ensures, s .pre .2 .second))
-
-exclusive-word-requires : tie.Need-exclusive-word-requires
-exclusive-word-requires c κs = search needs
 
 returns : tie.Need-returns
 returns c = λ n j h.
@@ -55,9 +34,6 @@ literal-word-requires-3 c κs =
     let s = w .before .before .before .before in
     (s .pre .0, omega (arith, w .word-at .ensures, s .pre .2 .third (λ e. c .if1 .left (w .word-at .ensures ∙ e))))
 
-majority-word-requires : tie.Need-majority-word-requires
-majority-word-requires c κs = search needs
-
 returns-2 : tie.Need-returns-2
 returns-2 c = λ n j h.
     let z = c .before in
@@ -76,16 +52,16 @@ pub node-word-spec : {M : Type 1} → statement M
 node-word-spec =
     tie.close
     (tie.spec
-    mul-at
-    add-word-at
-    word-at-requires
-    word-at-requires-2
+    (λ c. search needs)
+    (λ c. search needs)
+    (λ c κs. search needs)
+    (λ c κs. search needs)
     literal-word-requires
-    add-word-at-2
-    word-at-requires-3
+    (λ c. search needs)
+    (λ c κs. search needs)
     literal-word-requires-2
-    exclusive-word-requires
+    (λ c κs. search needs)
     returns
     literal-word-requires-3
-    majority-word-requires
+    (λ c κs. search needs)
     returns-2)

@@ -6,14 +6,8 @@ use Rattle.evaluation.proofs.Gather.{turned-is}
 use Rattle.evaluation.proofs.values.turned.Statement.{statement}
 use Rattle.evaluation.proofs.values.turned.Tie as tie
 
-cast-result : tie.Need-cast-result
-cast-result c = search needs
-
-mul-result : tie.Need-mul-result
-mul-result c = search needs
-
 returns : tie.Need-returns
 returns c = turned-is (c .args .word) (c .args .literal % 2) (c .fits .word .fits) (omega arith)
 
 pub turned-spec : {M : Type 1} → statement M
-turned-spec = tie.close (tie.spec cast-result mul-result returns)
+turned-spec = tie.close (tie.spec (λ c. search needs) (λ c. search needs) returns)

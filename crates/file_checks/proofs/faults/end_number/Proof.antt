@@ -7,9 +7,6 @@ use borrow.Author.Needs.{needs}
 use Rattle.file_checks.proofs.faults.end_number.Statement.{statement}
 use Rattle.file_checks.proofs.faults.end_number.Tie as tie
 
-due-requires : tie.Need-due-requires
-due-requires c κs = search needs
-
 returns : tie.Need-returns
 unfolding endNumber
 returns c = fault _ _ (omega arith) (λ e. omega arith)
@@ -23,4 +20,4 @@ unfolding endNumber
 returns-3 c = none _ _ (omega arith) (no-less _ _ _ _ (omega arith) (refl))
 
 pub end-number-spec : {M : Type 1} → statement M
-end-number-spec = tie.close (tie.spec due-requires returns returns-2 returns-3)
+end-number-spec = tie.close (tie.spec (λ c κs. search needs) returns returns-2 returns-3)

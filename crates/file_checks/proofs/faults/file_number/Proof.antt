@@ -8,9 +8,6 @@ use borrow.Author.Needs.{needs}
 use Rattle.file_checks.proofs.faults.file_number.Statement.{statement}
 use Rattle.file_checks.proofs.faults.file_number.Tie as tie
 
-head-number-requires : tie.Need-head-number-requires
-head-number-requires c κs = search needs
-
 returns : tie.Need-returns
 unfolding fileNumber
 returns c = fault _ _ (omega arith) (λ e. omega arith)
@@ -20,9 +17,6 @@ sub-nodes-number c = omega (arith, head-passed (now (c .before .before .before .
 
 part-nodes-number-start : tie.Need-part-nodes-number-start
 part-nodes-number-start c = omega (arith, head-passed (now (c .before .before .before .args .file)) (c .before .before .before .args .node-room) (c .before .before .before .args .output-room) (omega arith))
-
-part-nodes-number-end : tie.Need-part-nodes-number-end
-part-nodes-number-end c = search needs
 
 four-requires : tie.Need-four-requires
 four-requires c κs = omega (arith, head-passed (now (c .before .before .before .before .args .file)) (c .before .before .before .before .args .node-room) (c .before .before .before .before .args .output-room) (omega arith))
@@ -47,11 +41,11 @@ pub file-number-spec : {M : Type 1} → statement M
 file-number-spec =
     tie.close
     (tie.spec
-    head-number-requires
+    (λ c κs. search needs)
     returns
     sub-nodes-number
     part-nodes-number-start
-    part-nodes-number-end
+    (λ c. search needs)
     four-requires
     add-nodes-number
     four-requires-2

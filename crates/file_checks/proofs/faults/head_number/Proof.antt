@@ -9,9 +9,6 @@ use borrow.Author.Needs.{needs}
 use Rattle.file_checks.proofs.faults.head_number.Statement.{statement}
 use Rattle.file_checks.proofs.faults.head_number.Tie as tie
 
-due-requires : tie.Need-due-requires
-due-requires c κs = search needs
-
 returns : tie.Need-returns
 unfolding headNumber
 returns c = fault _ _ (omega arith) (λ e. omega arith)
@@ -37,18 +34,9 @@ returns-4 : tie.Need-returns-4
 unfolding headNumber
 returns-4 c = none _ _ (omega arith) (no-less _ _ _ _ (omega arith) (no-less _ _ _ _ (omega arith) (less _ _ _ _ (omega arith) (refl))))
 
-cast-if5 : tie.Need-cast-if5
-cast-if5 c = search needs
-
-mul-if5 : tie.Need-mul-if5
-mul-if5 c = search needs
-
 returns-5 : tie.Need-returns-5
 unfolding headNumber
 returns-5 c = none _ _ (omega arith) (no-less _ _ _ _ (omega arith) (no-less _ _ _ _ (omega arith) (no-less _ _ _ _ (omega arith) (less _ _ _ _ (omega arith) (refl)))))
-
-cast-if6 : tie.Need-cast-if6
-cast-if6 c = search needs
 
 returns-6 : tie.Need-returns-6
 unfolding headNumber
@@ -62,7 +50,7 @@ pub head-number-spec : {M : Type 1} → statement M
 head-number-spec =
     tie.close
     (tie.spec
-    due-requires
+    (λ c κs. search needs)
     returns
     four-requires
     returns-2
@@ -70,9 +58,9 @@ head-number-spec =
     returns-3
     four-requires-3
     returns-4
-    cast-if5
-    mul-if5
+    (λ c. search needs)
+    (λ c. search needs)
     returns-5
-    cast-if6
+    (λ c. search needs)
     returns-6
     returns-7)

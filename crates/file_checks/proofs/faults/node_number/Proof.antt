@@ -9,9 +9,6 @@ use borrow.Author.Needs.{needs}
 use Rattle.file_checks.proofs.faults.node_number.Statement.{statement}
 use Rattle.file_checks.proofs.faults.node_number.Tie as tie
 
-due-requires : tie.Need-due-requires
-due-requires c κs = search needs
-
 returns : tie.Need-returns
 unfolding nodeFieldNumber
 returns c = fault _ _ (omega arith) (λ e. omega arith)
@@ -52,7 +49,7 @@ pub node-number-spec : {M : Type 1} → statement M
 node-number-spec =
     tie.close
     (tie.spec
-    due-requires
+    (λ c κs. search needs)
     returns
     four-requires
     returns-2

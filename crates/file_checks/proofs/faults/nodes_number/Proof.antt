@@ -19,9 +19,6 @@ abbrev μ-loop : tie.MeasureT-loop
 loop-holds : tie.Need-loop-holds Inv-loop μ-loop
 loop-holds c = (refl, refl)
 
-node-number-requires : tie.Need-node-number-requires Inv-loop μ-loop
-node-number-requires c κs = search needs
-
 returns : tie.Need-returns Inv-loop μ-loop
 returns c = let l = c .before .before .before .loop in stops _ _ (l .inv .0) (nodes-step (l .left) _ (now (l .s)) _ (omega arith)) (c .before .node-number .ensures) (c .if1 .taken)
 
@@ -34,23 +31,8 @@ sub-s c = let l = c .before .before .before .before .loop in omega (arith, node-
 part-s-start : tie.Need-part-s-start Inv-loop μ-loop
 part-s-start c = let l = c .before .before .before .before .loop in omega (arith, node-passed (now (l .s)) (l .index) (omega arith))
 
-part-s-end : tie.Need-part-s-end Inv-loop μ-loop
-part-s-end c = omega arith
-
-add-index : tie.Need-add-index Inv-loop μ-loop
-add-index c = omega arith
-
-sub-left : tie.Need-sub-left Inv-loop μ-loop
-sub-left c = omega arith
-
-loop-less : tie.Need-loop-less Inv-loop μ-loop
-loop-less c = omega arith
-
 loop-again : tie.Need-loop-again Inv-loop μ-loop
 loop-again c = let l = c .before .before .before .before .before .loop in (rw (rest-at (c .before .node-size .result) (nodeSize (now (l .s))) (now (l .s)) (omega arith)) (goes _ _ (l .inv .0) (nodes-step (l .left) _ (now (l .s)) _ (omega arith)) (omega arith)), omega arith)
-
-outputs-number-requires : tie.Need-outputs-number-requires Inv-loop μ-loop
-outputs-number-requires c κs = search needs
 
 returns-2 : tie.Need-returns-2 Inv-loop μ-loop
 returns-2 c = let l = c .before .before .loop in c .outputs-number .ensures ∙ sym (nodes-done (l .left) _ (now (l .s)) _ (omega arith)) ∙ l .inv .0
@@ -62,15 +44,15 @@ nodes-number-spec =
     Inv-loop
     μ-loop
     loop-holds
-    node-number-requires
+    (λ c κs. search needs)
     returns
     node-size-requires
     sub-s
     part-s-start
-    part-s-end
-    add-index
-    sub-left
-    loop-less
+    (λ c. omega arith)
+    (λ c. omega arith)
+    (λ c. omega arith)
+    (λ c. omega arith)
     loop-again
-    outputs-number-requires
+    (λ c κs. search needs)
     returns-2)

@@ -9,9 +9,6 @@ use borrow.Author.Needs.{needs}
 use Rattle.file_checks.proofs.faults.output_number.Statement.{statement}
 use Rattle.file_checks.proofs.faults.output_number.Tie as tie
 
-due-requires : tie.Need-due-requires
-due-requires c κs = search needs
-
 returns : tie.Need-returns
 unfolding outputFieldNumber
 returns c = fault _ _ (omega arith) (λ e. omega arith)
@@ -28,4 +25,4 @@ unfolding outputFieldNumber
 returns-3 c = none _ _ (omega arith) (less _ _ _ _ (omega arith) (refl))
 
 pub output-number-spec : {M : Type 1} → statement M
-output-number-spec = tie.close (tie.spec due-requires returns four-requires returns-2 returns-3)
+output-number-spec = tie.close (tie.spec (λ c κs. search needs) returns four-requires returns-2 returns-3)

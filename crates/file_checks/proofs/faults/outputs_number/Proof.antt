@@ -20,9 +20,6 @@ abbrev μ-loop : tie.MeasureT-loop
 loop-holds : tie.Need-loop-holds Inv-loop μ-loop
 loop-holds c = refl
 
-output-number-requires : tie.Need-output-number-requires Inv-loop μ-loop
-output-number-requires c κs = search needs
-
 returns : tie.Need-returns Inv-loop μ-loop
 returns c = let l = c .before .before .before .loop in stops _ _ (l .inv) (outputs-step (l .left) (now (l .s)) _ (omega arith)) (c .before .output-number .ensures) (c .if1 .taken)
 
@@ -32,20 +29,8 @@ sub-s c = let l = c .before .before .before .loop in omega (arith, out-passed (n
 part-s-start : tie.Need-part-s-start Inv-loop μ-loop
 part-s-start c = let l = c .before .before .before .loop in omega (arith, out-passed (now (l .s)) (c .before .before .before .before .before .args .index) (omega arith))
 
-part-s-end : tie.Need-part-s-end Inv-loop μ-loop
-part-s-end c = omega arith
-
-sub-left : tie.Need-sub-left Inv-loop μ-loop
-sub-left c = omega arith
-
-loop-less : tie.Need-loop-less Inv-loop μ-loop
-loop-less c = omega arith
-
 loop-again : tie.Need-loop-again Inv-loop μ-loop
 loop-again c = let l = c .before .before .before .before .loop in rw (rest 7 (now (l .s))) (goes _ _ (l .inv) (outputs-step (l .left) (now (l .s)) _ (omega arith)) (omega arith))
-
-end-number-requires : tie.Need-end-number-requires Inv-loop μ-loop
-end-number-requires c κs = search needs
 
 returns-2 : tie.Need-returns-2 Inv-loop μ-loop
 returns-2 c = let l = c .before .before .loop in c .end-number .ensures ∙ sym (outputs-done (l .left) (now (l .s)) _ (omega arith)) ∙ l .inv
@@ -57,13 +42,13 @@ outputs-number-spec =
     Inv-loop
     μ-loop
     loop-holds
-    output-number-requires
+    (λ c κs. search needs)
     returns
     sub-s
     part-s-start
-    part-s-end
-    sub-left
-    loop-less
+    (λ c. omega arith)
+    (λ c. omega arith)
+    (λ c. omega arith)
     loop-again
-    end-number-requires
+    (λ c κs. search needs)
     returns-2)

@@ -11,9 +11,6 @@ returns : tie.Need-returns
 unfolding dueNumber
 returns c = less _ _ _ _ (omega arith) (refl)
 
-shared-slice-read-tag : tie.Need-shared-slice-read-tag
-shared-slice-read-tag c = search needs
-
 returns-2 : tie.Need-returns-2
 unfolding dueNumber
 returns-2 c = no-less _ _ _ _ (omega arith) (less _ _ _ _ (omega arith) (refl))
@@ -22,21 +19,9 @@ returns-3 : tie.Need-returns-3
 unfolding dueNumber
 returns-3 c = no-less _ _ _ _ (omega arith) (no-less _ _ _ _ (omega arith) (less _ _ _ _ (omega arith) (refl)))
 
-payload-requires : tie.Need-payload-requires
-payload-requires c κs = search needs
-
-two-requires : tie.Need-two-requires
-two-requires c κs = search needs
-
 returns-4 : tie.Need-returns-4
 unfolding dueNumber
 returns-4 c = no-less _ _ _ _ (omega arith) (no-less _ _ _ _ (omega arith) (no-less _ _ _ _ (omega arith) (unequal _ _ _ _ (λ e. omega arith) (refl))))
-
-cast-if5 : tie.Need-cast-if5
-cast-if5 c = search needs
-
-add-if5 : tie.Need-add-if5
-add-if5 c = search needs
 
 returns-5 : tie.Need-returns-5
 unfolding dueNumber
@@ -51,13 +36,13 @@ due-spec =
     tie.close
     (tie.spec
     returns
-    shared-slice-read-tag
+    (λ c. search needs)
     returns-2
     returns-3
-    payload-requires
-    two-requires
+    (λ c κs. search needs)
+    (λ c κs. search needs)
     returns-4
-    cast-if5
-    add-if5
+    (λ c. search needs)
+    (λ c. search needs)
     returns-5
     returns-6)

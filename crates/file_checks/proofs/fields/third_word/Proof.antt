@@ -7,9 +7,6 @@ use borrow.Author.Needs.{needs}
 use Rattle.file_checks.proofs.fields.third_word.Statement.{statement}
 use Rattle.file_checks.proofs.fields.third_word.Tie as tie
 
-shared-slice-read-tag : tie.Need-shared-slice-read-tag
-shared-slice-read-tag c = search needs
-
 returns : tie.Need-returns
 unfolding third
 returns c = equal _ _ _ _ (omega arith) refl
@@ -22,4 +19,4 @@ unfolding third
 returns-2 c = unequal _ _ _ _ (c .before .if1 .left) (c .four .ensures)
 
 pub third-word-spec : {M : Type 1} → statement M
-third-word-spec = tie.close (tie.spec shared-slice-read-tag returns four-requires returns-2)
+third-word-spec = tie.close (tie.spec (λ c. search needs) returns four-requires returns-2)

@@ -20,9 +20,6 @@ loop-holds c = (refl, omega arith)
 add-k : tie.Need-add-k Inv-loop μ-loop
 add-k c = omega (arith, length-some (c .before .loop .left), length-at-most (c .before .before .args .n) (omega arith))
 
-loop-less : tie.Need-loop-less Inv-loop μ-loop
-loop-less c = omega arith
-
 loop-again : tie.Need-loop-again Inv-loop μ-loop
 loop-again c = let l = c .before .loop .left in (omega (arith, length-more l (omega arith)), omega arith)
 
@@ -34,4 +31,4 @@ returns c =
     (omega arith, omega arith, omega arith)
 
 pub length-of-spec : {M : Type 1} → statement M
-length-of-spec = tie.close (tie.spec Inv-loop μ-loop loop-holds add-k loop-less loop-again returns)
+length-of-spec = tie.close (tie.spec Inv-loop μ-loop loop-holds add-k (λ c. omega arith) loop-again returns)

@@ -13,9 +13,6 @@ Inv-loop buffer₀ at n end k₀ left₀ buffer k left = Left buffer₀ at n buf
 abbrev μ-loop : tie.MeasureT-loop
 μ-loop buffer₀ at n end k₀ left₀ buffer k left = left
 
-length-of-requires : tie.Need-length-of-requires Inv-loop μ-loop
-length-of-requires c κs = search needs
-
 add-end : tie.Need-add-end Inv-loop μ-loop
 add-end c = omega (arith, c .before .before .pre)
 
@@ -25,20 +22,11 @@ loop-holds c = record { same = refl; room = omega arith; place = omega arith; te
 sub-k : tie.Need-sub-k Inv-loop μ-loop
 sub-k c = let l = c .before .loop in omega (arith, length-some (l .left))
 
-digit-requires : tie.Need-digit-requires Inv-loop μ-loop
-digit-requires c κs = omega arith
-
 slice-write-buffer : tie.Need-slice-write-buffer Inv-loop μ-loop
 slice-write-buffer c = let l = c .before .before .loop in omega (arith, length-some (l .left))
 
-loop-less : tie.Need-loop-less Inv-loop μ-loop
-loop-less c = omega arith
-
 loop-again : tie.Need-loop-again Inv-loop μ-loop
 loop-again c = let l = c .before .before .loop in left-more _ _ _ _ _ _ (l .inv) (omega arith) _ (c .digit .ensures)
-
-digit-requires-2 : tie.Need-digit-requires-2 Inv-loop μ-loop
-digit-requires-2 c κs = omega arith
 
 slice-write-buffer-2 : tie.Need-slice-write-buffer-2 Inv-loop μ-loop
 slice-write-buffer-2 c = let l = c .before .before .loop in omega (arith, length-some (l .left))
@@ -57,15 +45,15 @@ put-spec =
     (tie.spec
     Inv-loop
     μ-loop
-    length-of-requires
+    (λ c κs. search needs)
     add-end
     loop-holds
     sub-k
-    digit-requires
+    (λ c κs. omega arith)
     slice-write-buffer
-    loop-less
+    (λ c. omega arith)
     loop-again
-    digit-requires-2
+    (λ c κs. omega arith)
     slice-write-buffer-2
     same-length
     returns)

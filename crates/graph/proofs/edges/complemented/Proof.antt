@@ -7,12 +7,6 @@ use Rattle.graph.proofs.Adds.{C-le}
 use Rattle.graph.proofs.edges.complemented.Statement.{statement}
 use Rattle.graph.proofs.edges.complemented.Tie as tie
 
-nodes-add-requires : tie.Need-nodes-add-requires
-nodes-add-requires c κs = search needs
-
-outputs-add-requires : tie.Need-outputs-add-requires
-outputs-add-requires c κs = search needs
-
 add-result : tie.Need-add-result
 unfolding C
 add-result c =
@@ -30,4 +24,4 @@ returns c =
     (omega arith, omega (arith, C-le g))
 
 pub complemented-spec : {M : Type 1} → statement M
-complemented-spec = tie.close (tie.spec nodes-add-requires outputs-add-requires add-result returns)
+complemented-spec = tie.close (tie.spec (λ c κs. search needs) (λ c κs. search needs) add-result returns)

@@ -4,12 +4,9 @@ use Rattle.graph.specs.Count.{adds}
 use Rattle.graph.proofs.edges.literal_adds.Statement.{statement}
 use Rattle.graph.proofs.edges.literal_adds.Tie as tie
 
-edge-adds-requires : tie.Need-edge-adds-requires
-edge-adds-requires c κs = search needs
-
 returns : tie.Need-returns
 unfolding adds
 returns c = c .edge-adds .ensures
 
 pub literal-adds-spec : {M : Type 1} → statement M
-literal-adds-spec = tie.close (tie.spec edge-adds-requires returns)
+literal-adds-spec = tie.close (tie.spec (λ c κs. search needs) returns)

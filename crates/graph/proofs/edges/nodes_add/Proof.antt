@@ -18,27 +18,12 @@ Inv-loop nodes node-table words c₀ j₀ c j = (j ≤ words) × (words ≡ 3 * 
 abbrev μ-loop : tie.MeasureT-loop
 μ-loop nodes node-table words c₀ j₀ c j = words - j
 
-mul-words : tie.Need-mul-words Inv-loop μ-loop
-mul-words c = omega arith
-
 loop-holds : tie.Need-loop-holds Inv-loop μ-loop
 unfolding sum
 loop-holds c = (omega arith, refl, omega arith, (λ i o os. refl))
 
-word-at-requires : tie.Need-word-at-requires Inv-loop μ-loop
-word-at-requires c κs = omega arith
-
-word-adds-requires : tie.Need-word-adds-requires Inv-loop μ-loop
-word-adds-requires c κs = search needs
-
 add-c : tie.Need-add-c Inv-loop μ-loop
 add-c c = omega (arith, c .word-adds .ensures, wordAdds-le (c .before .before .before .loop .j) (c .before .word-at .result))
-
-add-j : tie.Need-add-j Inv-loop μ-loop
-add-j c = omega arith
-
-loop-less : tie.Need-loop-less Inv-loop μ-loop
-loop-less c = omega arith
 
 loop-again : tie.Need-loop-again Inv-loop μ-loop
 unfolding sum nodeAdds
@@ -61,12 +46,12 @@ nodes-add-spec =
     (tie.spec
     Inv-loop
     μ-loop
-    mul-words
+    (λ c. omega arith)
     loop-holds
-    word-at-requires
-    word-adds-requires
+    (λ c κs. omega arith)
+    (λ c κs. search needs)
     add-c
-    add-j
-    loop-less
+    (λ c. omega arith)
+    (λ c. omega arith)
     loop-again
     returns)

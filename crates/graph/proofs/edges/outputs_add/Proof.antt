@@ -22,23 +22,8 @@ loop-holds : tie.Need-loop-holds Inv-loop μ-loop
 unfolding sum
 loop-holds c = (omega arith, omega arith, (λ i n ns. refl))
 
-cast-word-at : tie.Need-cast-word-at Inv-loop μ-loop
-cast-word-at c = omega arith
-
-word-at-requires : tie.Need-word-at-requires Inv-loop μ-loop
-word-at-requires c κs = omega arith
-
-literal-adds-requires : tie.Need-literal-adds-requires Inv-loop μ-loop
-literal-adds-requires c κs = search needs
-
 add-c : tie.Need-add-c Inv-loop μ-loop
 add-c c = omega (arith, c .literal-adds .ensures, adds-le (c .before .word-at .result))
-
-add-j : tie.Need-add-j Inv-loop μ-loop
-add-j c = omega arith
-
-loop-less : tie.Need-loop-less Inv-loop μ-loop
-loop-less c = omega arith
 
 loop-again : tie.Need-loop-again Inv-loop μ-loop
 unfolding sum outputAdds
@@ -62,11 +47,11 @@ outputs-add-spec =
     Inv-loop
     μ-loop
     loop-holds
-    cast-word-at
-    word-at-requires
-    literal-adds-requires
+    (λ c. omega arith)
+    (λ c κs. omega arith)
+    (λ c κs. search needs)
     add-c
-    add-j
-    loop-less
+    (λ c. omega arith)
+    (λ c. omega arith)
     loop-again
     returns)

@@ -8,9 +8,6 @@ use Rattle.graph.proofs.Admit.{limits-are}
 use Rattle.graph.proofs.faults.admission_number.Statement.{statement}
 use Rattle.graph.proofs.faults.admission_number.Tie as tie
 
-limit-number-requires : tie.Need-limit-number-requires
-limit-number-requires c κs = search needs
-
 returns : tie.Need-returns
 unfolding admissionNumber
 returns c =
@@ -53,7 +50,7 @@ pub admission-number-spec : {M : Type 1} → statement M
 admission-number-spec =
     tie.close
     (tie.spec
-    limit-number-requires
+    (λ c κs. search needs)
     returns
     table-number-requires
     returns-2

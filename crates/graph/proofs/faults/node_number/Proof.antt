@@ -6,23 +6,14 @@ use Rattle.graph.proofs.Tests.{equal, unequal, fault, none}
 use Rattle.graph.proofs.faults.node_number.Statement.{statement}
 use Rattle.graph.proofs.faults.node_number.Tie as tie
 
-below-number-requires : tie.Need-below-number-requires
-below-number-requires c κs = search needs
-
 returns : tie.Need-returns
 returns c = fault _ _ (omega arith) (λ e. omega arith)
-
-below-number-requires-2 : tie.Need-below-number-requires-2
-below-number-requires-2 c κs = search needs
 
 returns-2 : tie.Need-returns-2
 returns-2 c = none _ _ (omega arith) (fault _ _ (omega arith) (λ e. omega arith))
 
 returns-3 : tie.Need-returns-3
 returns-3 c = none _ _ (omega arith) (none _ _ (omega arith) (equal _ _ _ _ (omega arith) refl))
-
-below-number-requires-3 : tie.Need-below-number-requires-3
-below-number-requires-3 c κs = search needs
 
 returns-4 : tie.Need-returns-4
 returns-4 c = none _ _ (omega arith) (none _ _ (omega arith) (unequal _ _ _ _ (λ e. omega arith) (omega arith)))
@@ -31,10 +22,10 @@ pub node-number-spec : {M : Type 1} → statement M
 node-number-spec =
     tie.close
     (tie.spec
-    below-number-requires
+    (λ c κs. search needs)
     returns
-    below-number-requires-2
+    (λ c κs. search needs)
     returns-2
     returns-3
-    below-number-requires-3
+    (λ c κs. search needs)
     returns-4)

@@ -21,36 +21,6 @@ loop-holds : tie.Need-loop-holds Inv-loop μ-loop
 unfolding firstOf
 loop-holds c = (omega arith, (λ o os. refl))
 
-cast-at : tie.Need-cast-at Inv-loop μ-loop
-cast-at c = omega arith
-
-mul-at : tie.Need-mul-at Inv-loop μ-loop
-mul-at c = omega arith
-
-add-node-number : tie.Need-add-node-number Inv-loop μ-loop
-add-node-number c = omega arith
-
-add-node-number-2 : tie.Need-add-node-number-2 Inv-loop μ-loop
-add-node-number-2 c = omega arith
-
-word-at-requires : tie.Need-word-at-requires Inv-loop μ-loop
-word-at-requires c κs = omega arith
-
-add-word-at : tie.Need-add-word-at Inv-loop μ-loop
-add-word-at c = omega arith
-
-word-at-requires-2 : tie.Need-word-at-requires-2 Inv-loop μ-loop
-word-at-requires-2 c κs = omega arith
-
-add-word-at-2 : tie.Need-add-word-at-2 Inv-loop μ-loop
-add-word-at-2 c = omega arith
-
-word-at-requires-3 : tie.Need-word-at-requires-3 Inv-loop μ-loop
-word-at-requires-3 c κs = omega arith
-
-node-number-requires : tie.Need-node-number-requires Inv-loop μ-loop
-node-number-requires c κs = search needs
-
 returns : tie.Need-returns Inv-loop μ-loop
 returns c o os =
     let z = c .before .before in
@@ -61,12 +31,6 @@ returns c o os =
     let g : Graph = graphOf (a .inputs) (a .nodes) o (a .node-table .now) os in
     let e = node-next g (l .loop .v) _ _ _ _ (l .loop .inv .1 o os) (x .word-at .ensures) (y .word-at2 .ensures) (z .word-at3 .ensures) (c .before .node-number .ensures) in
     e ∙ sym (stays (3 * (l .loop .v + 1)) (3 * a .nodes) (wordNumber g) (λ z. c .if1 .taken (e ∙ z)) (omega arith))
-
-add-v : tie.Need-add-v Inv-loop μ-loop
-add-v c = omega arith
-
-loop-less : tie.Need-loop-less Inv-loop μ-loop
-loop-less c = omega arith
 
 loop-again : tie.Need-loop-again Inv-loop μ-loop
 loop-again c =
@@ -92,18 +56,18 @@ nodes-number-spec =
     Inv-loop
     μ-loop
     loop-holds
-    cast-at
-    mul-at
-    add-node-number
-    add-node-number-2
-    word-at-requires
-    add-word-at
-    word-at-requires-2
-    add-word-at-2
-    word-at-requires-3
-    node-number-requires
+    (λ c. omega arith)
+    (λ c. omega arith)
+    (λ c. omega arith)
+    (λ c. omega arith)
+    (λ c κs. omega arith)
+    (λ c. omega arith)
+    (λ c κs. omega arith)
+    (λ c. omega arith)
+    (λ c κs. omega arith)
+    (λ c κs. search needs)
     returns
-    add-v
-    loop-less
+    (λ c. omega arith)
+    (λ c. omega arith)
     loop-again
     returns-2)

@@ -17,21 +17,9 @@ Inv-loop inputs nodes outputs output-table end j₀ j = (j ≤ outputs) × (end 
 abbrev μ-loop : tie.MeasureT-loop
 μ-loop inputs nodes outputs output-table end j₀ j = outputs - j
 
-add-end : tie.Need-add-end Inv-loop μ-loop
-add-end c = omega arith
-
-add-end-2 : tie.Need-add-end-2 Inv-loop μ-loop
-add-end-2 c = omega arith
-
 loop-holds : tie.Need-loop-holds Inv-loop μ-loop
 unfolding firstOf
 loop-holds c = (omega arith, refl, (λ ns. refl))
-
-word-at-requires : tie.Need-word-at-requires Inv-loop μ-loop
-word-at-requires c κs = omega arith
-
-below-number-requires : tie.Need-below-number-requires Inv-loop μ-loop
-below-number-requires c κs = search needs
 
 returns : tie.Need-returns Inv-loop μ-loop
 returns c ns =
@@ -41,12 +29,6 @@ returns c ns =
     let g : Graph = graphOf (a .inputs) (a .nodes) (a .outputs) ns (a .output-table .now) in
     let e = out-next g (l .loop .j) _ _ (l .loop .inv .2 ns) (w .word-at .ensures) (rw (l .loop .inv .1) at (c .before .below-number .ensures)) in
     e ∙ sym (stays (l .loop .j + 1) (a .outputs) (outputNumber g) (λ z. c .if1 .taken (e ∙ z)) (omega arith))
-
-add-j : tie.Need-add-j Inv-loop μ-loop
-add-j c = omega arith
-
-loop-less : tie.Need-loop-less Inv-loop μ-loop
-loop-less c = omega arith
 
 loop-again : tie.Need-loop-again Inv-loop μ-loop
 loop-again c =
@@ -69,13 +51,13 @@ outputs-number-spec =
     (tie.spec
     Inv-loop
     μ-loop
-    add-end
-    add-end-2
+    (λ c. omega arith)
+    (λ c. omega arith)
     loop-holds
-    word-at-requires
-    below-number-requires
+    (λ c κs. omega arith)
+    (λ c κs. search needs)
     returns
-    add-j
-    loop-less
+    (λ c. omega arith)
+    (λ c. omega arith)
     loop-again
     returns-2)

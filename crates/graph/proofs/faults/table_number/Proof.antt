@@ -7,9 +7,6 @@ use Rattle.graph.proofs.Tests.{less, no-less}
 use Rattle.graph.proofs.faults.table_number.Statement.{statement}
 use Rattle.graph.proofs.faults.table_number.Tie as tie
 
-mul-if1 : tie.Need-mul-if1
-mul-if1 c = search needs
-
 returns : tie.Need-returns
 unfolding tableNumber
 returns c = less _ _ _ _ (omega arith) refl
@@ -23,4 +20,4 @@ unfolding tableNumber
 returns-3 c = no-less _ _ _ _ (omega arith) (no-less _ _ _ _ (omega arith) refl)
 
 pub table-number-spec : {M : Type 1} → statement M
-table-number-spec = tie.close (tie.spec mul-if1 returns returns-2 returns-3)
+table-number-spec = tie.close (tie.spec (λ c. search needs) returns returns-2 returns-3)

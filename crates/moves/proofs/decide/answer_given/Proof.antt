@@ -7,17 +7,8 @@ use borrow.Author.Needs.{needs}
 use Rattle.moves.proofs.decide.answer_given.Statement.{statement}
 use Rattle.moves.proofs.decide.answer_given.Tie as tie
 
-given-costs-requires : tie.Need-given-costs-requires
-given-costs-requires c κs = search needs
-
 least-move-requires : tie.Need-least-move-requires
 least-move-requires c κs = let n = c .before .before .pre .0 in (given-counted _ _ _ _ _ _ (c .given-costs .ensures) (n .numbers), n .has)
-
-array-read-t10 : tie.Need-array-read-t10
-array-read-t10 c = search needs
-
-array-read-t13 : tie.Need-array-read-t13
-array-read-t13 c = search needs
 
 -- the whole sum is far below the type's end
 low-sum : (c : tie.After-least-move) → let z = c .before .given-costs .result in c .least-move .result .cost + (getD z 1 0 + getD z 3 0 + getD z 5 0) < 1000000
@@ -27,9 +18,6 @@ low-sum c =
 
 add-t14 : tie.Need-add-t14
 add-t14 c = omega (arith, low-sum c)
-
-array-read-t17 : tie.Need-array-read-t17
-array-read-t17 c = search needs
 
 add-t18 : tie.Need-add-t18
 add-t18 c = omega (arith, low-sum c)
@@ -48,12 +36,12 @@ pub answer-given-spec : {M : Type 1} → statement M
 answer-given-spec =
     tie.close
     (tie.spec
-    given-costs-requires
+    (λ c κs. search needs)
     least-move-requires
-    array-read-t10
-    array-read-t13
+    (λ c. search needs)
+    (λ c. search needs)
     add-t14
-    array-read-t17
+    (λ c. search needs)
     add-t18
     add-t19
     returns)

@@ -7,48 +7,6 @@ use borrow.Author.Needs.{needs}
 use Rattle.moves.proofs.decide.cost_by.Statement.{statement}
 use Rattle.moves.proofs.decide.cost_by.Tie as tie
 
-flag-of-requires : tie.Need-flag-of-requires
-flag-of-requires c κs = search needs
-
-cast-a : tie.Need-cast-a
-cast-a c = search needs
-
-flag-of-requires-2 : tie.Need-flag-of-requires-2
-flag-of-requires-2 c κs = search needs
-
-cast-b : tie.Need-cast-b
-cast-b c = search needs
-
-add-b : tie.Need-add-b
-add-b c = search needs
-
-flag-of-requires-3 : tie.Need-flag-of-requires-3
-flag-of-requires-3 c κs = search needs
-
-cast-c : tie.Need-cast-c
-cast-c c = search needs
-
-add-c : tie.Need-add-c
-add-c c = search needs
-
-flag-of-requires-4 : tie.Need-flag-of-requires-4
-flag-of-requires-4 c κs = search needs
-
-either-requires : tie.Need-either-requires
-either-requires c κs = search needs
-
-mul-result : tie.Need-mul-result
-mul-result c = search needs
-
-array-read-result : tie.Need-array-read-result
-array-read-result c = search needs
-
-mul-result-2 : tie.Need-mul-result-2
-mul-result-2 c = search needs
-
-array-read-result-2 : tie.Need-array-read-result-2
-array-read-result-2 c = search needs
-
 -- the whole sum is far below the type's end
 low-sum : (c : tie.After-either)
     → let z = c .before .before .before .before .before .args .t2 in
@@ -71,12 +29,6 @@ low-sum c =
 add-result : tie.Need-add-result
 add-result c = omega (arith, low-sum c)
 
-mul-result-3 : tie.Need-mul-result-3
-mul-result-3 c = search needs
-
-array-read-result-3 : tie.Need-array-read-result-3
-array-read-result-3 c = search needs
-
 add-result-2 : tie.Need-add-result-2
 add-result-2 c = omega (arith, low-sum c)
 
@@ -95,23 +47,23 @@ pub cost-by-spec : {M : Type 1} → statement M
 cost-by-spec =
     tie.close
     (tie.spec
-    flag-of-requires
-    cast-a
-    flag-of-requires-2
-    cast-b
-    add-b
-    flag-of-requires-3
-    cast-c
-    add-c
-    flag-of-requires-4
-    either-requires
-    mul-result
-    array-read-result
-    mul-result-2
-    array-read-result-2
+    (λ c κs. search needs)
+    (λ c. search needs)
+    (λ c κs. search needs)
+    (λ c. search needs)
+    (λ c. search needs)
+    (λ c κs. search needs)
+    (λ c. search needs)
+    (λ c. search needs)
+    (λ c κs. search needs)
+    (λ c κs. search needs)
+    (λ c. search needs)
+    (λ c. search needs)
+    (λ c. search needs)
+    (λ c. search needs)
     add-result
-    mul-result-3
-    array-read-result-3
+    (λ c. search needs)
+    (λ c. search needs)
     add-result-2
     add-result-3
     returns)

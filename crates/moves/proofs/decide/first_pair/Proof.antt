@@ -6,21 +6,6 @@ use borrow.Author.Needs.{needs}
 use Rattle.moves.proofs.decide.first_pair.Statement.{statement}
 use Rattle.moves.proofs.decide.first_pair.Tie as tie
 
-answer-given-requires : tie.Need-answer-given-requires
-answer-given-requires c κs = search needs
-
-answer-given-requires-2 : tie.Need-answer-given-requires-2
-answer-given-requires-2 c κs = search needs
-
-sub-others : tie.Need-sub-others
-sub-others c = search needs
-
-add-least-of : tie.Need-add-least-of
-add-least-of c = search needs
-
-add-least-of-2 : tie.Need-add-least-of-2
-add-least-of-2 c = search needs
-
 least-of-requires : tie.Need-least-of-requires
 least-of-requires c κs =
     let two = c .before .before .before .before .before in
@@ -30,9 +15,6 @@ least-of-requires c κs =
 
 flag-of-requires : tie.Need-flag-of-requires
 flag-of-requires c κs = let l = c .before in (moves-row _ _ _ (l .before .before .before .before .before .before .before .pre .0 .has) (c .least-of .ensures .found .below), omega arith)
-
-either-requires : tie.Need-either-requires
-either-requires c κs = search needs
 
 returns : tie.Need-returns
 returns c =
@@ -47,12 +29,12 @@ pub first-pair-spec : {M : Type 1} → statement M
 first-pair-spec =
     tie.close
     (tie.spec
-    answer-given-requires
-    answer-given-requires-2
-    sub-others
-    add-least-of
-    add-least-of-2
+    (λ c κs. search needs)
+    (λ c κs. search needs)
+    (λ c. search needs)
+    (λ c. search needs)
+    (λ c. search needs)
     least-of-requires
     flag-of-requires
-    either-requires
+    (λ c κs. search needs)
     returns)

@@ -5,9 +5,6 @@ use borrow.Author.Needs.{needs}
 use Rattle.moves.proofs.decide.if_less.Statement.{statement}
 use Rattle.moves.proofs.decide.if_less.Tie as tie
 
-cost-by-requires : tie.Need-cost-by-requires
-cost-by-requires c κs = search needs
-
 returns : tie.Need-returns
 returns c =
     let k = c .before .before in
@@ -23,4 +20,4 @@ returns-2 c =
     record { found = scan-keep _ (s .pre .2 .found) (omega (arith, e, s .pre .2 .cost, c .if1 .left)); cost = s .pre .2 .cost }
 
 pub if-less-spec : {M : Type 1} → statement M
-if-less-spec = tie.close (tie.spec cost-by-requires returns returns-2)
+if-less-spec = tie.close (tie.spec (λ c κs. search needs) returns returns-2)

@@ -5,9 +5,6 @@ use borrow.Author.Needs.{needs}
 use Rattle.moves.proofs.decide.least_move.Statement.{statement}
 use Rattle.moves.proofs.decide.least_move.Tie as tie
 
-sub-least-of : tie.Need-sub-least-of
-sub-least-of c = search needs
-
 least-of-requires : tie.Need-least-of-requires
 least-of-requires c κs = (numbers-weigh _ _ _ (c .pre .0), c .pre .1)
 
@@ -16,4 +13,4 @@ unfolding costWith
 returns c = c .least-of .ensures
 
 pub least-move-spec : {M : Type 1} → statement M
-least-move-spec = tie.close (tie.spec sub-least-of least-of-requires returns)
+least-move-spec = tie.close (tie.spec (λ c. search needs) least-of-requires returns)

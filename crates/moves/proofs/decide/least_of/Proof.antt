@@ -4,15 +4,9 @@ use borrow.Author.Needs.{needs}
 use Rattle.moves.proofs.decide.least_of.Statement.{statement}
 use Rattle.moves.proofs.decide.least_of.Tie as tie
 
-least-of-xor-requires : tie.Need-least-of-xor-requires
-least-of-xor-requires c κs = search needs
-
 returns : tie.Need-returns
 unfolding arity
 returns c = rw (c .before .before .pre .1, c .before .if1 .taken) (c .least-of-xor .ensures)
-
-least-of-majority-requires : tie.Need-least-of-majority-requires
-least-of-majority-requires c κs = search needs
 
 returns-2 : tie.Need-returns-2
 unfolding arity
@@ -20,4 +14,4 @@ returns-2 c = rw (c .before .before .pre .1, c .before .if1 .left) (c .least-of-
 
 pub least-of-spec : {M : Type 1} → statement M
 least-of-spec =
-    tie.close (tie.spec least-of-xor-requires returns least-of-majority-requires returns-2)
+    tie.close (tie.spec (λ c κs. search needs) returns (λ c κs. search needs) returns-2)

@@ -5,15 +5,9 @@ use borrow.Author.Needs.{needs}
 use Rattle.moves.proofs.decide.least_of_majority.Statement.{statement}
 use Rattle.moves.proofs.decide.least_of_majority.Tie as tie
 
-no-move-requires : tie.Need-no-move-requires
-no-move-requires c κs = search needs
-
 if-less-requires : tie.Need-if-less-requires
 unfolding arity
 if-less-requires c κs = (c .before .pre, omega arith, c .no-move .ensures)
 
-returns : tie.Need-returns
-returns c = search needs
-
 pub least-of-majority-spec : {M : Type 1} → statement M
-least-of-majority-spec = tie.close (tie.spec no-move-requires if-less-requires returns)
+least-of-majority-spec = tie.close (tie.spec (λ c κs. search needs) if-less-requires (λ c. search needs))

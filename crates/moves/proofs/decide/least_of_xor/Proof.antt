@@ -5,9 +5,6 @@ use borrow.Author.Needs.{needs}
 use Rattle.moves.proofs.decide.least_of_xor.Statement.{statement}
 use Rattle.moves.proofs.decide.least_of_xor.Tie as tie
 
-no-move-requires : tie.Need-no-move-requires
-no-move-requires c κs = search needs
-
 if-less-requires : tie.Need-if-less-requires
 unfolding arity
 if-less-requires c κs = (c .before .pre, omega arith, c .no-move .ensures)
@@ -20,10 +17,7 @@ if-less-requires-3 : tie.Need-if-less-requires-3
 unfolding arity
 if-less-requires-3 c κs = (c .before .before .before .pre, omega arith, c .if-less2 .ensures)
 
-returns : tie.Need-returns
-returns c = search needs
-
 pub least-of-xor-spec : {M : Type 1} → statement M
 least-of-xor-spec =
     tie.close
-    (tie.spec no-move-requires if-less-requires if-less-requires-2 if-less-requires-3 returns)
+    (tie.spec (λ c κs. search needs) if-less-requires if-less-requires-2 if-less-requires-3 (λ c. search needs))

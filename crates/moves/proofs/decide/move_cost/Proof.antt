@@ -6,9 +6,6 @@ use borrow.Author.Needs.{needs}
 use Rattle.moves.proofs.decide.move_cost.Statement.{statement}
 use Rattle.moves.proofs.decide.move_cost.Tie as tie
 
-sub-cost-by : tie.Need-sub-cost-by
-sub-cost-by c = search needs
-
 cost-by-requires : tie.Need-cost-by-requires
 cost-by-requires c κs = (numbers-weigh _ _ _ (c .pre .0), c .pre .1)
 
@@ -17,4 +14,4 @@ unfolding costWith
 returns c = (c .cost-by .ensures .0, omega (arith, c .cost-by .ensures .1, c .before .pre .0 .some))
 
 pub move-cost-spec : {M : Type 1} → statement M
-move-cost-spec = tie.close (tie.spec sub-cost-by cost-by-requires returns)
+move-cost-spec = tie.close (tie.spec (λ c. search needs) cost-by-requires returns)

@@ -16,9 +16,6 @@ move-cost-requires c κs = let n = c .before .pre .0 in (n .numbers, moves-row _
 flag-of-requires : tie.Need-flag-of-requires
 flag-of-requires c κs = let s = c .before .before in (moves-row _ _ _ (s .pre .0 .has) (s .pre .3), omega arith)
 
-given-costs-requires : tie.Need-given-costs-requires
-given-costs-requires c κs = search needs
-
 move-cost-requires-2 : tie.Need-move-cost-requires-2
 move-cost-requires-2 c κs =
     let a = c .before .before .before .before .before in
@@ -35,17 +32,8 @@ low-sum c =
 add-result : tie.Need-add-result
 add-result c = omega (arith, low-sum c)
 
-array-read-result : tie.Need-array-read-result
-array-read-result c = search needs
-
-array-read-result-2 : tie.Need-array-read-result-2
-array-read-result-2 c = search needs
-
 add-result-2 : tie.Need-add-result-2
 add-result-2 c = omega (arith, low-sum c)
-
-array-read-result-3 : tie.Need-array-read-result-3
-array-read-result-3 c = search needs
 
 add-result-3 : tie.Need-add-result-3
 add-result-3 c = omega (arith, low-sum c)
@@ -65,13 +53,13 @@ pair-cost-spec =
     (tie.spec
     move-cost-requires
     flag-of-requires
-    given-costs-requires
+    (λ c κs. search needs)
     move-cost-requires-2
     add-result
-    array-read-result
-    array-read-result-2
+    (λ c. search needs)
+    (λ c. search needs)
     add-result-2
-    array-read-result-3
+    (λ c. search needs)
     add-result-3
     add-result-4
     returns)

@@ -11,12 +11,6 @@ returns : tie.Need-returns
 unfolding nodeFault isNode
 returns c = λ o ns os. rw (le-ltb (c .before .args .inputs) (c .before .args .node) (c .if1 .taken))
 
-add-if2 : tie.Need-add-if2
-add-if2 c = search needs
-
-add-if2-2 : tie.Need-add-if2-2
-add-if2-2 c = search needs
-
 returns-2 : tie.Need-returns-2
 unfolding nodeFault isNode
 returns-2 c =
@@ -32,4 +26,4 @@ returns-3 c =
     rw (le-ltb (a .node) (a .inputs + 1 + a .nodes) (c .if2 .left), and-false)
 
 pub node-fault-spec : {M : Type 1} → statement M
-node-fault-spec = tie.close (tie.spec returns add-if2 add-if2-2 returns-2 returns-3)
+node-fault-spec = tie.close (tie.spec returns (λ c. search needs) (λ c. search needs) returns-2 returns-3)

@@ -17,20 +17,11 @@ abbrev μ-loop : tie.MeasureT-loop
 loop-holds : tie.Need-loop-holds Inv-loop μ-loop
 loop-holds c = let a = c .before .args in (omega arith, tally-zero (a .table .now) (a .u))
 
-word-at-requires : tie.Need-word-at-requires Inv-loop μ-loop
-word-at-requires c κs = search needs
-
-names-requires : tie.Need-names-requires Inv-loop μ-loop
-names-requires c κs = search needs
-
 add-count : tie.Need-add-count Inv-loop μ-loop
 add-count c =
     let l = c .before .before .before in
     let a = l .before .before .args in
     omega (arith, c .names .ensures, tally-le (a .table .now) (a .u) (l .loop .j) (l .loop .count) (l .loop .odd) (l .loop .inv .1), if-bit (c .before .word-at .result / 2) (a .u) 1 (omega arith))
-
-names-odd-requires : tie.Need-names-odd-requires Inv-loop μ-loop
-names-odd-requires c κs = search needs
 
 add-odd : tie.Need-add-odd Inv-loop μ-loop
 add-odd c =
@@ -38,12 +29,6 @@ add-odd c =
     let a = l .before .before .args in
     let x = c .before .before .word-at .result in
     omega (arith, c .names-odd .ensures, tally-le (a .table .now) (a .u) (l .loop .j) (l .loop .count) (l .loop .odd) (l .loop .inv .1), if-bit (x / 2) (a .u) (x % 2) (omega arith))
-
-add-j : tie.Need-add-j Inv-loop μ-loop
-add-j c = omega arith
-
-loop-less : tie.Need-loop-less Inv-loop μ-loop
-loop-less c = omega arith
 
 loop-again : tie.Need-loop-again Inv-loop μ-loop
 loop-again c =
@@ -65,12 +50,12 @@ count-names-spec =
     Inv-loop
     μ-loop
     loop-holds
-    word-at-requires
-    names-requires
+    (λ c κs. search needs)
+    (λ c κs. search needs)
     add-count
-    names-odd-requires
+    (λ c κs. search needs)
     add-odd
-    add-j
-    loop-less
+    (λ c. omega arith)
+    (λ c. omega arith)
     loop-again
     returns)

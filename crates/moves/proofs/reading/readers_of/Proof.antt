@@ -7,15 +7,6 @@ use borrow.Author.Needs.{needs}
 use Rattle.moves.proofs.reading.readers_of.Statement.{statement}
 use Rattle.moves.proofs.reading.readers_of.Tie as tie
 
-mul-count-names : tie.Need-mul-count-names
-mul-count-names c = search needs
-
-count-names-requires : tie.Need-count-names-requires
-count-names-requires c κs = search needs
-
-count-names-requires-2 : tie.Need-count-names-requires-2
-count-names-requires-2 c κs = search needs
-
 add-t11 : tie.Need-add-t11
 add-t11 c =
     let s = c .before .before in
@@ -42,4 +33,4 @@ returns c =
 pub readers-of-spec : {M : Type 1} → statement M
 readers-of-spec =
     tie.close
-    (tie.spec mul-count-names count-names-requires count-names-requires-2 add-t11 add-t12 returns)
+    (tie.spec (λ c. search needs) (λ c κs. search needs) (λ c κs. search needs) add-t11 add-t12 returns)

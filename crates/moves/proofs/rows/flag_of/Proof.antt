@@ -11,9 +11,6 @@ use borrow.Author.Needs.{needs}
 use Rattle.moves.proofs.rows.flag_of.Statement.{statement}
 use Rattle.moves.proofs.rows.flag_of.Tie as tie
 
-first-row-requires : tie.Need-first-row-requires
-first-row-requires c κs = search needs
-
 add-row-flag : tie.Need-add-row-flag
 add-row-flag c = let a = c .before in omega (arith, row-low (a .args .xor) (a .args .m) (a .pre .0))
 
@@ -27,4 +24,4 @@ returns c =
     (e, omega (arith, e, flag-bit (a .args .xor) (a .args .m) (a .args .k) (a .pre .1)))
 
 pub flag-of-spec : {M : Type 1} → statement M
-flag-of-spec = tie.close (tie.spec first-row-requires add-row-flag row-flag-requires returns)
+flag-of-spec = tie.close (tie.spec (λ c κs. search needs) add-row-flag row-flag-requires returns)

@@ -7,9 +7,6 @@ use borrow.Author.Needs.{needs}
 use Rattle.moves.proofs.rows.moves_at.Statement.{statement}
 use Rattle.moves.proofs.rows.moves_at.Tie as tie
 
-is-xor-requires : tie.Need-is-xor-requires
-is-xor-requires c κs = search needs
-
 returns : tie.Need-returns
 unfolding arity
 returns c = λ i n o os. let a = c .before .before .before .args in moves-kind (graphOf i n o (a .node-table .now) os) (a .v) _ true (c .before .is-xor .ensures i n o os) (c .if1 .taken)
@@ -19,4 +16,4 @@ unfolding arity
 returns-2 c = λ i n o os. let a = c .before .before .before .args in moves-kind (graphOf i n o (a .node-table .now) os) (a .v) _ false (c .before .is-xor .ensures i n o os) (c .if1 .left)
 
 pub moves-at-spec : {M : Type 1} → statement M
-moves-at-spec = tie.close (tie.spec is-xor-requires returns returns-2)
+moves-at-spec = tie.close (tie.spec (λ c κs. search needs) returns returns-2)

@@ -6,27 +6,6 @@ use borrow.Author.Needs.{needs}
 use Rattle.moves.proofs.words.own_costs.Statement.{statement}
 use Rattle.moves.proofs.words.own_costs.Tie as tie
 
-mul-at : tie.Need-mul-at
-mul-at c = search needs
-
-word-at-requires : tie.Need-word-at-requires
-word-at-requires c κs = search needs
-
-add-word-at : tie.Need-add-word-at
-add-word-at c = search needs
-
-word-at-requires-2 : tie.Need-word-at-requires-2
-word-at-requires-2 c κs = search needs
-
-add-word-at-2 : tie.Need-add-word-at-2
-add-word-at-2 c = search needs
-
-word-at-requires-3 : tie.Need-word-at-requires-3
-word-at-requires-3 c κs = search needs
-
-costs-of-requires : tie.Need-costs-of-requires
-costs-of-requires c κs = search needs
-
 returns : tie.Need-returns
 returns c =
     λ i n o os.
@@ -38,11 +17,11 @@ pub own-costs-spec : {M : Type 1} → statement M
 own-costs-spec =
     tie.close
     (tie.spec
-    mul-at
-    word-at-requires
-    add-word-at
-    word-at-requires-2
-    add-word-at-2
-    word-at-requires-3
-    costs-of-requires
+    (λ c. search needs)
+    (λ c κs. search needs)
+    (λ c. search needs)
+    (λ c κs. search needs)
+    (λ c. search needs)
+    (λ c κs. search needs)
+    (λ c κs. search needs)
     returns)

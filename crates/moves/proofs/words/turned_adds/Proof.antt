@@ -5,14 +5,8 @@ use borrow.Author.Needs.{needs}
 use Rattle.moves.proofs.words.turned_adds.Statement.{statement}
 use Rattle.moves.proofs.words.turned_adds.Tie as tie
 
-turned-requires : tie.Need-turned-requires
-turned-requires c κs = search needs
-
-literal-adds-requires : tie.Need-literal-adds-requires
-literal-adds-requires c κs = search needs
-
 returns : tie.Need-returns
 returns c = c .literal-adds .ensures ∙ ap adds (c .before .turned .ensures)
 
 pub turned-adds-spec : {M : Type 1} → statement M
-turned-adds-spec = tie.close (tie.spec turned-requires literal-adds-requires returns)
+turned-adds-spec = tie.close (tie.spec (λ c κs. search needs) (λ c κs. search needs) returns)

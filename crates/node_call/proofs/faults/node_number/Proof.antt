@@ -8,9 +8,6 @@ use Rattle.moves.specs.Call.{nodeNumber}
 use Rattle.node_call.proofs.faults.node_number.Statement.{statement}
 use Rattle.node_call.proofs.faults.node_number.Tie as tie
 
-admission-number-requires : tie.Need-admission-number-requires
-admission-number-requires c κs = search needs
-
 returns : tie.Need-returns
 unfolding nodeNumber
 returns c = fault _ _ (c .before .admission-number .ensures) (λ z. c .if1 .taken (c .before .admission-number .ensures ∙ z))
@@ -29,4 +26,4 @@ returns-2 c =
 
 pub node-number-spec : {M : Type 1} → statement M
 node-number-spec =
-    tie.close (tie.spec admission-number-requires returns node-fault-requires returns-2)
+    tie.close (tie.spec (λ c κs. search needs) returns node-fault-requires returns-2)

@@ -9,9 +9,6 @@ use Rattle.node_call.proofs.Refusing.{node-accepted, pair-is}
 use Rattle.node_call.proofs.faults.pair_number.Statement.{statement}
 use Rattle.node_call.proofs.faults.pair_number.Tie as tie
 
-node-number-requires : tie.Need-node-number-requires
-node-number-requires c κs = search needs
-
 returns : tie.Need-returns
 returns c =
     let a = c .before .before .before .before .args in
@@ -30,17 +27,11 @@ sub-v c =
     let d = node-accepted (graphOf (a .inputs) (a .nodes) (a .outputs) (a .node-table .now) (a .output-table .now)) (a .node) (sym (c .before .node-number .ensures) ∙ c .if1 .left) in
     omega (arith, d .after)
 
-cast-is-xor : tie.Need-cast-is-xor
-cast-is-xor c = search needs
-
 is-xor-requires : tie.Need-is-xor-requires
 is-xor-requires c κs =
     let a = c .before .before .before .before .args in
     let d = node-accepted (graphOf (a .inputs) (a .nodes) (a .outputs) (a .node-table .now) (a .output-table .now)) (a .node) (sym (c .before .node-number .ensures) ∙ c .if1 .left) in
     omega (arith, d .after, d .before, d .admitted .few-nodes, d .admitted .long-nodes)
-
-word-fault-requires : tie.Need-word-fault-requires
-word-fault-requires c κs = search needs
 
 returns-2 : tie.Need-returns-2
 unfolding wordFault
@@ -53,11 +44,11 @@ pub pair-number-spec : {M : Type 1} → statement M
 pair-number-spec =
     tie.close
     (tie.spec
-    node-number-requires
+    (λ c κs. search needs)
     returns
     add-v
     sub-v
-    cast-is-xor
+    (λ c. search needs)
     is-xor-requires
-    word-fault-requires
+    (λ c κs. search needs)
     returns-2)

@@ -18,9 +18,6 @@ named-by-requires c κs =
     let d = w .at-node in
     omega (arith, d .after, d .before, w .from-one, within-three g (a .node) (a .word) w, d .admitted .few-inputs, d .admitted .few-nodes, d .admitted .long-nodes)
 
-same-length : tie.Need-same-length
-same-length c = search needs
-
 returns : tie.Need-returns
 returns c =
     let s = c .before .before .before .before .before in
@@ -36,9 +33,6 @@ add-p c =
     let w = pair-accepted g (a .node) (a .word) (s .pre) in
     let d = w .at-node in
     omega (arith, d .admitted .few-inputs)
-
-sub-p : tie.Need-sub-p
-sub-p c = search needs
 
 add-v : tie.Need-add-v
 add-v c =
@@ -69,12 +63,6 @@ rewrite-pair-requires c κs =
     let b : namedBy g (a .node) (a .word) < a .node = named-below g (a .node) (a .word) w in
     (d .admitted, omega (arith, e, b, c .before .before .if1 .left), omega (arith, d .after, d .before))
 
-same-length-2 : tie.Need-same-length-2
-same-length-2 c = search needs
-
-same-length-3 : tie.Need-same-length-3
-same-length-3 c = search needs
-
 returns-2 : tie.Need-returns-2
 returns-2 c =
     let s = c .before .before .before .before .before .before .before .before .before .before .before .before in
@@ -89,13 +77,13 @@ rewrite-named-spec =
     tie.close
     (tie.spec
     named-by-requires
-    same-length
+    (λ c. search needs)
     returns
     add-p
-    sub-p
+    (λ c. search needs)
     add-v
     sub-v
     rewrite-pair-requires
-    same-length-2
-    same-length-3
+    (λ c. search needs)
+    (λ c. search needs)
     returns-2)

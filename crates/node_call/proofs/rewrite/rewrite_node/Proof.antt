@@ -7,9 +7,6 @@ use Rattle.node_call.proofs.Outcomes.{counted, move-fits, no-more, node
 use Rattle.node_call.proofs.rewrite.rewrite_node.Statement.{statement}
 use Rattle.node_call.proofs.rewrite.rewrite_node.Tie as tie
 
-numbers-of-requires : tie.Need-numbers-of-requires
-numbers-of-requires c κs = search needs
-
 first-least-requires : tie.Need-first-least-requires
 first-least-requires c κs =
     let s = c .before .before .before .before .before .before in
@@ -53,12 +50,6 @@ sub-result c =
     let n = c .before .before .before .before .before .before .before .before .before .before .before .numbers-of in
     omega (arith, c .before .before .before .before .before .before .before .before .move-cost .ensures .0, c .before .before .before .before .before .before .before .move-cost2 .ensures .0, no-more g (s .pre .0) (a .v) (s .pre .1) (n .result) (n .ensures) _ (c .before .before .before .before .before .before .before .before .before .first-least .ensures))
 
-same-length : tie.Need-same-length
-same-length c = search needs
-
-same-length-2 : tie.Need-same-length-2
-same-length-2 c = search needs
-
 returns : tie.Need-returns
 returns c =
     let s = c .before .before .before .before .before .before .before .before .before .before .before .before .before .before .before .before in
@@ -71,12 +62,12 @@ pub rewrite-node-spec : {M : Type 1} → statement M
 rewrite-node-spec =
     tie.close
     (tie.spec
-    numbers-of-requires
+    (λ c κs. search needs)
     first-least-requires
     move-cost-requires
     move-cost-requires-2
     make-moves-requires
     sub-result
-    same-length
-    same-length-2
+    (λ c. search needs)
+    (λ c. search needs)
     returns)

@@ -8,21 +8,6 @@ use Rattle.node_call.proofs.Outcomes.{counted, naming-bits, both-fit, b
 use Rattle.node_call.proofs.rewrite.rewrite_pair.Statement.{statement}
 use Rattle.node_call.proofs.rewrite.rewrite_pair.Tie as tie
 
-numbers-of-requires : tie.Need-numbers-of-requires
-numbers-of-requires c κs = search needs
-
-numbers-of-requires-2 : tie.Need-numbers-of-requires-2
-numbers-of-requires-2 c κs = search needs
-
-add-which-name : tie.Need-add-which-name
-add-which-name c = search needs
-
-add-which-name-2 : tie.Need-add-which-name-2
-add-which-name-2 c = search needs
-
-which-name-requires : tie.Need-which-name-requires
-which-name-requires c κs = search needs
-
 first-pair-requires : tie.Need-first-pair-requires
 first-pair-requires c κs =
     let s = c .before .before .before .before .before .before .before .before .before .before in
@@ -83,12 +68,6 @@ sub-result c =
     let wn = w .ensures (a .inputs) (a .nodes) (a .outputs) (a .output-table .now) in
     omega (arith, c .before .before .before .before .before .before .before .before .pair-cost .ensures, c .before .before .before .before .before .before .before .pair-cost2 .ensures, both-no-more g (s .pre .0) (a .p) (a .v) (s .pre .1) (s .pre .2) (p .result) (n .result) (w .result) (p .ensures) (n .ensures) wn _ _ (c .before .before .before .before .before .before .before .before .before .first-pair .ensures))
 
-same-length : tie.Need-same-length
-same-length c = search needs
-
-same-length-2 : tie.Need-same-length-2
-same-length-2 c = search needs
-
 returns : tie.Need-returns
 returns c =
     let s = c .before .before .before .before .before .before .before .before .before .before .before .before .before .before .before .before .before .before .before .before in
@@ -104,16 +83,16 @@ pub rewrite-pair-spec : {M : Type 1} → statement M
 rewrite-pair-spec =
     tie.close
     (tie.spec
-    numbers-of-requires
-    numbers-of-requires-2
-    add-which-name
-    add-which-name-2
-    which-name-requires
+    (λ c κs. search needs)
+    (λ c κs. search needs)
+    (λ c. search needs)
+    (λ c. search needs)
+    (λ c κs. search needs)
     first-pair-requires
     pair-cost-requires
     pair-cost-requires-2
     make-moves-requires
     sub-result
-    same-length
-    same-length-2
+    (λ c. search needs)
+    (λ c. search needs)
     returns)

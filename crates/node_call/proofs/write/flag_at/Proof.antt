@@ -7,21 +7,9 @@ use Rattle.node_call.specs.Write.{flagAt}
 use Rattle.node_call.proofs.write.flag_at.Statement.{statement}
 use Rattle.node_call.proofs.write.flag_at.Tie as tie
 
-mul-result : tie.Need-mul-result
-mul-result c = search needs
-
-array-read-result : tie.Need-array-read-result
-array-read-result c = search needs
-
 returns : tie.Need-returns
 unfolding flagAt
 returns c = let s = c .before .before .before in (equal _ _ _ _ (c .before .if1 .taken) refl, s .pre .1 (s .args .k))
-
-mul-result-2 : tie.Need-mul-result-2
-mul-result-2 c = search needs
-
-array-read-result-2 : tie.Need-array-read-result-2
-array-read-result-2 c = search needs
 
 returns-2 : tie.Need-returns-2
 unfolding flagAt
@@ -35,10 +23,10 @@ pub flag-at-spec : {M : Type 1} → statement M
 flag-at-spec =
     tie.close
     (tie.spec
-    mul-result
-    array-read-result
+    (λ c. search needs)
+    (λ c. search needs)
     returns
-    mul-result-2
-    array-read-result-2
+    (λ c. search needs)
+    (λ c. search needs)
     returns-2
     returns-3)

@@ -30,18 +30,6 @@ returns c =
     let g : Graph = graphOf (a .inputs) (a .nodes) (a .outputs) (a .node-table .now) (a .output-table .now) in
     unmoved g (a .inputs + 1 + a .p) (a .k) (a .inputs + 1 + a .v) (a .m) (s .pre .0) (omega arith) (omega arith)
 
-write-moves-requires : tie.Need-write-moves-requires
-write-moves-requires c κs = search needs
-
-same-length : tie.Need-same-length
-same-length c = search needs
-
-same-length-2 : tie.Need-same-length-2
-same-length-2 c = search needs
-
-returns-2 : tie.Need-returns-2
-returns-2 c = search needs
-
 pub make-moves-spec : {M : Type 1} → statement M
 make-moves-spec =
-    tie.close (tie.spec add-if1 returns write-moves-requires same-length same-length-2 returns-2)
+    tie.close (tie.spec add-if1 returns (λ c κs. search needs) (λ c. search needs) (λ c. search needs) (λ c. search needs))

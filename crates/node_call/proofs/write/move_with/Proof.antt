@@ -4,18 +4,6 @@ use Rattle.node_call.specs.Write.{moveWith}
 use Rattle.node_call.proofs.write.move_with.Statement.{statement}
 use Rattle.node_call.proofs.write.move_with.Tie as tie
 
-flag-of-requires : tie.Need-flag-of-requires
-flag-of-requires c κs = search needs
-
-flag-of-requires-2 : tie.Need-flag-of-requires-2
-flag-of-requires-2 c κs = search needs
-
-flag-of-requires-3 : tie.Need-flag-of-requires-3
-flag-of-requires-3 c κs = search needs
-
-flag-of-requires-4 : tie.Need-flag-of-requires-4
-flag-of-requires-4 c κs = search needs
-
 returns : tie.Need-returns
 unfolding moveWith
 returns c = rw (c .before .before .before .flag-of .ensures .0, c .before .before .flag-of2 .ensures .0, c .before .flag-of3 .ensures .0, c .flag-of4 .ensures .0)
@@ -23,4 +11,4 @@ returns c = rw (c .before .before .before .flag-of .ensures .0, c .before .befor
 pub move-with-spec : {M : Type 1} → statement M
 move-with-spec =
     tie.close
-    (tie.spec flag-of-requires flag-of-requires-2 flag-of-requires-3 flag-of-requires-4 returns)
+    (tie.spec (λ c κs. search needs) (λ c κs. search needs) (λ c κs. search needs) (λ c κs. search needs) returns)

@@ -5,30 +5,6 @@ use Rattle.node_call.proofs.Flags.{turns-edge, turns-mark}
 use Rattle.node_call.proofs.write.word_turns.Statement.{statement}
 use Rattle.node_call.proofs.write.word_turns.Tie as tie
 
-is-edge-requires : tie.Need-is-edge-requires
-is-edge-requires c κs = search needs
-
-add-flag-at : tie.Need-add-flag-at
-add-flag-at c = search needs
-
-cast-flag-at : tie.Need-cast-flag-at
-cast-flag-at c = search needs
-
-add-flag-at-2 : tie.Need-add-flag-at-2
-add-flag-at-2 c = search needs
-
-flag-at-requires : tie.Need-flag-at-requires
-flag-at-requires c κs = search needs
-
-index-of-requires : tie.Need-index-of-requires
-index-of-requires c κs = search needs
-
-flag-at-requires-2 : tie.Need-flag-at-requires-2
-flag-at-requires-2 c κs = search needs
-
-add-result : tie.Need-add-result
-add-result c = search needs
-
 returns : tie.Need-returns
 returns c =
     let t = c .before .before .before in
@@ -44,13 +20,13 @@ pub word-turns-spec : {M : Type 1} → statement M
 word-turns-spec =
     tie.close
     (tie.spec
-    is-edge-requires
-    add-flag-at
-    cast-flag-at
-    add-flag-at-2
-    flag-at-requires
-    index-of-requires
-    flag-at-requires-2
-    add-result
+    (λ c κs. search needs)
+    (λ c. search needs)
+    (λ c. search needs)
+    (λ c. search needs)
+    (λ c κs. search needs)
+    (λ c κs. search needs)
+    (λ c κs. search needs)
+    (λ c. search needs)
     returns
     returns-2)

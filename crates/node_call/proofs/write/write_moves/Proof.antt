@@ -15,29 +15,11 @@ use Rattle.node_call.proofs.write.write_moves.Tie as tie
 bits-of : (a : NodeMove) (x : Bool) (u m : ℕ) → a ≡ moveWith x u m → (i : ℕ) → getD (a .flags) i 0 ≤ 1
 bits-of a x u m e i = rw e (with-bits x u m i)
 
-is-xor-requires : tie.Need-is-xor-requires
-is-xor-requires c κs = search needs
-
-add-move-with : tie.Need-add-move-with
-add-move-with c = search needs
-
-add-move-with-2 : tie.Need-add-move-with-2
-add-move-with-2 c = search needs
-
 move-with-requires : tie.Need-move-with-requires
 move-with-requires c κs =
     let s = c .before .before .before .before in
     let a = s .args in
     rw (c .is-xor .ensures (a .inputs) (a .nodes) (a .outputs) (a .output-table .now)) (node-row (graphOf (a .inputs) (a .nodes) (a .outputs) (a .node-table .now) (a .output-table .now)) (a .p) (a .k) (s .pre .3))
-
-is-xor-requires-2 : tie.Need-is-xor-requires-2
-is-xor-requires-2 c κs = search needs
-
-add-move-with-3 : tie.Need-add-move-with-3
-add-move-with-3 c = search needs
-
-add-move-with-4 : tie.Need-add-move-with-4
-add-move-with-4 c = search needs
 
 move-with-requires-2 : tie.Need-move-with-requires-2
 move-with-requires-2 c κs =
@@ -56,12 +38,6 @@ write-outputs-requires c κs =
     let s = c .before .before .before .before .before .before .before .before .before .before .before .before .before in
     (bits-of _ _ _ _ (c .before .before .before .before .before .before .before .before .move-with .ensures), bits-of _ _ _ _ (c .before .before .before .before .before .move-with2 .ensures), s .pre .0 .long-outputs, outputs-low _ _ _ (s .pre .0))
 
-same-length : tie.Need-same-length
-same-length c = search needs
-
-same-length-2 : tie.Need-same-length-2
-same-length-2 c = search needs
-
 returns : tie.Need-returns
 returns c =
     let s = c .before .before .before .before .before .before .before .before .before .before .before .before .before .before .before .before in
@@ -75,16 +51,16 @@ pub write-moves-spec : {M : Type 1} → statement M
 write-moves-spec =
     tie.close
     (tie.spec
-    is-xor-requires
-    add-move-with
-    add-move-with-2
+    (λ c κs. search needs)
+    (λ c. search needs)
+    (λ c. search needs)
     move-with-requires
-    is-xor-requires-2
-    add-move-with-3
-    add-move-with-4
+    (λ c κs. search needs)
+    (λ c. search needs)
+    (λ c. search needs)
     move-with-requires-2
     write-nodes-requires
     write-outputs-requires
-    same-length
-    same-length-2
+    (λ c. search needs)
+    (λ c. search needs)
     returns)

@@ -14,9 +14,6 @@ Inv-loop inputs nodes node-table₀ a b end j₀ node-table j = (j ≤ 3 * nodes
 abbrev μ-loop : tie.MeasureT-loop
 μ-loop inputs nodes node-table₀ a b end j₀ node-table j = 3 * nodes - j
 
-mul-end : tie.Need-mul-end Inv-loop μ-loop
-mul-end c = search needs
-
 loop-holds : tie.Need-loop-holds Inv-loop μ-loop
 loop-holds c = let a = c .before .args in (omega arith, swept-none (wordTurns (a .inputs) (a .a) (a .b)) (a .node-table .now))
 
@@ -38,12 +35,6 @@ turn-word-requires c κs =
     let s = l .before .before in
     let a = s .args in
     swept-turn (wordTurns (a .inputs) (a .a) (a .b)) (a .node-table .now) (3 * a .nodes) (l .loop .j) (w .result) (t .result) (l .loop .node-table) (omega arith) (s .pre .4) (s .pre .5) (l .loop .inv .1) (w .ensures) (t .ensures .0) (t .ensures .1)
-
-add-j : tie.Need-add-j Inv-loop μ-loop
-add-j c = omega arith
-
-loop-less : tie.Need-loop-less Inv-loop μ-loop
-loop-less c = omega arith
 
 loop-again : tie.Need-loop-again Inv-loop μ-loop
 loop-again c =
@@ -71,13 +62,13 @@ write-nodes-spec =
     (tie.spec
     Inv-loop
     μ-loop
-    mul-end
+    (λ c. search needs)
     loop-holds
     word-at-requires
     word-turns-requires
     turn-word-requires
-    add-j
-    loop-less
+    (λ c. omega arith)
+    (λ c. omega arith)
     loop-again
     same-length
     returns)

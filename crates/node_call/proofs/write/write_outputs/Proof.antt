@@ -41,12 +41,6 @@ turn-word-requires c κs =
     let a = s .args in
     swept-turn (readTurns (a .a) (a .b)) (a .output-table .now) (a .outputs) (l .loop .j) (getD (l .loop .output-table) (l .loop .j) 0) (t .result) (l .loop .output-table) (omega arith) (s .pre .2) (s .pre .3) (l .loop .inv .1) refl (read-is (a .a) (a .b) (l .loop .j) _ (w .result) (t .result) (w .ensures) (t .ensures .0)) (omega (arith, t .ensures .1))
 
-add-j : tie.Need-add-j Inv-loop μ-loop
-add-j c = omega arith
-
-loop-less : tie.Need-loop-less Inv-loop μ-loop
-loop-less c = omega arith
-
 loop-again : tie.Need-loop-again Inv-loop μ-loop
 loop-again c =
     let r = c .before .before .turn-word in
@@ -77,8 +71,8 @@ write-outputs-spec =
     index-at-requires
     flag-at-requires
     turn-word-requires
-    add-j
-    loop-less
+    (λ c. omega arith)
+    (λ c. omega arith)
     loop-again
     same-length
     returns)

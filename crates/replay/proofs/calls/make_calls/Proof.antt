@@ -19,18 +19,6 @@ abbrev μ-loop : tie.MeasureT-loop
 loop-holds : tie.Need-loop-holds Inv-loop μ-loop
 loop-holds c = (refl, refl, record { long-scratch = refl; long-answers = refl; fits = omega (arith, c .before .before .before .before .before .pre); graph = refl; answers = refl })
 
-shared-slice-read-one-call : tie.Need-shared-slice-read-one-call Inv-loop μ-loop
-shared-slice-read-one-call c = omega arith
-
-shared-slice-read-one-call-2 : tie.Need-shared-slice-read-one-call-2 Inv-loop μ-loop
-shared-slice-read-one-call-2 c = omega arith
-
-shared-slice-read-one-call-3 : tie.Need-shared-slice-read-one-call-3 Inv-loop μ-loop
-shared-slice-read-one-call-3 c = omega arith
-
-one-call-requires : tie.Need-one-call-requires Inv-loop μ-loop
-one-call-requires c κs = search needs
-
 mul-answers : tie.Need-mul-answers Inv-loop μ-loop
 mul-answers c = omega (arith, c .before .before .before .before .before .before .before .before .before .before .before .before .before .before .loop .inv .2 .fits)
 
@@ -46,20 +34,8 @@ mul-answers-2 c = omega (arith, c .before .before .before .before .before .befor
 slice-write-answers-2 : tie.Need-slice-write-answers-2 Inv-loop μ-loop
 slice-write-answers-2 c = simp length-set (omega (arith, c .before .before .before .before .before .before .before .before .before .before .before .before .before .before .loop .inv .2 .fits))
 
-sub-s : tie.Need-sub-s Inv-loop μ-loop
-sub-s c = omega arith
-
-part-s-start : tie.Need-part-s-start Inv-loop μ-loop
-part-s-start c = omega arith
-
-part-s-end : tie.Need-part-s-end Inv-loop μ-loop
-part-s-end c = omega arith
-
 add-at : tie.Need-add-at Inv-loop μ-loop
 add-at c = omega (arith, c .before .before .before .before .before .before .before .before .before .before .before .before .before .before .before .loop .inv .2 .fits)
-
-loop-less : tie.Need-loop-less Inv-loop μ-loop
-loop-less c = omega arith
 
 loop-again : tie.Need-loop-again Inv-loop μ-loop
 loop-again c =
@@ -91,20 +67,20 @@ make-calls-spec =
     Inv-loop
     μ-loop
     loop-holds
-    shared-slice-read-one-call
-    shared-slice-read-one-call-2
-    shared-slice-read-one-call-3
-    one-call-requires
+    (λ c. omega arith)
+    (λ c. omega arith)
+    (λ c. omega arith)
+    (λ c κs. search needs)
     mul-answers
     slice-write-answers
     add-answers
     mul-answers-2
     slice-write-answers-2
-    sub-s
-    part-s-start
-    part-s-end
+    (λ c. omega arith)
+    (λ c. omega arith)
+    (λ c. omega arith)
     add-at
-    loop-less
+    (λ c. omega arith)
     loop-again
     same-length
     same-length-2

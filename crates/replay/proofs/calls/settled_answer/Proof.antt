@@ -7,18 +7,6 @@ use borrow.Author.Needs.{needs}
 use Rattle.replay.proofs.calls.settled_answer.Statement.{statement}
 use Rattle.replay.proofs.calls.settled_answer.Tie as tie
 
-settled-told-requires : tie.Need-settled-told-requires
-settled-told-requires c κs = search needs
-
-settled-number-requires : tie.Need-settled-number-requires
-settled-number-requires c κs = search needs
-
-array-read-t8 : tie.Need-array-read-t8
-array-read-t8 c = search needs
-
-array-read-t11 : tie.Need-array-read-t11
-array-read-t11 c = search needs
-
 sub-t12 : tie.Need-sub-t12
 sub-t12 c =
     let f = figures (settledAnswer (c .before .before .args .answer)) _ (c .before .settled-told .ensures) in
@@ -33,9 +21,9 @@ pub settled-answer-spec : {M : Type 1} → statement M
 settled-answer-spec =
     tie.close
     (tie.spec
-    settled-told-requires
-    settled-number-requires
-    array-read-t8
-    array-read-t11
+    (λ c κs. search needs)
+    (λ c κs. search needs)
+    (λ c. search needs)
+    (λ c. search needs)
     sub-t12
     returns)

@@ -8,27 +8,9 @@ use Rattle.report.proofs.LineLaws.{length-sizes, length-counts}
 use Rattle.report.proofs.lines.put_head.Statement.{statement}
 use Rattle.report.proofs.lines.put_head.Tie as tie
 
-slice-aggregate-put-line3 : tie.Need-slice-aggregate-put-line3
-slice-aggregate-put-line3 c = search needs
-
-slice-aggregate-put-line3-2 : tie.Need-slice-aggregate-put-line3-2
-slice-aggregate-put-line3-2 c = search needs
-
-slice-aggregate-put-line3-3 : tie.Need-slice-aggregate-put-line3-3
-slice-aggregate-put-line3-3 c = search needs
-
 put-line3-requires : tie.Need-put-line3-requires
 unfolding inputsText nodesText outputsText
 put-line3-requires c κs = let a = c .before .before .before .before .before .args in let l = length-sizes (a .inputs) (a .nodes) (a .outputs) (omega arith) (omega arith) (omega arith) in omega arith
-
-slice-aggregate-put-line3-4 : tie.Need-slice-aggregate-put-line3-4
-slice-aggregate-put-line3-4 c = search needs
-
-slice-aggregate-put-line3-5 : tie.Need-slice-aggregate-put-line3-5
-slice-aggregate-put-line3-5 c = search needs
-
-slice-aggregate-put-line3-6 : tie.Need-slice-aggregate-put-line3-6
-slice-aggregate-put-line3-6 c = search needs
 
 put-line3-requires-2 : tie.Need-put-line3-requires-2
 unfolding inputsText nodesText outputsText beforeText afterText roundsText
@@ -37,9 +19,6 @@ put-line3-requires-2 c κs =
     let l = length-sizes (a .inputs) (a .nodes) (a .outputs) (omega arith) (omega arith) (omega arith) in
     let m = length-counts (a .before) (a .after) (a .rounds) (omega arith) (omega arith) (omega arith) in
     omega arith
-
-same-length : tie.Need-same-length
-same-length c = search needs
 
 returns : tie.Need-returns
 unfolding inputsText nodesText outputsText beforeText afterText roundsText sizesLine countsLine
@@ -53,13 +32,13 @@ pub put-head-spec : {M : Type 1} → statement M
 put-head-spec =
     tie.close
     (tie.spec
-    slice-aggregate-put-line3
-    slice-aggregate-put-line3-2
-    slice-aggregate-put-line3-3
+    (λ c. search needs)
+    (λ c. search needs)
+    (λ c. search needs)
     put-line3-requires
-    slice-aggregate-put-line3-4
-    slice-aggregate-put-line3-5
-    slice-aggregate-put-line3-6
+    (λ c. search needs)
+    (λ c. search needs)
+    (λ c. search needs)
     put-line3-requires-2
-    same-length
+    (λ c. search needs)
     returns)

@@ -7,21 +7,9 @@ use Rattle.report.proofs.LineLaws.{length-xor, length-majority, xor-lin
 use Rattle.report.proofs.lines.put_node.Statement.{statement}
 use Rattle.report.proofs.lines.put_node.Tie as tie
 
-slice-aggregate-put-line3 : tie.Need-slice-aggregate-put-line3
-slice-aggregate-put-line3 c = search needs
-
-slice-aggregate-put-line3-2 : tie.Need-slice-aggregate-put-line3-2
-slice-aggregate-put-line3-2 c = search needs
-
-slice-aggregate-put-line3-3 : tie.Need-slice-aggregate-put-line3-3
-slice-aggregate-put-line3-3 c = search needs
-
 put-line3-requires : tie.Need-put-line3-requires
 unfolding nodeText xorText spaceText
 put-line3-requires c κs = let a = c .before .before .before .before .before .before .args in let l = length-xor (a .index) (a .x) (a .y) (omega arith) (omega arith) (omega arith) in omega arith
-
-same-length : tie.Need-same-length
-same-length c = search needs
 
 returns : tie.Need-returns
 unfolding nodeText xorText spaceText
@@ -30,24 +18,9 @@ returns c =
     let l = length-xor (a .index) (a .x) (a .y) (omega arith) (omega arith) (omega arith) in
     put-as (a .buffer .now) _ (line3 nodeText (a .index) xorText (a .x) spaceText (a .y)) _ _ _ 54 (xor-line (a .index) (a .x) (a .y) (a .z) (c .before .before .before .before .before .before .before .if1 .taken)) (omega arith) (c .before .before .put-line3 .ensures)
 
-slice-aggregate-put-line4 : tie.Need-slice-aggregate-put-line4
-slice-aggregate-put-line4 c = search needs
-
-slice-aggregate-put-line4-2 : tie.Need-slice-aggregate-put-line4-2
-slice-aggregate-put-line4-2 c = search needs
-
-slice-aggregate-put-line4-3 : tie.Need-slice-aggregate-put-line4-3
-slice-aggregate-put-line4-3 c = search needs
-
-slice-aggregate-put-line4-4 : tie.Need-slice-aggregate-put-line4-4
-slice-aggregate-put-line4-4 c = search needs
-
 put-line4-requires : tie.Need-put-line4-requires
 unfolding nodeText majText spaceText
 put-line4-requires c κs = let a = c .before .before .before .before .before .before .before .args in let l = length-majority (a .index) (a .x) (a .y) (a .z) (omega arith) (omega arith) (omega arith) (omega arith) in omega arith
-
-same-length-2 : tie.Need-same-length-2
-same-length-2 c = search needs
 
 returns-2 : tie.Need-returns-2
 unfolding nodeText majText spaceText
@@ -60,16 +33,16 @@ pub put-node-spec : {M : Type 1} → statement M
 put-node-spec =
     tie.close
     (tie.spec
-    slice-aggregate-put-line3
-    slice-aggregate-put-line3-2
-    slice-aggregate-put-line3-3
+    (λ c. search needs)
+    (λ c. search needs)
+    (λ c. search needs)
     put-line3-requires
-    same-length
+    (λ c. search needs)
     returns
-    slice-aggregate-put-line4
-    slice-aggregate-put-line4-2
-    slice-aggregate-put-line4-3
-    slice-aggregate-put-line4-4
+    (λ c. search needs)
+    (λ c. search needs)
+    (λ c. search needs)
+    (λ c. search needs)
     put-line4-requires
-    same-length-2
+    (λ c. search needs)
     returns-2)

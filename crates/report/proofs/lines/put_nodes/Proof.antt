@@ -15,9 +15,6 @@ Inv-loop buffer₀ start inputs nodes node-table at₀ index₀ v₀ left₀ buf
 abbrev μ-loop : tie.MeasureT-loop
 μ-loop buffer₀ start inputs nodes node-table at₀ index₀ v₀ left₀ buffer at index v left = left
 
-add-index : tie.Need-add-index Inv-loop μ-loop
-add-index c = omega arith
-
 loop-holds : tie.Need-loop-holds Inv-loop μ-loop
 loop-holds c = (record { counted = omega arith; fits = refl; same = refl; bytes = refl }, omega arith, omega arith)
 
@@ -48,12 +45,6 @@ add-index-2 c = omega (arith, c .before .before .before .before .before .before 
 add-v : tie.Need-add-v Inv-loop μ-loop
 add-v c = omega (arith, c .before .before .before .before .before .before .before .before .loop .inv .0 .counted)
 
-sub-left : tie.Need-sub-left Inv-loop μ-loop
-sub-left c = omega arith
-
-loop-less : tie.Need-loop-less Inv-loop μ-loop
-loop-less c = omega arith
-
 loop-again : tie.Need-loop-again Inv-loop μ-loop
 loop-again c =
     let r = c .before .before in
@@ -81,7 +72,7 @@ put-nodes-spec =
     (tie.spec
     Inv-loop
     μ-loop
-    add-index
+    (λ c. omega arith)
     loop-holds
     mul-word
     word-at-requires
@@ -92,8 +83,8 @@ put-nodes-spec =
     put-node-requires
     add-index-2
     add-v
-    sub-left
-    loop-less
+    (λ c. omega arith)
+    (λ c. omega arith)
     loop-again
     same-length
     returns)

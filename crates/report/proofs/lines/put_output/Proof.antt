@@ -9,15 +9,9 @@ use Rattle.report.proofs.LineLaws.{length-out}
 use Rattle.report.proofs.lines.put_output.Statement.{statement}
 use Rattle.report.proofs.lines.put_output.Tie as tie
 
-slice-aggregate-put-line1 : tie.Need-slice-aggregate-put-line1
-slice-aggregate-put-line1 c = search needs
-
 put-line1-requires : tie.Need-put-line1-requires
 unfolding outText
 put-line1-requires c κs = let a = c .before .before .before .args in let l = length-out (a .x) (omega arith) in omega arith
-
-same-length : tie.Need-same-length
-same-length c = search needs
 
 returns : tie.Need-returns
 unfolding outText outputLine
@@ -27,4 +21,4 @@ returns c =
     put-as (a .buffer .now) _ (line1 outText (a .x)) (outputLine (a .x)) _ _ 15 refl (omega arith) (c .before .before .put-line1 .ensures)
 
 pub put-output-spec : {M : Type 1} → statement M
-put-output-spec = tie.close (tie.spec slice-aggregate-put-line1 put-line1-requires same-length returns)
+put-output-spec = tie.close (tie.spec (λ c. search needs) put-line1-requires (λ c. search needs) returns)

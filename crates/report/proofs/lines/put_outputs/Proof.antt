@@ -28,12 +28,6 @@ put-output-requires c κs = omega (arith, c .before .before .before .loop .inv .
 add-v : tie.Need-add-v Inv-loop μ-loop
 add-v c = omega (arith, c .before .before .before .before .before .before .loop .inv .0 .counted)
 
-sub-left : tie.Need-sub-left Inv-loop μ-loop
-sub-left c = omega arith
-
-loop-less : tie.Need-loop-less Inv-loop μ-loop
-loop-less c = omega arith
-
 loop-again : tie.Need-loop-again Inv-loop μ-loop
 unfolding outputLineAt
 loop-again c =
@@ -63,8 +57,8 @@ put-outputs-spec =
     word-at-requires
     put-output-requires
     add-v
-    sub-left
-    loop-less
+    (λ c. omega arith)
+    (λ c. omega arith)
     loop-again
     same-length
     returns)

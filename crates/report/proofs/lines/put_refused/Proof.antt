@@ -9,18 +9,9 @@ use Rattle.report.proofs.LineLaws.{length-refused}
 use Rattle.report.proofs.lines.put_refused.Statement.{statement}
 use Rattle.report.proofs.lines.put_refused.Tie as tie
 
-slice-aggregate-put-line1 : tie.Need-slice-aggregate-put-line1
-slice-aggregate-put-line1 c = search needs
-
-number-of-requires : tie.Need-number-of-requires
-number-of-requires c κs = search needs
-
 put-line1-requires : tie.Need-put-line1-requires
 unfolding refusedText
 put-line1-requires c κs = let l = length-refused (c .number-of .result) (omega arith) in omega arith
-
-same-length : tie.Need-same-length
-same-length c = search needs
 
 returns : tie.Need-returns
 unfolding refusedText
@@ -35,4 +26,4 @@ returns c =
 pub put-refused-spec : {M : Type 1} → statement M
 put-refused-spec =
     tie.close
-    (tie.spec slice-aggregate-put-line1 number-of-requires put-line1-requires same-length returns)
+    (tie.spec (λ c. search needs) (λ c κs. search needs) put-line1-requires (λ c. search needs) returns)

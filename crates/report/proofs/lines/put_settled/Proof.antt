@@ -9,18 +9,6 @@ use Rattle.report.proofs.Put.{three-parts}
 use Rattle.report.proofs.lines.put_settled.Statement.{statement}
 use Rattle.report.proofs.lines.put_settled.Tie as tie
 
-put-head-requires : tie.Need-put-head-requires
-put-head-requires c κs = search needs
-
-put-nodes-requires : tie.Need-put-nodes-requires
-put-nodes-requires c κs = search needs
-
-put-outputs-requires : tie.Need-put-outputs-requires
-put-outputs-requires c κs = search needs
-
-same-length : tie.Need-same-length
-same-length c = search needs
-
 returns : tie.Need-returns
 unfolding settledText
 returns c =
@@ -37,4 +25,4 @@ returns c =
 pub put-settled-spec : {M : Type 1} → statement M
 put-settled-spec =
     tie.close
-    (tie.spec put-head-requires put-nodes-requires put-outputs-requires same-length returns)
+    (tie.spec (λ c κs. search needs) (λ c κs. search needs) (λ c κs. search needs) (λ c. search needs) returns)

@@ -20,13 +20,10 @@ add-result : tie.Need-add-result
 unfolding line1
 add-result c = let a = c .before .before .before .before .before .before .args in let r = room-byte (numbered (a .t .now) (a .a)) 10 _ _ _ (c .before .before .before .before .before .before .pre) (c .before .before .put-numbered .ensures .0) in omega arith
 
-same-length : tie.Need-same-length
-same-length c = search needs
-
 returns : tie.Need-returns
 unfolding line1
 returns c = let a = c .before .before .before .before .before .before .args in in-a-row (a .buffer .now) _ _ (numbered (a .t .now) (a .a)) (10 ∷ []) _ _ _ (c .before .before .put-numbered .ensures) (refl, refl)
 
 pub put-line1-spec : {M : Type 1} → statement M
 put-line1-spec =
-    tie.close (tie.spec put-numbered-requires slice-write-buffer add-result same-length returns)
+    tie.close (tie.spec put-numbered-requires slice-write-buffer add-result (λ c. search needs) returns)

@@ -14,12 +14,9 @@ put-line1-requires : tie.Need-put-line1-requires
 unfolding line2
 put-line1-requires c κs = let a = c .before .before .before .before .before .before .before .before .args in room-rest (numbered (a .t .now) (a .a)) (line1 (a .u .now) (a .b)) _ _ _ _ (c .before .before .before .before .before .before .before .before .pre) (c .before .before .before .put-numbered .ensures .0) (omega arith)
 
-same-length : tie.Need-same-length
-same-length c = search needs
-
 returns : tie.Need-returns
 unfolding line2
 returns c = let a = c .before .before .before .before .before .before .before .before .before .before .before .args in in-a-row (a .buffer .now) _ _ (numbered (a .t .now) (a .a)) (line1 (a .u .now) (a .b)) _ _ _ (c .before .before .before .before .before .before .put-numbered .ensures) (c .before .before .put-line1 .ensures)
 
 pub put-line2-spec : {M : Type 1} → statement M
-put-line2-spec = tie.close (tie.spec put-numbered-requires put-line1-requires same-length returns)
+put-line2-spec = tie.close (tie.spec put-numbered-requires put-line1-requires (λ c. search needs) returns)

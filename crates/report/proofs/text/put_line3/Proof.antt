@@ -14,12 +14,9 @@ put-line2-requires : tie.Need-put-line2-requires
 unfolding line3
 put-line2-requires c κs = let a = c .before .before .before .before .before .before .before .before .before .args in room-rest (numbered (a .t .now) (a .a)) (line2 (a .u .now) (a .b) (a .v .now) (a .c)) _ _ _ _ (c .before .before .before .before .before .before .before .before .before .pre) (c .before .before .before .put-numbered .ensures .0) (omega arith)
 
-same-length : tie.Need-same-length
-same-length c = search needs
-
 returns : tie.Need-returns
 unfolding line3
 returns c = let a = c .before .before .before .before .before .before .before .before .before .before .before .before .args in in-a-row (a .buffer .now) _ _ (numbered (a .t .now) (a .a)) (line2 (a .u .now) (a .b) (a .v .now) (a .c)) _ _ _ (c .before .before .before .before .before .before .put-numbered .ensures) (c .before .before .put-line2 .ensures)
 
 pub put-line3-spec : {M : Type 1} → statement M
-put-line3-spec = tie.close (tie.spec put-numbered-requires put-line2-requires same-length returns)
+put-line3-spec = tie.close (tie.spec put-numbered-requires put-line2-requires (λ c. search needs) returns)

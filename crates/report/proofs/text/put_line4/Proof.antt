@@ -14,12 +14,9 @@ put-line3-requires : tie.Need-put-line3-requires
 unfolding line4
 put-line3-requires c κs = let a = c .before .before .before .before .before .before .before .before .before .before .args in room-rest (numbered (a .t .now) (a .a)) (line3 (a .u .now) (a .b) (a .v .now) (a .c) (a .w .now) (a .d)) _ _ _ _ (c .before .before .before .before .before .before .before .before .before .before .pre) (c .before .before .before .put-numbered .ensures .0) (omega arith)
 
-same-length : tie.Need-same-length
-same-length c = search needs
-
 returns : tie.Need-returns
 unfolding line4
 returns c = let a = c .before .before .before .before .before .before .before .before .before .before .before .before .before .args in in-a-row (a .buffer .now) _ _ (numbered (a .t .now) (a .a)) (line3 (a .u .now) (a .b) (a .v .now) (a .c) (a .w .now) (a .d)) _ _ _ (c .before .before .before .before .before .before .put-numbered .ensures) (c .before .before .put-line3 .ensures)
 
 pub put-line4-spec : {M : Type 1} → statement M
-put-line4-spec = tie.close (tie.spec put-numbered-requires put-line3-requires same-length returns)
+put-line4-spec = tie.close (tie.spec put-numbered-requires put-line3-requires (λ c. search needs) returns)

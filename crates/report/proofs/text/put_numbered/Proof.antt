@@ -15,12 +15,9 @@ put-requires : tie.Need-put-requires
 unfolding numbered
 put-requires c κs = let a = c .before .before .before .before .before .before .before .args in room-rest (a .text .now) (decimal (a .a)) _ _ _ _ (c .before .before .before .before .before .before .before .pre) (c .before .before .before .put-text .ensures .0) (omega arith)
 
-same-length : tie.Need-same-length
-same-length c = search needs
-
 returns : tie.Need-returns
 unfolding numbered
 returns c = let a = c .before .before .before .before .before .before .before .before .before .before .args in in-a-row (a .buffer .now) _ _ (a .text .now) (decimal (a .a)) _ _ _ (c .before .before .before .before .before .before .put-text .ensures) (c .before .before .put .ensures)
 
 pub put-numbered-spec : {M : Type 1} → statement M
-put-numbered-spec = tie.close (tie.spec put-text-requires put-requires same-length returns)
+put-numbered-spec = tie.close (tie.spec put-text-requires put-requires (λ c. search needs) returns)

@@ -27,9 +27,6 @@ one-round-requires c κs = let l = c .before .before .before in (l .loop .inv .1
 add-rounds : tie.Need-add-rounds Inv-loop μ-loop
 add-rounds c = let l = c .before .before .before .before .before .before .before .before in let s = l .before .before .before .before in omega (arith, going-few _ _ _ _ _ _ _ _ (s .pre .0) (l .loop .inv .1))
 
-loop-less : tie.Need-loop-less Inv-loop μ-loop
-loop-less c = omega arith
-
 loop-again : tie.Need-loop-again Inv-loop μ-loop
 loop-again c =
     let t = c .before .before .before .before in
@@ -55,7 +52,7 @@ all-rounds-spec =
     loop-holds
     one-round-requires
     add-rounds
-    loop-less
+    (λ c. omega arith)
     loop-again
     same-length
     same-length-2

@@ -4,21 +4,6 @@ use borrow.Author.Needs.{needs}
 use Rattle.settling.proofs.all.one_round.Statement.{statement}
 use Rattle.settling.proofs.all.one_round.Tie as tie
 
-tree-calls-requires : tie.Need-tree-calls-requires
-tree-calls-requires c κs = search needs
-
-single-calls-requires : tie.Need-single-calls-requires
-single-calls-requires c κs = search needs
-
-pair-calls-requires : tie.Need-pair-calls-requires
-pair-calls-requires c κs = search needs
-
-same-length : tie.Need-same-length
-same-length c = search needs
-
-same-length-2 : tie.Need-same-length-2
-same-length-2 c = search needs
-
 returns : tie.Need-returns
 returns c =
     let t₃ = c .before .before .before .before in
@@ -30,9 +15,9 @@ pub one-round-spec : {M : Type 1} → statement M
 one-round-spec =
     tie.close
     (tie.spec
-    tree-calls-requires
-    single-calls-requires
-    pair-calls-requires
-    same-length
-    same-length-2
+    (λ c κs. search needs)
+    (λ c κs. search needs)
+    (λ c κs. search needs)
+    (λ c. search needs)
+    (λ c. search needs)
     returns)

@@ -6,12 +6,6 @@ use borrow.Author.Needs.{needs}
 use Rattle.settling.proofs.all.settle_admitted.Statement.{statement}
 use Rattle.settling.proofs.all.settle_admitted.Tie as tie
 
-complemented-requires : tie.Need-complemented-requires
-complemented-requires c κs = search needs
-
-fill-scratch-requires : tie.Need-fill-scratch-requires
-fill-scratch-requires c κs = search needs
-
 all-rounds-requires : tie.Need-all-rounds-requires
 all-rounds-requires c κs =
     let f = c .before .before .before .before .before in
@@ -20,15 +14,6 @@ all-rounds-requires c κs =
 
 write-out-requires : tie.Need-write-out-requires
 write-out-requires c κs = let a = c .before .before .before .before .before .before .before in a .all-rounds .ensures .ordered
-
-same-length : tie.Need-same-length
-same-length c = search needs
-
-same-length-2 : tie.Need-same-length-2
-same-length-2 c = search needs
-
-same-length-3 : tie.Need-same-length-3
-same-length-3 c = search needs
 
 returns : tie.Need-returns
 returns c =
@@ -42,11 +27,11 @@ pub settle-admitted-spec : {M : Type 1} → statement M
 settle-admitted-spec =
     tie.close
     (tie.spec
-    complemented-requires
-    fill-scratch-requires
+    (λ c κs. search needs)
+    (λ c κs. search needs)
     all-rounds-requires
     write-out-requires
-    same-length
-    same-length-2
-    same-length-3
+    (λ c. search needs)
+    (λ c. search needs)
+    (λ c. search needs)
     returns)

@@ -13,15 +13,9 @@ use Rattle.settling.proofs.faults.settle_number.Tie as tie
 abbrev graph-of : tie.Start → Graph
 graph-of s = graphOf (s .args .inputs) (s .args .nodes) (s .args .outputs) (s .args .node-table .now) (s .args .output-table .now)
 
-admission-number-requires : tie.Need-admission-number-requires
-admission-number-requires c κs = search needs
-
 returns : tie.Need-returns
 unfolding settleNumber scratchFault
 returns c = let e = c .before .admission-number .ensures in (fault _ _ e (λ z. c .if1 .taken (e ∙ z)), omega (arith, e, admission-le (graph-of (c .before .before .before .before))))
-
-mul-if2 : tie.Need-mul-if2
-mul-if2 c = search needs
 
 returns-2 : tie.Need-returns-2
 unfolding settleNumber scratchFault
@@ -33,4 +27,4 @@ returns-3 c = let n = c .before .before in (none _ _ (sym (n .admission-number .
 
 pub settle-number-spec : {M : Type 1} → statement M
 settle-number-spec =
-    tie.close (tie.spec admission-number-requires returns mul-if2 returns-2 returns-3)
+    tie.close (tie.spec (λ c κs. search needs) returns (λ c. search needs) returns-2 returns-3)

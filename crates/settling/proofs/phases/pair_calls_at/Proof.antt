@@ -22,15 +22,6 @@ pair-step-requires-2 c κs =
     let x₁ = pair-phase (graph-of s) (s .args .scratch .now) (s .pre .0) (s .args .v) 1 (s .pre .1) (first-words (graph-of s) (s .args .v) 1 (omega arith) (omega arith)) _ _ _ (t₁ .pair-step .ensures) in
     (x₁ .ordered, s .pre .1, first-words _ (s .args .v) 2 (omega arith) (omega arith), x₁ .count)
 
-is-xor-requires : tie.Need-is-xor-requires
-is-xor-requires c κs = search needs
-
-same-length : tie.Need-same-length
-same-length c = search needs
-
-same-length-2 : tie.Need-same-length-2
-same-length-2 c = search needs
-
 returns : tie.Need-returns
 returns c =
     let x = c .before .is-xor in
@@ -52,12 +43,6 @@ pair-step-requires-3 c κs =
     let x₂ = pair-phase _ _ (x₁ .ordered) (s .args .v) 2 (s .pre .1) (first-words _ (s .args .v) 2 (omega arith) (omega arith)) _ _ _ (t₂ .pair-step2 .ensures) in
     (x₂ .ordered, s .pre .1, third-word _ (s .args .v) (sym (x .ensures (s .args .inputs) (s .args .nodes) (s .args .outputs) (s .args .output-table .now)) ∙ l .if1 .left), x₂ .count)
 
-same-length-3 : tie.Need-same-length-3
-same-length-3 c = search needs
-
-same-length-4 : tie.Need-same-length-4
-same-length-4 c = search needs
-
 returns-2 : tie.Need-returns-2
 returns-2 c =
     let t₃ = c .before .before .before .before in
@@ -76,11 +61,11 @@ pair-calls-at-spec =
     (tie.spec
     pair-step-requires
     pair-step-requires-2
-    is-xor-requires
-    same-length
-    same-length-2
+    (λ c κs. search needs)
+    (λ c. search needs)
+    (λ c. search needs)
     returns
     pair-step-requires-3
-    same-length-3
-    same-length-4
+    (λ c. search needs)
+    (λ c. search needs)
     returns-2)

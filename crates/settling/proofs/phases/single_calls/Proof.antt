@@ -24,12 +24,6 @@ loop-holds c = let s = c .before .before .before in (omega arith, refl, refl, ea
 node-step-requires : tie.Need-node-step-requires Inv-loop μ-loop
 node-step-requires c κs = let l = c .before .before .before in (l .loop .inv .3 .ordered, omega arith, l .loop .inv .3 .count)
 
-add-v : tie.Need-add-v Inv-loop μ-loop
-add-v c = omega arith
-
-loop-less : tie.Need-loop-less Inv-loop μ-loop
-loop-less c = omega arith
-
 loop-again : tie.Need-loop-again Inv-loop μ-loop
 loop-again c =
     let t = c .before .before .before .before in
@@ -56,8 +50,8 @@ single-calls-spec =
     μ-loop
     loop-holds
     node-step-requires
-    add-v
-    loop-less
+    (λ c. omega arith)
+    (λ c. omega arith)
     loop-again
     same-length
     same-length-2

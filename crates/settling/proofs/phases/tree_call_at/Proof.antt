@@ -8,18 +8,6 @@ use Rattle.settling.proofs.phases.tree_call_at.Tie as tie
 abbrev graph-of : tie.Start → Graph
 graph-of s = graphOf (s .args .inputs) (s .args .nodes) (s .args .outputs) (s .args .node-table .now) (s .args .output-table .now)
 
-mul-only : tie.Need-mul-only
-mul-only c = search needs
-
-add-only : tie.Need-add-only
-add-only c = search needs
-
-mul-if1 : tie.Need-mul-if1
-mul-if1 c = search needs
-
-slice-read-if1 : tie.Need-slice-read-if1
-slice-read-if1 c = search needs
-
 returns : tie.Need-returns
 returns c =
     let s = c .before .before .before .before .before in
@@ -31,12 +19,6 @@ tree-step-requires c κs =
     let l = c .before .before in
     let s = l .before .before .before .before .before in
     (s .pre .0, s .pre .1, marked-root (graph-of s) (s .args .scratch .now) (s .pre .0) (s .args .v) (s .pre .1) (l .if1 .left), s .pre .2)
-
-same-length : tie.Need-same-length
-same-length c = search needs
-
-same-length-2 : tie.Need-same-length-2
-same-length-2 c = search needs
 
 returns-2 : tie.Need-returns-2
 returns-2 c =
@@ -50,12 +32,12 @@ pub tree-call-at-spec : {M : Type 1} → statement M
 tree-call-at-spec =
     tie.close
     (tie.spec
-    mul-only
-    add-only
-    mul-if1
-    slice-read-if1
+    (λ c. search needs)
+    (λ c. search needs)
+    (λ c. search needs)
+    (λ c. search needs)
     returns
     tree-step-requires
-    same-length
-    same-length-2
+    (λ c. search needs)
+    (λ c. search needs)
     returns-2)

@@ -24,17 +24,8 @@ loop-holds c =
     let e : s .args .nodes - s .args .nodes ≡ 0 = omega arith in
     (omega arith, refl, refl, rw e (each-none (treeAt _) _ _ _ (s .pre .0) (s .pre .1)))
 
-sub-tree-call-at : tie.Need-sub-tree-call-at Inv-loop μ-loop
-sub-tree-call-at c = omega arith
-
 tree-call-at-requires : tie.Need-tree-call-at-requires Inv-loop μ-loop
 tree-call-at-requires c κs = let l = c .before .before .before in (l .loop .inv .3 .ordered, omega arith, l .loop .inv .3 .count)
-
-sub-left : tie.Need-sub-left Inv-loop μ-loop
-sub-left c = omega arith
-
-loop-less : tie.Need-loop-less Inv-loop μ-loop
-loop-less c = omega arith
 
 loop-again : tie.Need-loop-again Inv-loop μ-loop
 loop-again c =
@@ -65,10 +56,10 @@ tree-calls-spec =
     Inv-loop
     μ-loop
     loop-holds
-    sub-tree-call-at
+    (λ c. omega arith)
     tree-call-at-requires
-    sub-left
-    loop-less
+    (λ c. omega arith)
+    (λ c. omega arith)
     loop-again
     same-length
     same-length-2

@@ -14,23 +14,11 @@ returns c =
     let a = s .args in
     made-none (graph-of s) (a .scratch .now) (s .pre .0) (node (graph-of s) (a .v)) (a .m) (a .count) (c .if1 .taken) (s .pre .3)
 
-numbers-now-requires : tie.Need-numbers-now-requires
-numbers-now-requires c κs = search needs
-
 count-after-requires : tie.Need-count-after-requires
 count-after-requires c κs =
     let s = c .before .before .before .before .before .before .before in
     let a = s .args in
     asked (graph-of s) (a .scratch .now) (s .pre .0) (a .v) (s .pre .1) (c .numbers-now .result) (c .numbers-now .ensures) (a .m) (a .count) (s .pre .2) (s .pre .3)
-
-turn-node-requires : tie.Need-turn-node-requires
-turn-node-requires c κs = search needs
-
-same-length : tie.Need-same-length
-same-length c = search needs
-
-same-length-2 : tie.Need-same-length-2
-same-length-2 c = search needs
 
 returns-2 : tie.Need-returns-2
 returns-2 c =
@@ -49,9 +37,9 @@ make-move-spec =
     tie.close
     (tie.spec
     returns
-    numbers-now-requires
+    (λ c κs. search needs)
     count-after-requires
-    turn-node-requires
-    same-length
-    same-length-2
+    (λ c κs. search needs)
+    (λ c. search needs)
+    (λ c. search needs)
     returns-2)

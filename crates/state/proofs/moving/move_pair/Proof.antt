@@ -5,12 +5,6 @@ use borrow.Author.Needs.{needs}
 use Rattle.state.proofs.moving.move_pair.Statement.{statement}
 use Rattle.state.proofs.moving.move_pair.Tie as tie
 
-pair-moves-requires : tie.Need-pair-moves-requires
-pair-moves-requires c κs = search needs
-
-make-move-requires : tie.Need-make-move-requires
-make-move-requires c κs = search needs
-
 abbrev graph-of : tie.Start → Graph
 graph-of s = graphOf (s .args .inputs) (s .args .nodes) (s .args .outputs) (s .args .node-table .now) (s .args .output-table .now)
 
@@ -29,12 +23,6 @@ make-move-requires-2 c κs =
       still-fits (graph-of s) (a .scratch .now) (s .pre .0) (a .p) (a .v) (s .pre .1) (s .pre .2) (m .result .named) (m .result .node) (m .ensures .0) (m .ensures .1) g₁ s₁ (r .result) (r .ensures),
       still-counts (graph-of s) (a .scratch .now) (s .pre .0) (a .p) (a .v) (s .pre .1) (s .pre .2) (m .result .named) (m .result .node) (m .ensures .0) (m .ensures .1) g₁ s₁ (r .result) (r .ensures),
     )
-
-same-length : tie.Need-same-length
-same-length c = search needs
-
-same-length-2 : tie.Need-same-length-2
-same-length-2 c = search needs
 
 returns : tie.Need-returns
 returns c =
@@ -55,9 +43,9 @@ pub move-pair-spec : {M : Type 1} → statement M
 move-pair-spec =
     tie.close
     (tie.spec
-    pair-moves-requires
-    make-move-requires
+    (λ c κs. search needs)
+    (λ c κs. search needs)
     make-move-requires-2
-    same-length
-    same-length-2
+    (λ c. search needs)
+    (λ c. search needs)
     returns)

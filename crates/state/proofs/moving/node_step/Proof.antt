@@ -5,9 +5,6 @@ use borrow.Author.Needs.{needs}
 use Rattle.state.proofs.moving.node_step.Statement.{statement}
 use Rattle.state.proofs.moving.node_step.Tie as tie
 
-numbers-now-requires : tie.Need-numbers-now-requires
-numbers-now-requires c κs = search needs
-
 abbrev graph-of : tie.Start → Graph
 graph-of s = graphOf (s .args .inputs) (s .args .nodes) (s .args .outputs) (s .args .node-table .now) (s .args .output-table .now)
 
@@ -29,12 +26,6 @@ make-move-requires c κs =
       s .pre .2,
     )
 
-same-length : tie.Need-same-length
-same-length c = search needs
-
-same-length-2 : tie.Need-same-length-2
-same-length-2 c = search needs
-
 returns : tie.Need-returns
 returns c =
     let t = c .before .before .before .before in
@@ -50,9 +41,9 @@ pub node-step-spec : {M : Type 1} → statement M
 node-step-spec =
     tie.close
     (tie.spec
-    numbers-now-requires
+    (λ c κs. search needs)
     first-least-requires
     make-move-requires
-    same-length
-    same-length-2
+    (λ c. search needs)
+    (λ c. search needs)
     returns)

@@ -12,24 +12,6 @@ use borrow.Author.Needs.{needs}
 use Rattle.state.proofs.moving.pair_moves.Statement.{statement}
 use Rattle.state.proofs.moving.pair_moves.Tie as tie
 
-numbers-now-requires : tie.Need-numbers-now-requires
-numbers-now-requires c κs = search needs
-
-numbers-now-requires-2 : tie.Need-numbers-now-requires-2
-numbers-now-requires-2 c κs = search needs
-
-add-which-name : tie.Need-add-which-name
-add-which-name c = search needs
-
-cast-which-name : tie.Need-cast-which-name
-cast-which-name c = search needs
-
-add-which-name-2 : tie.Need-add-which-name-2
-add-which-name-2 c = search needs
-
-which-name-requires : tie.Need-which-name-requires
-which-name-requires c κs = search needs
-
 abbrev graph-of : tie.Start → Graph
 graph-of s = graphOf (s .args .inputs) (s .args .nodes) (s .args .outputs) (s .args .node-table .now) (s .args .output-table .now)
 
@@ -68,11 +50,11 @@ pub pair-moves-spec : {M : Type 1} → statement M
 pair-moves-spec =
     tie.close
     (tie.spec
-    numbers-now-requires
-    numbers-now-requires-2
-    add-which-name
-    cast-which-name
-    add-which-name-2
-    which-name-requires
+    (λ c κs. search needs)
+    (λ c κs. search needs)
+    (λ c. search needs)
+    (λ c. search needs)
+    (λ c. search needs)
+    (λ c κs. search needs)
     first-pair-requires
     returns)

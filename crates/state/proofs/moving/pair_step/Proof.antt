@@ -32,9 +32,6 @@ placed s =
       below = named-below (graph-of s) (a .scratch .now) o (a .v) (a .k) (s .pre .1) (s .pre .2);
     }
 
-mul-at : tie.Need-mul-at
-mul-at c = search needs
-
 sub-at : tie.Need-sub-at
 sub-at c = omega (arith, placed (c .before .before .before) .low)
 
@@ -44,9 +41,6 @@ add-at c = let p = placed (c .before .before .before) in omega (arith, p .low, p
 index-at-requires : tie.Need-index-at-requires
 index-at-requires c κs = placed (c .before .before .before .before) .within
 
-same-length : tie.Need-same-length
-same-length c = search needs
-
 returns : tie.Need-returns
 returns c =
     let x = c .before .index-at in
@@ -54,26 +48,11 @@ returns c =
     let a = s .args in
     pair-none (graph-of s) (a .scratch .now) (s .pre .0) (a .v) (a .k) (s .pre .1) (omega (arith, x .ensures, c .if1 .taken)) (a .count) (s .pre .3)
 
-add-p : tie.Need-add-p
-add-p c = search needs
-
-sub-p : tie.Need-sub-p
-sub-p c = search needs
-
-cast-p : tie.Need-cast-p
-cast-p c = search needs
-
 move-pair-requires : tie.Need-move-pair-requires
 move-pair-requires c κs =
     let e = c .before .before in
     let s = e .before .before .before .before .before .before in
     (s .pre .0, omega (arith, placed s .below, e .before .index-at .ensures, e .if1 .left), s .pre .1, s .pre .3)
-
-same-length-2 : tie.Need-same-length-2
-same-length-2 c = search needs
-
-same-length-3 : tie.Need-same-length-3
-same-length-3 c = search needs
 
 returns-2 : tie.Need-returns-2
 returns-2 c =
@@ -91,16 +70,16 @@ pub pair-step-spec : {M : Type 1} → statement M
 pair-step-spec =
     tie.close
     (tie.spec
-    mul-at
+    (λ c. search needs)
     sub-at
     add-at
     index-at-requires
-    same-length
+    (λ c. search needs)
     returns
-    add-p
-    sub-p
-    cast-p
+    (λ c. search needs)
+    (λ c. search needs)
+    (λ c. search needs)
     move-pair-requires
-    same-length-2
-    same-length-3
+    (λ c. search needs)
+    (λ c. search needs)
     returns-2)

@@ -8,33 +8,6 @@ use borrow.Author.Needs.{needs}
 use Rattle.state.proofs.now.numbers_now.Statement.{statement}
 use Rattle.state.proofs.now.numbers_now.Tie as tie
 
-mul-at : tie.Need-mul-at
-mul-at c = search needs
-
-is-xor-requires : tie.Need-is-xor-requires
-is-xor-requires c κs = search needs
-
-moves-at-requires : tie.Need-moves-at-requires
-moves-at-requires c κs = search needs
-
-own-costs-requires : tie.Need-own-costs-requires
-own-costs-requires c κs = search needs
-
-mul-t12 : tie.Need-mul-t12
-mul-t12 c = search needs
-
-shared-slice-read-t14 : tie.Need-shared-slice-read-t14
-shared-slice-read-t14 c = search needs
-
-add-t15 : tie.Need-add-t15
-add-t15 c = search needs
-
-mul-t16 : tie.Need-mul-t16
-mul-t16 c = search needs
-
-shared-slice-read-t18 : tie.Need-shared-slice-read-t18
-shared-slice-read-t18 c = search needs
-
 returns : tie.Need-returns
 returns c =
     let k = c .before .before in
@@ -49,13 +22,13 @@ pub numbers-now-spec : {M : Type 1} → statement M
 numbers-now-spec =
     tie.close
     (tie.spec
-    mul-at
-    is-xor-requires
-    moves-at-requires
-    own-costs-requires
-    mul-t12
-    shared-slice-read-t14
-    add-t15
-    mul-t16
-    shared-slice-read-t18
+    (λ c. search needs)
+    (λ c κs. search needs)
+    (λ c κs. search needs)
+    (λ c κs. search needs)
+    (λ c. search needs)
+    (λ c. search needs)
+    (λ c. search needs)
+    (λ c. search needs)
+    (λ c. search needs)
     returns)

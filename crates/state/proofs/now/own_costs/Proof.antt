@@ -7,27 +7,6 @@ use borrow.Author.Needs.{needs}
 use Rattle.state.proofs.now.own_costs.Statement.{statement}
 use Rattle.state.proofs.now.own_costs.Tie as tie
 
-mul-at : tie.Need-mul-at
-mul-at c = search needs
-
-word-now-requires : tie.Need-word-now-requires
-word-now-requires c κs = search needs
-
-add-word-now : tie.Need-add-word-now
-add-word-now c = search needs
-
-word-now-requires-2 : tie.Need-word-now-requires-2
-word-now-requires-2 c κs = search needs
-
-add-word-now-2 : tie.Need-add-word-now-2
-add-word-now-2 c = search needs
-
-word-now-requires-3 : tie.Need-word-now-requires-3
-word-now-requires-3 c κs = search needs
-
-costs-of-requires : tie.Need-costs-of-requires
-costs-of-requires c κs = search needs
-
 returns : tie.Need-returns
 returns c =
     let w = c .before in
@@ -40,11 +19,11 @@ pub own-costs-spec : {M : Type 1} → statement M
 own-costs-spec =
     tie.close
     (tie.spec
-    mul-at
-    word-now-requires
-    add-word-now
-    word-now-requires-2
-    add-word-now-2
-    word-now-requires-3
-    costs-of-requires
+    (λ c. search needs)
+    (λ c κs. search needs)
+    (λ c. search needs)
+    (λ c κs. search needs)
+    (λ c. search needs)
+    (λ c κs. search needs)
+    (λ c κs. search needs)
     returns)

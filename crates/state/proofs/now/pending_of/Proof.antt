@@ -10,29 +10,8 @@ use Rattle.state.proofs.now.pending_of.Tie as tie
 returns : tie.Need-returns
 returns c = let a = c .before .args in (sym (pending-low (a .inputs) (a .nodes) (a .scratch .now) (a .u) (c .if1 .taken)), omega arith)
 
-add-v : tie.Need-add-v
-add-v c = search needs
-
-sub-v : tie.Need-sub-v
-sub-v c = search needs
-
 returns-2 : tie.Need-returns-2
 returns-2 c = let a = c .before .before .args in (sym (pending-high (a .inputs) (a .nodes) (a .scratch .now) (a .u) (omega arith)), omega arith)
-
-cast-at : tie.Need-cast-at
-cast-at c = search needs
-
-mul-at : tie.Need-mul-at
-mul-at c = search needs
-
-add-at : tie.Need-add-at
-add-at c = search needs
-
-mul-result : tie.Need-mul-result
-mul-result c = search needs
-
-shared-slice-read-result : tie.Need-shared-slice-read-result
-shared-slice-read-result c = search needs
 
 returns-3 : tie.Need-returns-3
 returns-3 c =
@@ -45,12 +24,12 @@ pending-of-spec =
     tie.close
     (tie.spec
     returns
-    add-v
-    sub-v
+    (λ c. search needs)
+    (λ c. search needs)
     returns-2
-    cast-at
-    mul-at
-    add-at
-    mul-result
-    shared-slice-read-result
+    (λ c. search needs)
+    (λ c. search needs)
+    (λ c. search needs)
+    (λ c. search needs)
+    (λ c. search needs)
     returns-3)

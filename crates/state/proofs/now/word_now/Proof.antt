@@ -8,15 +8,6 @@ use borrow.Author.Needs.{needs}
 use Rattle.state.proofs.now.word_now.Statement.{statement}
 use Rattle.state.proofs.now.word_now.Tie as tie
 
-word-at-requires : tie.Need-word-at-requires
-word-at-requires c κs = search needs
-
-pending-of-requires : tie.Need-pending-of-requires
-pending-of-requires c κs = search needs
-
-turned-requires : tie.Need-turned-requires
-turned-requires c κs = search needs
-
 returns : tie.Need-returns
 returns c =
     let x = c .before .before .word-at in
@@ -27,4 +18,4 @@ returns c =
     sym (stands-word (graphOf (a .inputs) (a .nodes) (a .outputs) (a .node-table .now) (a .output-table .now)) (a .scratch .now) (s .pre .0 .admitted) (a .j) (s .pre .1))
 
 pub word-now-spec : {M : Type 1} → statement M
-word-now-spec = tie.close (tie.spec word-at-requires pending-of-requires turned-requires returns)
+word-now-spec = tie.close (tie.spec (λ c κs. search needs) (λ c κs. search needs) (λ c κs. search needs) returns)

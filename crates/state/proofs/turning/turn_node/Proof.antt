@@ -11,12 +11,6 @@ use borrow.Author.Needs.{needs}
 use Rattle.state.proofs.turning.turn_node.Statement.{statement}
 use Rattle.state.proofs.turning.turn_node.Tie as tie
 
-is-xor-requires : tie.Need-is-xor-requires
-is-xor-requires c κs = search needs
-
-mul-first : tie.Need-mul-first
-mul-first c = search needs
-
 -- the places on the way: the kind is known, and each word has been turned
 abbrev graph-of : tie.Start → List ℕ → Graph
 graph-of s ns = graphOf (s .args .inputs) (s .args .nodes) (s .args .outputs) ns (s .args .output-table .now)
@@ -77,9 +71,6 @@ turn-word-by-requires c κs =
 flag-of-requires-2 : tie.Need-flag-of-requires-2
 flag-of-requires-2 c κs = (has (c .before .before .before .before .before .before .before .before), omega arith)
 
-add-turn-word-by : tie.Need-add-turn-word-by
-add-turn-word-by c = search needs
-
 turn-word-by-requires-2 : tie.Need-turn-word-by-requires-2
 turn-word-by-requires-2 c κs =
     let d = c .before .before .before .before .before .before .before .before in
@@ -95,9 +86,6 @@ turn-word-by-requires-2 c κs =
 
 flag-of-requires-3 : tie.Need-flag-of-requires-3
 flag-of-requires-3 c κs = (has (c .before .before .before .before .before .before .before .before .before .before .before .before .before .before .before .before), omega arith)
-
-add-turn-word-by-2 : tie.Need-add-turn-word-by-2
-add-turn-word-by-2 c = search needs
 
 turn-word-by-requires-3 : tie.Need-turn-word-by-requires-3
 turn-word-by-requires-3 c κs =
@@ -147,15 +135,15 @@ pub turn-node-spec : {M : Type 1} → statement M
 turn-node-spec =
     tie.close
     (tie.spec
-    is-xor-requires
-    mul-first
+    (λ c κs. search needs)
+    (λ c. search needs)
     flag-of-requires
     turn-word-by-requires
     flag-of-requires-2
-    add-turn-word-by
+    (λ c. search needs)
     turn-word-by-requires-2
     flag-of-requires-3
-    add-turn-word-by-2
+    (λ c. search needs)
     turn-word-by-requires-3
     flag-of-requires-4
     turn-readers-requires

@@ -26,59 +26,14 @@ returns c =
 front : (s : tie.Start) → getD (s .args .scratch .now) (8 * s .args .v) 0 ≡ field (s .args .scratch .now) (s .args .v) 0
 front s = ap (λ i. getD (s .args .scratch .now) i 0) (omega arith)
 
-mul-at : tie.Need-mul-at
-mul-at c = search needs
-
-mul-others : tie.Need-mul-others
-mul-others c = search needs
-
-slice-read-others : tie.Need-slice-read-others
-slice-read-others c = search needs
-
-add-others : tie.Need-add-others
-add-others c = search needs
-
-mul-others-2 : tie.Need-mul-others-2
-mul-others-2 c = search needs
-
-slice-read-others-2 : tie.Need-slice-read-others-2
-slice-read-others-2 c = search needs
-
 sub-others : tie.Need-sub-others
 sub-others c = let s = c .before .before .before in omega (arith, front s, odd-reads (graph-of s) (s .args .scratch .now) (s .pre .0) (s .args .v) (s .pre .1))
-
-add-pending : tie.Need-add-pending
-add-pending c = search needs
-
-mul-pending : tie.Need-mul-pending
-mul-pending c = search needs
-
-slice-read-pending : tie.Need-slice-read-pending
-slice-read-pending c = search needs
 
 sub-pending : tie.Need-sub-pending
 sub-pending c = let s = c .before .before .before .before in omega (arith, s .pre .0 .pending (s .args .v) (s .pre .1))
 
-add-scratch : tie.Need-add-scratch
-add-scratch c = search needs
-
-mul-scratch : tie.Need-mul-scratch
-mul-scratch c = search needs
-
-slice-write-scratch : tie.Need-slice-write-scratch
-slice-write-scratch c = search needs
-
-add-scratch-2 : tie.Need-add-scratch-2
-add-scratch-2 c = search needs
-
-mul-scratch-2 : tie.Need-mul-scratch-2
-mul-scratch-2 c = search needs
-
 slice-write-scratch-2 : tie.Need-slice-write-scratch-2
 slice-write-scratch-2 c = let s = c .before .before .before .before in simp length-set (omega (arith, s .pre .0 .long, s .pre .1))
-
-same-length : tie.Need-same-length
-same-length c = search needs
 
 returns-2 : tie.Need-returns-2
 returns-2 c =
@@ -97,22 +52,22 @@ turn-readers-spec =
     tie.close
     (tie.spec
     returns
-    mul-at
-    mul-others
-    slice-read-others
-    add-others
-    mul-others-2
-    slice-read-others-2
+    (λ c. search needs)
+    (λ c. search needs)
+    (λ c. search needs)
+    (λ c. search needs)
+    (λ c. search needs)
+    (λ c. search needs)
     sub-others
-    add-pending
-    mul-pending
-    slice-read-pending
+    (λ c. search needs)
+    (λ c. search needs)
+    (λ c. search needs)
     sub-pending
-    add-scratch
-    mul-scratch
-    slice-write-scratch
-    add-scratch-2
-    mul-scratch-2
+    (λ c. search needs)
+    (λ c. search needs)
+    (λ c. search needs)
+    (λ c. search needs)
+    (λ c. search needs)
     slice-write-scratch-2
-    same-length
+    (λ c. search needs)
     returns-2)

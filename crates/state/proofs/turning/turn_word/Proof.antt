@@ -12,12 +12,6 @@ use borrow.Author.Needs.{needs}
 use Rattle.state.proofs.turning.turn_word.Statement.{statement}
 use Rattle.state.proofs.turning.turn_word.Tie as tie
 
-word-now-requires : tie.Need-word-now-requires
-word-now-requires c κs = search needs
-
-word-at-requires : tie.Need-word-at-requires
-word-at-requires c κs = search needs
-
 abbrev graph-of : tie.Start → Graph
 graph-of s = graphOf (s .args .inputs) (s .args .nodes) (s .args .outputs) (s .args .node-table .now) (s .args .output-table .now)
 
@@ -29,12 +23,6 @@ turn-word-requires c κs =
       omega (arith, d .long-nodes, s .pre .1),
       λ p. omega (arith, names-low (graph-of s) (s .args .scratch .now) (s .pre .0) (s .args .j) (s .pre .1) (s .pre .2), d .few-inputs, d .few-nodes),
     )
-
-same-length : tie.Need-same-length
-same-length c = search needs
-
-same-length-2 : tie.Need-same-length-2
-same-length-2 c = search needs
 
 returns : tie.Need-returns
 returns c =
@@ -69,24 +57,6 @@ names c =
     let n = names-low (graph-of s) (s .args .scratch .now) o (s .args .j) (s .pre .1) (s .pre .2) in
     record { few = o .admitted .few-nodes; below = omega (arith, n, e, c .if1 .left); is = omega (arith, n, e, c .if1 .left); long = o .long }
 
-add-v : tie.Need-add-v
-add-v c = search needs
-
-sub-v : tie.Need-sub-v
-sub-v c = search needs
-
-cast-at : tie.Need-cast-at
-cast-at c = search needs
-
-mul-at : tie.Need-mul-at
-mul-at c = search needs
-
-add-at : tie.Need-add-at
-add-at c = search needs
-
-mul-d : tie.Need-mul-d
-mul-d c = search needs
-
 slice-read-d : tie.Need-slice-read-d
 slice-read-d c = let n = names (c .before) in omega (arith, n .below, n .long)
 
@@ -105,17 +75,8 @@ adjusted-requires c κs =
       odd-le (graph-of s) (s .args .scratch .now) (s .pre .0) (named (c .before)) (n .below),
     )
 
-mul-scratch : tie.Need-mul-scratch
-mul-scratch c = search needs
-
 slice-write-scratch : tie.Need-slice-write-scratch
 slice-write-scratch c = let n = names (c .before .before) in omega (arith, n .below, n .long)
-
-same-length-3 : tie.Need-same-length-3
-same-length-3 c = search needs
-
-same-length-4 : tie.Need-same-length-4
-same-length-4 c = search needs
 
 returns-2 : tie.Need-returns-2
 returns-2 c =
@@ -131,22 +92,22 @@ pub turn-word-spec : {M : Type 1} → statement M
 turn-word-spec =
     tie.close
     (tie.spec
-    word-now-requires
-    word-at-requires
+    (λ c κs. search needs)
+    (λ c κs. search needs)
     turn-word-requires
-    same-length
-    same-length-2
+    (λ c. search needs)
+    (λ c. search needs)
     returns
-    add-v
-    sub-v
-    cast-at
-    mul-at
-    add-at
-    mul-d
+    (λ c. search needs)
+    (λ c. search needs)
+    (λ c. search needs)
+    (λ c. search needs)
+    (λ c. search needs)
+    (λ c. search needs)
     slice-read-d
     adjusted-requires
-    mul-scratch
+    (λ c. search needs)
     slice-write-scratch
-    same-length-3
-    same-length-4
+    (λ c. search needs)
+    (λ c. search needs)
     returns-2)

@@ -33,12 +33,6 @@ turn-word-requires c κs =
           (true-or-false (isEdge (graph-of s) (s .args .j))),
     )
 
-same-length : tie.Need-same-length
-same-length c = search needs
-
-same-length-2 : tie.Need-same-length-2
-same-length-2 c = search needs
-
 returns-2 : tie.Need-returns-2
 returns-2 c =
     let t = c .before .before .before .before in
@@ -51,4 +45,4 @@ returns-2 c =
 
 pub turn-word-by-spec : {M : Type 1} → statement M
 turn-word-by-spec =
-    tie.close (tie.spec returns turn-word-requires same-length same-length-2 returns-2)
+    tie.close (tie.spec returns turn-word-requires (λ c. search needs) (λ c. search needs) returns-2)

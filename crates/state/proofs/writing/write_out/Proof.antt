@@ -5,21 +5,6 @@ use borrow.Author.Needs.{needs}
 use Rattle.state.proofs.writing.write_out.Statement.{statement}
 use Rattle.state.proofs.writing.write_out.Tie as tie
 
-mul-end : tie.Need-mul-end
-mul-end c = search needs
-
-write-words-requires : tie.Need-write-words-requires
-write-words-requires c κs = search needs
-
-write-words-requires-2 : tie.Need-write-words-requires-2
-write-words-requires-2 c κs = search needs
-
-same-length : tie.Need-same-length
-same-length c = search needs
-
-same-length-2 : tie.Need-same-length-2
-same-length-2 c = search needs
-
 returns : tie.Need-returns
 returns c =
     let t = c .before .before .write-words2 in
@@ -31,4 +16,4 @@ returns c =
 pub write-out-spec : {M : Type 1} → statement M
 write-out-spec =
     tie.close
-    (tie.spec mul-end write-words-requires write-words-requires-2 same-length same-length-2 returns)
+    (tie.spec (λ c. search needs) (λ c κs. search needs) (λ c κs. search needs) (λ c. search needs) (λ c. search needs) returns)

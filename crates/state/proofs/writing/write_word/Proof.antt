@@ -10,21 +10,12 @@ use borrow.Author.Needs.{needs}
 use Rattle.state.proofs.writing.write_word.Statement.{statement}
 use Rattle.state.proofs.writing.write_word.Tie as tie
 
-index-at-requires : tie.Need-index-at-requires
-index-at-requires c κs = search needs
-
-pending-of-requires : tie.Need-pending-of-requires
-pending-of-requires c κs = search needs
-
 abbrev start : tie.After-pending-of → tie.Start
 start c = c .before .before .before .before .before
 
 is-due : (c : tie.After-pending-of)
     → c .pending-of .result ≡ dueIn (start c .args .inputs) (start c .args .nodes) (start c .args .scratch .now) (start c .args .words .now) (start c .args .j)
 is-due c = let a = start c .args in c .pending-of .ensures .0 ∙ ap (λ u. pendingAt (a .inputs) (a .nodes) (a .scratch .now) u) (c .before .index-at .ensures)
-
-same-length : tie.Need-same-length
-same-length c = search needs
 
 returns : tie.Need-returns
 returns c = let a = start (c .before) .args in none-turned (a .words .now) (a .j) _ (sym (is-due (c .before)) ∙ c .if1 .taken)
@@ -41,9 +32,6 @@ turn-word-requires c κs =
           omega (arith, pending-names (a .inputs) (a .nodes) (a .scratch .now) (getD (a .words .now) (a .j) 0 / 2) w, s .pre .0 .few-inputs, s .pre .0 .few-nodes),
     )
 
-same-length-2 : tie.Need-same-length-2
-same-length-2 c = search needs
-
 returns-2 : tie.Need-returns-2
 returns-2 c =
     let q = c .before .before .before .before .before in
@@ -54,10 +42,10 @@ pub write-word-spec : {M : Type 1} → statement M
 write-word-spec =
     tie.close
     (tie.spec
-    index-at-requires
-    pending-of-requires
-    same-length
+    (λ c κs. search needs)
+    (λ c κs. search needs)
+    (λ c. search needs)
     returns
     turn-word-requires
-    same-length-2
+    (λ c. search needs)
     returns-2)

@@ -28,12 +28,6 @@ write-word-requires c κs =
     let s = l .before .before .before in
     (s .pre .0, omega (arith, c .before .loop-test .taken, l .loop .inv .1, s .pre .1))
 
-add-j : tie.Need-add-j Inv-loop μ-loop
-add-j c = omega arith
-
-loop-less : tie.Need-loop-less Inv-loop μ-loop
-loop-less c = omega arith
-
 loop-again : tie.Need-loop-again Inv-loop μ-loop
 loop-again c =
     let r = c .before .before .write-word in
@@ -65,8 +59,8 @@ write-words-spec =
     μ-loop
     loop-holds
     write-word-requires
-    add-j
-    loop-less
+    (λ c. omega arith)
+    (λ c. omega arith)
     loop-again
     same-length
     returns)

@@ -36,9 +36,6 @@ add-result c =
     let g : Graph = graphOf (a .inputs) (a .nodes) (a .outputs) (a .node-table .now) (a .output-table .now) in
     omega (arith, length-file g, length-outputs (g .outputs) 0 (g .O))
 
-same-length : tie.Need-same-length
-same-length c = search needs
-
 returns : tie.Need-returns
 returns c =
     let a = c .before .before .before .before .before .before .before .before .before .before .before .before .before .before .before .before .before .before .before .args in
@@ -55,5 +52,5 @@ put-file-spec =
     put-outputs-requires
     put-head-requires
     add-result
-    same-length
+    (λ c. search needs)
     returns)

@@ -7,23 +7,11 @@ use borrow.Author.Needs.{needs}
 use Rattle.tagged_file.proofs.emit.put_head.Statement.{statement}
 use Rattle.tagged_file.proofs.emit.put_head.Tie as tie
 
-slice-write-buffer : tie.Need-slice-write-buffer
-slice-write-buffer c = search needs
-
-add-buffer : tie.Need-add-buffer
-add-buffer c = search needs
-
 slice-write-buffer-2 : tie.Need-slice-write-buffer-2
 slice-write-buffer-2 c = simp length-set (omega arith)
 
-add-buffer-2 : tie.Need-add-buffer-2
-add-buffer-2 c = search needs
-
 slice-write-buffer-3 : tie.Need-slice-write-buffer-3
 slice-write-buffer-3 c = simp length-set (omega arith)
-
-same-length : tie.Need-same-length
-same-length c = search needs
 
 returns : tie.Need-returns
 returns c =
@@ -36,10 +24,10 @@ pub put-head-spec : {M : Type 1} → statement M
 put-head-spec =
     tie.close
     (tie.spec
-    slice-write-buffer
-    add-buffer
+    (λ c. search needs)
+    (λ c. search needs)
     slice-write-buffer-2
-    add-buffer-2
+    (λ c. search needs)
     slice-write-buffer-3
-    same-length
+    (λ c. search needs)
     returns)

@@ -18,24 +18,12 @@ abbrev μ-loop : tie.MeasureT-loop
 loop-holds : tie.Need-loop-holds Inv-loop μ-loop
 loop-holds c = record { counted = omega arith; fits = refl; same = refl; bytes = refl }
 
-word-at-requires : tie.Need-word-at-requires Inv-loop μ-loop
-word-at-requires c κs = omega arith
-
 put-output-requires : tie.Need-put-output-requires Inv-loop μ-loop
 unfolding outputFieldAt
 put-output-requires c κs = let l = c .before .before .before .loop in let r = left-room _ _ _ _ (l .buffer) (l .at) (l .v) (l .left) (l .inv) (omega arith) (c .before .before .before .before .before .before .pre .1) in omega (arith, length-output-at (c .before .before .before .before .before .before .args .output-table .now) (l .v))
 
 add-at : tie.Need-add-at Inv-loop μ-loop
 add-at c = let l = c .before .before .before .before .before .before .loop in let r = left-room _ _ _ _ (l .buffer) (l .at) (l .v) (l .left) (l .inv) (omega arith) (c .before .before .before .before .before .before .before .before .before .pre .1) in omega (arith, length-output-at (c .before .before .before .before .before .before .before .before .before .args .output-table .now) (l .v))
-
-add-v : tie.Need-add-v Inv-loop μ-loop
-add-v c = omega arith
-
-sub-left : tie.Need-sub-left Inv-loop μ-loop
-sub-left c = omega arith
-
-loop-less : tie.Need-loop-less Inv-loop μ-loop
-loop-less c = omega arith
 
 loop-again : tie.Need-loop-again Inv-loop μ-loop
 unfolding outputFieldAt
@@ -54,12 +42,12 @@ put-outputs-spec =
     Inv-loop
     μ-loop
     loop-holds
-    word-at-requires
+    (λ c κs. omega arith)
     put-output-requires
     add-at
-    add-v
-    sub-left
-    loop-less
+    (λ c. omega arith)
+    (λ c. omega arith)
+    (λ c. omega arith)
     loop-again
     same-length
     returns)

@@ -4,24 +4,6 @@ use borrow.Author.Needs.{needs}
 use Rattle.tagged_file.proofs.emit.put_xor.Statement.{statement}
 use Rattle.tagged_file.proofs.emit.put_xor.Tie as tie
 
-put-head-requires : tie.Need-put-head-requires
-put-head-requires c κs = search needs
-
-add-put-number : tie.Need-add-put-number
-add-put-number c = search needs
-
-put-number-requires : tie.Need-put-number-requires
-put-number-requires c κs = search needs
-
-add-put-number-2 : tie.Need-add-put-number-2
-add-put-number-2 c = search needs
-
-put-number-requires-2 : tie.Need-put-number-requires-2
-put-number-requires-2 c κs = search needs
-
-same-length : tie.Need-same-length
-same-length c = search needs
-
 returns : tie.Need-returns
 returns c = two-stored _ _ _ _ _ _ _ _ (c .before .before .before .before .before .before .before .before .before .before .put-head .ensures) (c .before .before .before .before .before .before .put-number .ensures) (c .before .before .put-number2 .ensures)
 
@@ -29,10 +11,10 @@ pub put-xor-spec : {M : Type 1} → statement M
 put-xor-spec =
     tie.close
     (tie.spec
-    put-head-requires
-    add-put-number
-    put-number-requires
-    add-put-number-2
-    put-number-requires-2
-    same-length
+    (λ c κs. search needs)
+    (λ c. search needs)
+    (λ c κs. search needs)
+    (λ c. search needs)
+    (λ c κs. search needs)
+    (λ c. search needs)
     returns)

@@ -6,21 +6,9 @@ use borrow.Author.Needs.{needs}
 use Rattle.tagged_file.proofs.faults.file_bytes.Statement.{statement}
 use Rattle.tagged_file.proofs.faults.file_bytes.Tie as tie
 
-nodes-bytes-requires : tie.Need-nodes-bytes-requires
-nodes-bytes-requires c κs = search needs
-
-add-result : tie.Need-add-result
-add-result c = search needs
-
-mul-result : tie.Need-mul-result
-mul-result c = search needs
-
-add-result-2 : tie.Need-add-result-2
-add-result-2 c = search needs
-
 returns : tie.Need-returns
 returns c = λ i os. let a = c .before .before .args in omega (arith, length-file (graphOf i (a .nodes) (a .outputs) (a .node-table .now) os))
 
 pub file-bytes-spec : {M : Type 1} → statement M
 file-bytes-spec =
-    tie.close (tie.spec nodes-bytes-requires add-result mul-result add-result-2 returns)
+    tie.close (tie.spec (λ c κs. search needs) (λ c. search needs) (λ c. search needs) (λ c. search needs) returns)

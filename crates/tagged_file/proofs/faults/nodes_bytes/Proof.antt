@@ -19,30 +19,6 @@ abbrev μ-loop : tie.MeasureT-loop
 loop-holds : tie.Need-loop-holds Inv-loop μ-loop
 loop-holds c = (omega arith, zero-add _, omega arith)
 
-mul-third : tie.Need-mul-third Inv-loop μ-loop
-mul-third c = omega arith
-
-add-third : tie.Need-add-third Inv-loop μ-loop
-add-third c = omega arith
-
-word-at-requires : tie.Need-word-at-requires Inv-loop μ-loop
-word-at-requires c κs = omega arith
-
-node-bytes-requires : tie.Need-node-bytes-requires Inv-loop μ-loop
-node-bytes-requires c κs = search needs
-
-add-size : tie.Need-add-size Inv-loop μ-loop
-add-size c = omega arith
-
-add-v : tie.Need-add-v Inv-loop μ-loop
-add-v c = omega arith
-
-sub-left : tie.Need-sub-left Inv-loop μ-loop
-sub-left c = omega arith
-
-loop-less : tie.Need-loop-less Inv-loop μ-loop
-loop-less c = omega arith
-
 loop-again : tie.Need-loop-again Inv-loop μ-loop
 unfolding nodeFieldAt
 loop-again c =
@@ -63,13 +39,13 @@ nodes-bytes-spec =
     Inv-loop
     μ-loop
     loop-holds
-    mul-third
-    add-third
-    word-at-requires
-    node-bytes-requires
-    add-size
-    add-v
-    sub-left
-    loop-less
+    (λ c. omega arith)
+    (λ c. omega arith)
+    (λ c κs. omega arith)
+    (λ c κs. search needs)
+    (λ c. omega arith)
+    (λ c. omega arith)
+    (λ c. omega arith)
+    (λ c. omega arith)
     loop-again
     returns)

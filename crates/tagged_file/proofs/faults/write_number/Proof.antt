@@ -9,9 +9,6 @@ use borrow.Author.Needs.{needs}
 use Rattle.tagged_file.proofs.faults.write_number.Statement.{statement}
 use Rattle.tagged_file.proofs.faults.write_number.Tie as tie
 
-admission-number-requires : tie.Need-admission-number-requires
-admission-number-requires c κs = search needs
-
 returns : tie.Need-returns
 unfolding writeNumber
 returns c = let e = c .before .admission-number .ensures in fault _ _ e (λ z. c .if1 .taken (e ∙ z))
@@ -40,4 +37,4 @@ returns-3 c =
 
 pub write-number-spec : {M : Type 1} → statement M
 write-number-spec =
-    tie.close (tie.spec admission-number-requires returns file-bytes-requires returns-2 returns-3)
+    tie.close (tie.spec (λ c κs. search needs) returns file-bytes-requires returns-2 returns-3)

@@ -28,18 +28,6 @@ sub-s c = let l = c .before .before .before .before .before .before .loop in ome
 part-s-start : tie.Need-part-s-start Inv-loop μ-loop
 part-s-start c = let l = c .before .before .before .before .before .before .loop in omega (arith, outputs-left-room _ _ _ (l .output-table) (now (l .s)) (l .at) (l .left) (omega arith) (l .inv))
 
-part-s-end : tie.Need-part-s-end Inv-loop μ-loop
-part-s-end c = omega arith
-
-add-at : tie.Need-add-at Inv-loop μ-loop
-add-at c = omega arith
-
-sub-left : tie.Need-sub-left Inv-loop μ-loop
-sub-left c = omega arith
-
-loop-less : tie.Need-loop-less Inv-loop μ-loop
-loop-less c = omega arith
-
 loop-again : tie.Need-loop-again Inv-loop μ-loop
 loop-again c =
     let x = c .before .before .before in
@@ -64,10 +52,10 @@ fill-outputs-spec =
     set-word-requires
     sub-s
     part-s-start
-    part-s-end
-    add-at
-    sub-left
-    loop-less
+    (λ c. omega arith)
+    (λ c. omega arith)
+    (λ c. omega arith)
+    (λ c. omega arith)
     loop-again
     same-length
     returns)

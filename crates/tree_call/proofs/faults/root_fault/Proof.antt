@@ -6,9 +6,6 @@ use borrow.Author.Needs.{needs}
 use Rattle.tree_call.proofs.faults.root_fault.Statement.{statement}
 use Rattle.tree_call.proofs.faults.root_fault.Tie as tie
 
-readers-of-requires : tie.Need-readers-of-requires
-readers-of-requires c κs = search needs
-
 returns : tie.Need-returns
 returns c =
     let st = c .before .before .before .before .before in
@@ -31,4 +28,4 @@ returns-3 c =
     no-root g (a .root) (sym (c .before .before .before .before .readers-of .ensures .all) ∙ c .before .before .if1 .left) (sym (c .before .before .before .before .readers-of .ensures .in-nodes) ∙ c .if2 .left)
 
 pub root-fault-spec : {M : Type 1} → statement M
-root-fault-spec = tie.close (tie.spec readers-of-requires returns returns-2 returns-3)
+root-fault-spec = tie.close (tie.spec (λ c κs. search needs) returns returns-2 returns-3)

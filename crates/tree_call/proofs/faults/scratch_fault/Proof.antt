@@ -5,9 +5,6 @@ use borrow.Author.Needs.{needs}
 use Rattle.tree_call.proofs.faults.scratch_fault.Statement.{statement}
 use Rattle.tree_call.proofs.faults.scratch_fault.Tie as tie
 
-mul-if1 : tie.Need-mul-if1
-mul-if1 c = search needs
-
 returns : tie.Need-returns
 returns c = λ i o ns os. short-scratch (graphOf i (c .before .args .nodes) o ns os) (c .before .args .length) (c .if1 .taken)
 
@@ -15,4 +12,4 @@ returns-2 : tie.Need-returns-2
 returns-2 c = λ i o ns os. long-scratch (graphOf i (c .before .args .nodes) o ns os) (c .before .args .length) (c .if1 .left)
 
 pub scratch-fault-spec : {M : Type 1} → statement M
-scratch-fault-spec = tie.close (tie.spec mul-if1 returns returns-2)
+scratch-fault-spec = tie.close (tie.spec (λ c. search needs) returns returns-2)

@@ -10,9 +10,6 @@ use borrow.Author.Needs.{needs}
 use Rattle.tree_call.proofs.faults.tree_number.Statement.{statement}
 use Rattle.tree_call.proofs.faults.tree_number.Tie as tie
 
-admission-number-requires : tie.Need-admission-number-requires
-admission-number-requires c κs = search needs
-
 returns : tie.Need-returns
 returns c =
     let st = c .before .before .before .before in
@@ -54,9 +51,6 @@ scratch-fault-requires c κs =
     let e : admissionNumber g ≡ 0 = sym (c .before .before .before .before .admission-number .ensures) ∙ c .before .before .before .if1 .left in
     admitted g e .few-nodes
 
-first-fault-requires : tie.Need-first-fault-requires
-first-fault-requires c κs = search needs
-
 returns-3 : tie.Need-returns-3
 returns-3 c =
     let st = c .before .before .before .before .before .before .before .before .before in
@@ -70,11 +64,11 @@ pub tree-number-spec : {M : Type 1} → statement M
 tree-number-spec =
     tie.close
     (tie.spec
-    admission-number-requires
+    (λ c κs. search needs)
     returns
     node-fault-requires
     returns-2
     root-fault-requires
     scratch-fault-requires
-    first-fault-requires
+    (λ c κs. search needs)
     returns-3)

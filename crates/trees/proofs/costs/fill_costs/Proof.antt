@@ -51,9 +51,6 @@ abbrev μ-loop : tie.MeasureT-loop
 read-requires : tie.Need-read-requires Inv-loop μ-loop
 read-requires c κs = omega (arith, c .before .before .before .before .pre .0 .long, c .before .before .before .before .pre .0 .admitted .few-nodes, c .before .before .before .before .pre .1)
 
-wide-requires : tie.Need-wide-requires Inv-loop μ-loop
-wide-requires c κs = search needs
-
 loop-holds : tie.Need-loop-holds Inv-loop μ-loop
 loop-holds c = let p = c .before .before .before .before .before .before .pre in begin _ _ (p .0) _ (p .1) (p .2) _ (c .wide .ensures ∙ c .before .read .ensures)
 
@@ -65,9 +62,6 @@ store-requires c κs = omega (arith, c .before .before .before .before .loop .in
 
 read-requires-2 : tie.Need-read-requires-2 Inv-loop μ-loop
 read-requires-2 c κs = omega (arith, c .before .before .before .before .before .before .before .before .loop .inv .within, c .before .before .before .before .before .before .before .before .loop .inv .only .same, c .before .before .before .before .before .before .before .before .before .before .before .before .before .before .before .pre .0 .long, c .before .before .before .before .before .before .before .before .before .before .before .before .before .before .before .pre .0 .admitted .few-nodes, c .before .before .before .before .before .before .before .before .before .before .before .before .before .before .before .pre .1)
-
-wide-requires-2 : tie.Need-wide-requires-2 Inv-loop μ-loop
-wide-requires-2 c κs = search needs
 
 loop-less : tie.Need-loop-less Inv-loop μ-loop
 loop-less c =
@@ -93,12 +87,12 @@ fill-costs-spec =
     Inv-loop
     μ-loop
     read-requires
-    wide-requires
+    (λ c κs. search needs)
     loop-holds
     node-costs-requires
     store-requires
     read-requires-2
-    wide-requires-2
+    (λ c κs. search needs)
     loop-less
     loop-again
     same-length

@@ -5,9 +5,6 @@ use Rattle.moves.proofs.Deciding.{cost-le}
 use Rattle.trees.proofs.costs.least_cost.Statement.{statement}
 use Rattle.trees.proofs.costs.least_cost.Tie as tie
 
-least-move-requires : tie.Need-least-move-requires
-least-move-requires c κs = search needs
-
 returns : tie.Need-returns
 returns c =
     let l = c .least-move in
@@ -20,4 +17,4 @@ returns c =
     }
 
 pub least-cost-spec : {M : Type 1} → statement M
-least-cost-spec = tie.close (tie.spec least-move-requires returns)
+least-cost-spec = tie.close (tie.spec (λ c κs. search needs) returns)

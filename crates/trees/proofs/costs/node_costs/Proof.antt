@@ -5,15 +5,6 @@ use borrow.Author.Needs.{needs}
 use Rattle.trees.proofs.costs.node_costs.Statement.{statement}
 use Rattle.trees.proofs.costs.node_costs.Tie as tie
 
-tree-numbers-requires : tie.Need-tree-numbers-requires
-tree-numbers-requires c κs = search needs
-
-is-xor-requires : tie.Need-is-xor-requires
-is-xor-requires c κs = search needs
-
-moves-at-requires : tie.Need-moves-at-requires
-moves-at-requires c κs = search needs
-
 cost-bits-requires : tie.Need-cost-bits-requires
 cost-bits-requires c κs =
     let t = c .before .before .tree-numbers in
@@ -28,4 +19,4 @@ returns c = bits-of _ _ (c .before .before .before .before .before .before .befo
 
 pub node-costs-spec : {M : Type 1} → statement M
 node-costs-spec =
-    tie.close (tie.spec tree-numbers-requires is-xor-requires moves-at-requires cost-bits-requires returns)
+    tie.close (tie.spec (λ c κs. search needs) (λ c κs. search needs) (λ c κs. search needs) cost-bits-requires returns)

@@ -5,12 +5,6 @@ use borrow.Author.Needs.{needs}
 use Rattle.trees.proofs.costs.word_number.Statement.{statement}
 use Rattle.trees.proofs.costs.word_number.Tie as tie
 
-is-edge-requires : tie.Need-is-edge-requires
-is-edge-requires c κs = search needs
-
-add-edge-cost : tie.Need-add-edge-cost
-add-edge-cost c = search needs
-
 edge-cost-requires : tie.Need-edge-cost-requires
 edge-cost-requires c κs =
     let p = c .before .before .before .pre in
@@ -24,4 +18,4 @@ returns-2 c = let a = c .before .before .before .args in as-none _ _ (a .j) (a .
 
 pub word-number-spec : {M : Type 1} → statement M
 word-number-spec =
-    tie.close (tie.spec is-edge-requires add-edge-cost edge-cost-requires returns returns-2)
+    tie.close (tie.spec (λ c κs. search needs) (λ c. search needs) edge-cost-requires returns returns-2)

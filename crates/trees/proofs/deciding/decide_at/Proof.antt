@@ -5,21 +5,6 @@ use borrow.Author.Needs.{needs}
 use Rattle.trees.proofs.deciding.decide_at.Statement.{statement}
 use Rattle.trees.proofs.deciding.decide_at.Tie as tie
 
-tree-numbers-requires : tie.Need-tree-numbers-requires
-tree-numbers-requires c κs = search needs
-
-read-requires : tie.Need-read-requires
-read-requires c κs = search needs
-
-odd-at-requires : tie.Need-odd-at-requires
-odd-at-requires c κs = search needs
-
-is-xor-requires : tie.Need-is-xor-requires
-is-xor-requires c κs = search needs
-
-moves-at-requires : tie.Need-moves-at-requires
-moves-at-requires c κs = search needs
-
 first-least-requires : tie.Need-first-least-requires
 first-least-requires c κs =
     let s = c .before .before .before .before .before .before .before .before in
@@ -36,10 +21,10 @@ pub decide-at-spec : {M : Type 1} → statement M
 decide-at-spec =
     tie.close
     (tie.spec
-    tree-numbers-requires
-    read-requires
-    odd-at-requires
-    is-xor-requires
-    moves-at-requires
+    (λ c κs. search needs)
+    (λ c κs. search needs)
+    (λ c κs. search needs)
+    (λ c κs. search needs)
+    (λ c κs. search needs)
     first-least-requires
     returns)

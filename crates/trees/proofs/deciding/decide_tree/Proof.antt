@@ -19,20 +19,14 @@ module _ (g : Graph) (sc sc₁ : List ℕ) (co : CostsOnly sc sc₁) where
   both u sc₂ td c =
       ((rw (stands-costs g sc sc₁ co) at td), record { same = c .same ∙ co .same; kept = λ j d. c .kept j d ∙ co .kept j d })
 
-fill-costs-requires : tie.Need-fill-costs-requires
-fill-costs-requires c κs = search needs
-
 fill-moves-requires : tie.Need-fill-moves-requires
 fill-moves-requires c κs =
     let p = c .before .before .before .before .before .before .before .before .pre in
     let f = c .before .before .before .fill-costs .ensures in
     (ordered-costs _ _ _ (f .1) (p .0), p .1, p .2, same-costs _ _ _ (f .1) _ _ (f .0))
 
-same-length : tie.Need-same-length
-same-length c = search needs
-
 returns : tie.Need-returns
 returns c = let m = c .before .before .fill-moves .ensures in both _ _ _ (c .before .before .before .before .before .before .fill-costs .ensures .1) _ _ (m .0) (m .1)
 
 pub decide-tree-spec : {M : Type 1} → statement M
-decide-tree-spec = tie.close (tie.spec fill-costs-requires fill-moves-requires same-length returns)
+decide-tree-spec = tie.close (tie.spec (λ c κs. search needs) fill-moves-requires (λ c. search needs) returns)

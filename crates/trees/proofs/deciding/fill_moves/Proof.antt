@@ -99,9 +99,6 @@ narrow-requires c κs = omega (arith, c .before .before .before .pre .0 .admitte
 loop-holds : tie.Need-loop-holds Inv-loop μ-loop
 loop-holds c = let p = c .before .before .before .before .pre in begin _ _ (p .0) _ (p .1) (p .2) _ (c .narrow .ensures)
 
-wide-requires : tie.Need-wide-requires Inv-loop μ-loop
-wide-requires c κs = search needs
-
 decide-at-requires : tie.Need-decide-at-requires Inv-loop μ-loop
 decide-at-requires c κs =
     let p = c .before .before .before .before .before .before .before .before .pre in
@@ -138,7 +135,7 @@ fill-moves-spec =
     μ-loop
     narrow-requires
     loop-holds
-    wide-requires
+    (λ c κs. search needs)
     decide-at-requires
     store-requires
     read-requires

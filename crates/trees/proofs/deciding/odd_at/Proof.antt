@@ -6,17 +6,8 @@ use borrow.Author.Needs.{needs}
 use Rattle.trees.proofs.deciding.odd_at.Statement.{statement}
 use Rattle.trees.proofs.deciding.odd_at.Tie as tie
 
-read-requires : tie.Need-read-requires
-read-requires c κs = search needs
-
-read-requires-2 : tie.Need-read-requires-2
-read-requires-2 c κs = search needs
-
 returns : tie.Need-returns
 returns c = odd-mark _ _ _ _ _ (c .before .before .read .ensures) (c .before .if1 .taken) (c .read2 .ensures)
-
-wide-requires : tie.Need-wide-requires
-wide-requires c κs = search needs
 
 shown-bit-requires : tie.Need-shown-bit-requires
 shown-bit-requires c κs =
@@ -30,4 +21,4 @@ returns-2 c = odd-place _ _ _ _ _ (c .before .wide .ensures ∙ c .before .befor
 pub odd-at-spec : {M : Type 1} → statement M
 odd-at-spec =
     tie.close
-    (tie.spec read-requires read-requires-2 returns wide-requires shown-bit-requires returns-2)
+    (tie.spec (λ c κs. search needs) (λ c κs. search needs) returns (λ c κs. search needs) shown-bit-requires returns-2)

@@ -5,20 +5,8 @@ use borrow.Author.Needs.{needs}
 use Rattle.trees.proofs.deciding.shown_bit.Statement.{statement}
 use Rattle.trees.proofs.deciding.shown_bit.Tie as tie
 
-is-xor-requires : tie.Need-is-xor-requires
-is-xor-requires c κs = search needs
-
-read-requires : tie.Need-read-requires
-read-requires c κs = search needs
-
 flag-of-requires : tie.Need-flag-of-requires
 flag-of-requires c κs = (fits-kind _ _ _ _ _ (c .before .is-xor .ensures _ _ _ _) (c .read .ensures) (c .before .before .before .before .before .pre .2), omega arith)
-
-word-now-requires : tie.Need-word-now-requires
-word-now-requires c κs = search needs
-
-add-result : tie.Need-add-result
-add-result c = search needs
 
 returns : tie.Need-returns
 returns c = shown-is _ _ _ _ _ _ _ (c .word-now .ensures) (c .before .before .before .is-xor .ensures _ _ _ _) (c .before .before .read .ensures) (c .before .flag-of .ensures .0)
@@ -26,4 +14,4 @@ returns c = shown-is _ _ _ _ _ _ _ (c .word-now .ensures) (c .before .before .be
 pub shown-bit-spec : {M : Type 1} → statement M
 shown-bit-spec =
     tie.close
-    (tie.spec is-xor-requires read-requires flag-of-requires word-now-requires add-result returns)
+    (tie.spec (λ c κs. search needs) (λ c κs. search needs) flag-of-requires (λ c κs. search needs) (λ c. search needs) returns)

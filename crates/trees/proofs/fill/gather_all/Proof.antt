@@ -34,12 +34,6 @@ gather-requires c κs =
     let k = counts _ _ _ _ (c .before .before .loop .inv) (c .before .before .before .before .pre .2) (omega arith) in
     (omega arith, omega (arith, c .before .before .loop .inv .same), k .0, k .1)
 
-add-v : tie.Need-add-v Inv-loop μ-loop
-add-v c = omega arith
-
-loop-less : tie.Need-loop-less Inv-loop μ-loop
-loop-less c = omega arith
-
 loop-again : tie.Need-loop-again Inv-loop μ-loop
 loop-again c = record { within = omega arith; same = c .before .before .gather .kept .0 ∙ c .before .before .before .before .before .loop .inv .same; done = gathered-suc _ _ _ _ _ (c .before .before .before .before .before .loop .inv .done) (c .before .before .gather .ensures) }
 
@@ -59,8 +53,8 @@ gather-all-spec =
     μ-loop
     loop-holds
     gather-requires
-    add-v
-    loop-less
+    (λ c. omega arith)
+    (λ c. omega arith)
     loop-again
     same-length
     returns)

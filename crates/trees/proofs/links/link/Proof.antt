@@ -11,20 +11,8 @@ use borrow.Author.Needs.{needs}
 use Rattle.trees.proofs.links.link.Statement.{statement}
 use Rattle.trees.proofs.links.link.Tie as tie
 
-read-requires : tie.Need-read-requires
-read-requires c κs = search needs
-
-link-root-requires : tie.Need-link-root-requires
-link-root-requires c κs = search needs
-
-same-length : tie.Need-same-length
-same-length c = search needs
-
 returns : tie.Need-returns
 returns c = record { root = λ e. c .before .before .link-root .ensures; other = λ d. absurd (d (omega (arith, c .before .before .before .before .before .read .ensures))) }
-
-wide-requires : tie.Need-wide-requires
-wide-requires c κs = search needs
 
 root-at-requires : tie.Need-root-at-requires
 root-at-requires c κs =
@@ -41,9 +29,6 @@ link-below-requires c κs =
     let b = c .before .before .before .before .before .before .before .before .pre .4 (c .before .root-at .result) (omega (arith, a)) (omega (arith, a)) in
     omega (arith, a, b)
 
-same-length-2 : tie.Need-same-length-2
-same-length-2 c = search needs
-
 returns-2 : tie.Need-returns-2
 returns-2 c =
     let q : c .before .before .before .before .root-at .result ≡ rootAt (c .before .before .before .before .before .before .before .before .before .before .before .args .scratch .now) (field (c .before .before .before .before .before .before .before .before .before .before .before .args .scratch .now) (c .before .before .before .before .before .before .before .before .before .before .before .args .v) 3 / 3) =
@@ -54,12 +39,12 @@ pub link-spec : {M : Type 1} → statement M
 link-spec =
     tie.close
     (tie.spec
-    read-requires
-    link-root-requires
-    same-length
+    (λ c κs. search needs)
+    (λ c κs. search needs)
+    (λ c. search needs)
     returns
-    wide-requires
+    (λ c κs. search needs)
     root-at-requires
     link-below-requires
-    same-length-2
+    (λ c. search needs)
     returns-2)

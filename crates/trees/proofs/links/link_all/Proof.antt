@@ -53,16 +53,10 @@ abbrev μ-loop : tie.MeasureT-loop
 loop-holds : tie.Need-loop-holds Inv-loop μ-loop
 loop-holds c = begin _ _
 
-sub-v : tie.Need-sub-v Inv-loop μ-loop
-sub-v c = omega arith
-
 link-requires : tie.Need-link-requires Inv-loop μ-loop
 link-requires c κs =
     let e : c .before .before .loop .v ≡ (c .before .before .loop .v - 1) + 1 = omega arith in
     (omega (arith, c .before .before .before .before .pre .0), omega (arith, c .before .before .loop .inv .same, c .before .before .before .before .pre .1), omega (arith, c .before .before .loop .inv .within), rises (c .before .before .before .before .args .nodes) (c .before .before .before .before .args .scratch .now) (c .before .before .loop .scratch) (c .before .before .loop .inv .kept) (c .before .before .before .before .pre .2), rw (← e) (c .before .before .loop .inv .bounded))
-
-loop-less : tie.Need-loop-less Inv-loop μ-loop
-loop-less c = omega arith
 
 loop-again : tie.Need-loop-again Inv-loop μ-loop
 loop-again c = again _ _ _ _ _ _ (c .before .before .before .before .before .loop .inv) (omega arith) (c .before .before .before .before .before .before .before .pre .2) (c .before .before .link .kept .1 .0) (c .before .before .link .ensures)
@@ -82,9 +76,9 @@ link-all-spec =
     Inv-loop
     μ-loop
     loop-holds
-    sub-v
+    (λ c. omega arith)
     link-requires
-    loop-less
+    (λ c. omega arith)
     loop-again
     same-length
     returns)

@@ -6,20 +6,11 @@ use borrow.Author.Needs.{needs}
 use Rattle.trees.proofs.links.root_at.Statement.{statement}
 use Rattle.trees.proofs.links.root_at.Tie as tie
 
-read-requires : tie.Need-read-requires
-read-requires c κs = search needs
-
 returns : tie.Need-returns
 returns c = sym (root-at-root _ _ (omega (arith, c .before .read .ensures)))
-
-read-requires-2 : tie.Need-read-requires-2
-read-requires-2 c κs = search needs
-
-wide-requires : tie.Need-wide-requires
-wide-requires c κs = search needs
 
 returns-2 : tie.Need-returns-2
 returns-2 c = c .wide .ensures ∙ c .before .read2 .ensures ∙ sym (root-at-other _ _ (λ e. omega (arith, c .before .before .before .read .ensures)))
 
 pub root-at-spec : {M : Type 1} → statement M
-root-at-spec = tie.close (tie.spec read-requires returns read-requires-2 wide-requires returns-2)
+root-at-spec = tie.close (tie.spec (λ c κs. search needs) returns (λ c κs. search needs) (λ c κs. search needs) returns-2)

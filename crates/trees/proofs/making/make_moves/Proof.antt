@@ -125,9 +125,6 @@ narrow-requires c κs = omega (arith, c .before .before .before .pre .0 .admitte
 loop-holds : tie.Need-loop-holds Inv-loop μ-loop
 loop-holds c = let p = c .before .before .before .before .pre in begin _ _ (p .0) _ (p .1) (p .2) _ _ (c .narrow .ensures) (p .3)
 
-wide-requires : tie.Need-wide-requires Inv-loop μ-loop
-wide-requires c κs = search needs
-
 read-requires : tie.Need-read-requires Inv-loop μ-loop
 read-requires c κs = omega (arith, c .before .before .before .loop .inv .here (λ e. omega arith) .0, c .before .before .before .loop .inv .mf .ordered .long, c .before .wide .ensures, c .before .before .before .before .before .before .before .before .pre .1, c .before .before .before .before .before .before .before .before .pre .0 .admitted .few-nodes)
 
@@ -167,7 +164,7 @@ make-moves-spec =
     μ-loop
     narrow-requires
     loop-holds
-    wide-requires
+    (λ c κs. search needs)
     read-requires
     make-move-requires
     read-requires-2

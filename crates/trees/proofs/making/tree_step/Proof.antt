@@ -35,24 +35,15 @@ module _ (g : Graph) (sc sc₁ : List ℕ) (co : CostsOnly sc sc₁) where
         count = mk .count ∙ ap C e;
       }
 
-decide-tree-requires : tie.Need-decide-tree-requires
-decide-tree-requires c κs = search needs
-
 make-moves-requires : tie.Need-make-moves-requires
 make-moves-requires c κs =
     let p = c .before .before .before .before .before .before .before .before .before .before .pre in
     let f = c .before .before .before .before .decide-tree .ensures in
     (ordered-costs _ _ _ (f .1) (p .0), p .1, p .2, same-count _ _ _ (f .1) _ (p .3), same-decided _ _ _ (f .1) _ (f .0))
 
-same-length : tie.Need-same-length
-same-length c = search needs
-
-same-length-2 : tie.Need-same-length-2
-same-length-2 c = search needs
-
 returns : tie.Need-returns
 returns c = after _ _ _ (c .before .before .before .before .before .before .before .before .before .decide-tree .ensures .1) _ _ _ _ (c .before .before .before .before .make-moves .ensures)
 
 pub tree-step-spec : {M : Type 1} → statement M
 tree-step-spec =
-    tie.close (tie.spec decide-tree-requires make-moves-requires same-length same-length-2 returns)
+    tie.close (tie.spec (λ c κs. search needs) make-moves-requires (λ c. search needs) (λ c. search needs) returns)

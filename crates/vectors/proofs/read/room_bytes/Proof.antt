@@ -5,11 +5,8 @@ use borrow.Author.Needs.{needs}
 use Rattle.vectors.proofs.read.room_bytes.Statement.{statement}
 use Rattle.vectors.proofs.read.room_bytes.Tie as tie
 
-least-requires : tie.Need-least-requires
-least-requires c κs = search needs
-
 returns : tie.Need-returns
 returns c = (search needs, sym (length-take-le (c .least .result) (c .before .before .args .space .now) (search needs)))
 
 pub room-bytes-spec : {M : Type 1} → statement M
-room-bytes-spec = tie.close (tie.spec least-requires returns)
+room-bytes-spec = tie.close (tie.spec (λ c κs. search needs) returns)

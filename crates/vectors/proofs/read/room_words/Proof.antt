@@ -5,11 +5,8 @@ use borrow.Author.Needs.{needs}
 use Rattle.vectors.proofs.read.room_words.Statement.{statement}
 use Rattle.vectors.proofs.read.room_words.Tie as tie
 
-least-requires : tie.Need-least-requires
-least-requires c κs = search needs
-
 returns : tie.Need-returns
 returns c = (search needs, sym (length-take-le (c .least .result) (c .before .before .args .space .now) (search needs)))
 
 pub room-words-spec : {M : Type 1} → statement M
-room-words-spec = tie.close (tie.spec least-requires returns)
+room-words-spec = tie.close (tie.spec (λ c κs. search needs) returns)
