@@ -126,7 +126,7 @@ pub fn plain_step(g: &mut Graph, call: Call, scratch: usize) -> Answer {
     match call {
         Call::Node(v) => saving(plain::calls::node_call(t, v)),
         Call::Pair(v, word) => saving(plain::calls::pair_call(t, v, word)),
-        Call::Tree(root) => saving(plain::settle::tree_call(t, root, scratch)),
+        Call::Tree(root) => saving(plain::sweeps::tree_call(t, root, scratch)),
         Call::Settle => plain::settle::settle(t, scratch).map_or_else(Answer::Refused, |s| {
             Answer::Settled(Settled { rounds: s.rounds, before: s.before, after: s.after })
         }),

@@ -150,7 +150,7 @@ mod proved {
 mod plain {
     use super::{Lent, Sample};
     use differential::lists::tables;
-    use differential::plain::{calls, evaluate, file, settle};
+    use differential::plain::{calls, evaluate, file, settle, sweeps};
 
     pub fn load(s: &mut Sample, _: &mut Lent) -> u64 {
         file::load(&s.file, &mut s.g.node_table, &mut s.g.output_table).unwrap().1.into()
@@ -180,6 +180,11 @@ mod plain {
         s.roots.iter().map(|&v| settle::tree_call(&mut t, v, l.scratch.len()).unwrap() as u64).sum()
     }
 
+    pub fn tree_by_sweeps(s: &mut Sample, l: &mut Lent) -> u64 {
+        let mut t = tables(&mut s.g);
+        s.roots.iter().map(|&v| sweeps::tree_call(&mut t, v, l.scratch.len()).unwrap() as u64).sum()
+    }
+
     pub fn settle(s: &mut Sample, l: &mut Lent) -> u64 {
         settle::settle(&mut tables(&mut s.g), l.scratch.len()).unwrap().rounds.into()
     }
@@ -197,13 +202,15 @@ struct Call {
 
 const SETTLE: &str = "settle";
 
-const CALLS: [Call; 7] = [
+const CALLS: [Call; 8] = [
     Call { name: "load", times: 1, proved: proved::load, plain: plain::load },
     Call { name: "write", times: 1, proved: proved::write, plain: plain::write },
     Call { name: "evaluate", times: 1, proved: proved::evaluate, plain: plain::evaluate },
     Call { name: "node", times: SPREAD, proved: proved::node, plain: plain::node },
     Call { name: "pair", times: SPREAD, proved: proved::pair, plain: plain::pair },
+    // Beside the same programme in plain Rust, and beside one that sweeps all nodes.
     Call { name: "tree", times: SPREAD, proved: proved::tree, plain: plain::tree },
+    Call { name: "tree, by sweeps", times: SPREAD, proved: proved::tree, plain: plain::tree_by_sweeps },
     Call { name: SETTLE, times: 1, proved: proved::settle, plain: plain::settle },
 ];
 

@@ -17,7 +17,7 @@ pub(super) fn readers_of(g: &View, index: u32) -> (u32, u32) {
     (all, odd)
 }
 
-fn word_costs(word: u32) -> [u32; 2] {
+pub(super) fn word_costs(word: u32) -> [u32; 2] {
     [adds(word), adds(word ^ 1)]
 }
 

@@ -5,6 +5,7 @@ pub mod decide;
 pub mod evaluate;
 pub mod file;
 pub mod settle;
+pub mod sweeps;
 
 use reducer::{MARK, MOST_INPUTS, MOST_NODES, MOST_OUTPUTS};
 
