@@ -16,8 +16,9 @@ use Rattle.moves.specs.Cost.{shown}
 
 -- field f of node v:
 -- 0: its readers; 1: how many of them are complemented in the graph that the state stands for; 2: 1 where a turn of all its
--- readers is pending; 3: the place of its only reading word, the mark at a root; 4: its two cost bits, cost 0 + 2 × cost 1;
--- 5, 6: the next lower and the next higher node of its tree, the mark where there is none; 7: at a root, the lowest node of its tree
+-- readers is pending; 3: the place of its only reading word, the mark at a root; 4: its two cost bits, cost 0 + 2 × cost 1, and
+-- once its tree is decided its move; 5, 6: the next lower and the next higher node of its tree, the mark where there is none;
+-- 7: at a root, the lowest node of its tree
 abbrev pub field : List ℕ → ℕ → ℕ → ℕ
 field sc v f = getD sc (8 * v + f) 0
 

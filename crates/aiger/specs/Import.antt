@@ -1,0 +1,111 @@
+-- Importing ASCII AIGER: the first fault from front to back, and the graph.
+use Prim.Native.Nat.{ℕ, _+_, _*_, _%_}
+use mathlib.Core.List.{List, [], _∷_, _++_}
+use lib.ListN.{length, getD, drop}
+use Rattle.graph.specs.Finite.{ifLess, ifEqual, first, firstOf, tab}
+use Rattle.graph.specs.Graph.{Graph, graphOf, index}
+use Rattle.graph.specs.Answer.{accepted, Outcome, outcome, guarded}
+use Rattle.tagged_file.specs.Load.{blank}
+use Rattle.aiger.specs.Lines.{number, skip, numberAt, lineNumber}
+
+-- the numbers of the header "aag M I L O A", and what follows it
+abbrev pub headM : List ℕ → ℕ
+headM s = numberAt (drop 4 s) 0
+
+abbrev pub headI : List ℕ → ℕ
+headI s = numberAt (drop 4 s) 1
+
+abbrev pub headL : List ℕ → ℕ
+headL s = numberAt (drop 4 s) 2
+
+abbrev pub headO : List ℕ → ℕ
+headO s = numberAt (drop 4 s) 3
+
+abbrev pub headA : List ℕ → ℕ
+headA s = numberAt (drop 4 s) 4
+
+abbrev pub body : List ℕ → List ℕ
+body s = skip 5 (drop 4 s)
+
+-- 10: other bytes than "aag " at the front
+unfoldable pub aagNumber : List ℕ → ℕ
+aagNumber s =
+    ifEqual (getD s 0 0) 97
+    (ifEqual (getD s 1 0) 97
+    (ifEqual (getD s 2 0) 103
+    (ifEqual (getD s 3 0) 32 0 10)
+    10)
+    10)
+    10
+
+-- limits and lent tables, as for loading
+unfoldable pub tablesNumber : ℕ → ℕ → ℕ → ℕ → ℕ → ℕ
+tablesNumber i n o nodeRoom outputRoom =
+    ifLess 4096 i 3
+    (ifLess 100000 n 3
+    (ifLess 4096 o 3
+    (ifLess nodeRoom (3 * n) 4
+    (ifLess outputRoom o 4 0))))
+
+unfoldable pub headerNumber : List ℕ → ℕ → ℕ → ℕ
+headerNumber s nodeRoom outputRoom =
+    first (aagNumber s)
+    (first (lineNumber 4 (drop 4 s))
+    (ifEqual (headL s) 0
+    (ifEqual (headM s) (headI s + headA s)
+    (tablesNumber (headI s) (headA s) (headO s) nodeRoom outputRoom)
+    12)
+    11))
+
+-- The lines after the header: I of one number, O of one number, A of three. Line by line, the bytes s at its front:
+
+-- input k, counted from 0
+unfoldable pub inputLineNumber : List ℕ → ℕ → ℕ
+inputLineNumber s k = first (lineNumber 0 s) (ifEqual (number s) (2 * (1 + k)) 0 12)
+
+-- an output, which may name an index below v
+unfoldable pub outputLineNumber : List ℕ → ℕ → ℕ
+outputLineNumber s v = first (lineNumber 0 s) (ifLess (index (number s)) v 0 5)
+
+-- the gate with index v
+unfoldable pub gateLineNumber : List ℕ → ℕ → ℕ
+gateLineNumber s v =
+    first (lineNumber 2 s)
+    (ifEqual (number s) (2 * v)
+    (ifLess (index (numberAt s 1)) v
+    (ifLess (index (numberAt s 2)) v 0 5)
+    5)
+    12)
+
+-- the lines of the body s with i inputs, o outputs and n gates
+unfoldable pub bodyNumber : List ℕ → ℕ → ℕ → ℕ → ℕ
+bodyNumber s i n o =
+    first (firstOf i (λ k. inputLineNumber (skip k s) k))
+    (first (firstOf o (λ j. outputLineNumber (skip (i + j) s) (i + 1 + n)))
+    (firstOf n (λ k. gateLineNumber (skip (i + o + 3 * k) s) (i + 1 + k))))
+
+-- the whole text: the first fault from front to back
+unfoldable pub importNumber : List ℕ → ℕ → ℕ → ℕ
+importNumber s nodeRoom outputRoom =
+    let rest = bodyNumber (body s) (headI s) (headA s) (headO s) in
+    first (headerNumber s nodeRoom outputRoom) rest
+
+-- word j of the node table: 0 in front, where the line has the gate's own number, then the line's other two
+unfoldable pub gateWord : List ℕ → ℕ → ℕ → ℕ
+gateWord s at j = ifEqual (j % 3) 0 0 (numberAt s (at + j))
+
+-- the graph that an accepted text says, in the lent tables: their first words are filled, later ones left
+unfoldable pub graphImported : List ℕ → List ℕ → List ℕ → Graph
+graphImported s ns os =
+    let i : ℕ = headI s in
+    let n : ℕ = headA s in
+    let o : ℕ = headO s in
+    graphOf i n o
+    (tab (3 * n) (gateWord (body s) (i + o)) ++ drop (3 * n) ns)
+    (tab o (λ j. numberAt (body s) (i + j)) ++ drop o os)
+
+-- importing the text s into the tables ns and os
+unfoldable pub importCall : List ℕ → List ℕ → List ℕ → Outcome
+importCall s ns os =
+    guarded (importNumber s (length ns) (length os)) (blank ns os)
+    (outcome (accepted (headI s ∷ headA s ∷ headO s ∷ [])) (graphImported s ns os))
