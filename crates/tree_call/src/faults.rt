@@ -42,8 +42,6 @@ pub fn scratch_fault(nodes: u32, length: usize) -> u32
     0
 }
 
-// The first fault of two.
-
 pub fn tree_number(
     inputs: u32,
     nodes: u32,
