@@ -1,5 +1,5 @@
 -- A settling worked out by the team, beside document 01's rows (crate promises): two rounds lower C, the third does not. With the
--- phases in any other order, with roots or pairs by falling index or without pairs it would end otherwise.
+-- phases in any other order two rounds would do, and end in the same graph; without pairs C would end at 2.
 use mathlib.Core.Path.{_≡_}
 use mathlib.Core.List.{[], _∷_}
 use Rattle.graph.specs.Graph.{Graph, graphOf, mark}
