@@ -7,12 +7,12 @@ use native.Mathlib.Omega.{arith}
 use lib.ListN.{length, getD}
 use Rattle.graph.specs.Finite.{ifLess, first}
 use Rattle.graph.specs.Graph.{Graph, output}
-use Rattle.graph.specs.Admission.{Admitted}
+use Rattle.graph.specs.Admission.{Admitted, roomNumber}
 use Rattle.graph.proofs.Cases.{lt-or-le}
 use Rattle.graph.proofs.Finite.{length-tab, getD-tab}
 use Rattle.graph.proofs.Tests.{less, no-less, equal, none, all-none}
 use Rattle.aiger.specs.Lines.{number, skip, numberAt}
-use Rattle.aiger.specs.Import.{tablesNumber, headerNumber, inputLineNumber, outputLineNumber, gateLineNumber, bodyNumber, importNumber}
+use Rattle.aiger.specs.Import.{headerNumber, inputLineNumber, outputLineNumber, gateLineNumber, inputLinesNumber, outputLinesNumber, gateLinesNumber, bodyNumber, importNumber}
 use Rattle.aiger.specs.Export.{gatesBefore, exported, gates, ones, threes, inputs, outputs, exportText}
 use Rattle.aiger.proofs.Gates.{before-most, exported-below, length-gates, gates-fine}
 use Rattle.aiger.proofs.Imported.{skip-add}
@@ -93,13 +93,13 @@ module _ (g : Graph) (adm : Admitted g) where
       rw p (threes-read (gates g (g .N)) q (omega arith) (omega (arith, f .own)) (omega (arith, f .left)) (omega (arith, f .right)))
 
   body-none : bodyNumber (bodyText g) (g .I) (gatesBefore g (g .N)) (g .O) ≡ 0
-  unfolding bodyNumber
+  unfolding bodyNumber inputLinesNumber outputLinesNumber gateLinesNumber
   body-none =
       sym (none _ _ (all-none (g .I) _ (λ k h. input-none _ k (input-line k h)))
-      (none _ _ (all-none (g .O) _ (λ j h. output-none _ _ _ (output-line j h) (output-below j h)))
+      (none _ _ (all-none (g .O) _ (λ j h. rw (skip-add (g .I) j (bodyText g)) (output-none _ _ _ (output-line j h) (output-below j h))))
       (sym (all-none (gatesBefore g (g .N)) _ (λ q h.
       let f = gates-fine g adm (g .N) (omega arith) q h in
-      gate-none _ (g .I + 1 + q) _ _ _ (gate-line q h) (f .own) (f .left) (f .right))))))
+      rw (skip-add (g .I + g .O) (3 * q) (bodyText g)) (gate-none _ (g .I + 1 + q) _ _ _ (gate-line q h) (f .own) (f .left) (f .right)))))))
 
   pub export-read : HeadRead (exportText g) (g .I) (gatesBefore g (g .N)) (g .O) (bodyText g)
   unfolding exportText
@@ -111,12 +111,12 @@ unfolding first
 first-none zero b e = e
 first-none (suc a) b e = refl
 
-head-room : (s rest : List ℕ) (i n o a b : ℕ) → HeadRead s i n o rest → headerNumber s a b ≡ tablesNumber i n o a b
+head-room : (s rest : List ℕ) (i n o a b : ℕ) → HeadRead s i n o rest → headerNumber s a b ≡ roomNumber i n o a b
 unfolding headerNumber
 head-room s rest i n o a b r =
     sym (none _ _ (r .aag) (none _ _ (r .fine) (equal _ _ _ _ (r .latches) (equal _ _ _ _ (omega (arith, r .m, r .inputs, r .gates)) (rw (r .inputs, r .outputs, r .gates) refl)))))
 
-whole : (s rest : List ℕ) (i n o a b : ℕ) → HeadRead s i n o rest → bodyNumber rest i n o ≡ 0 → importNumber s a b ≡ tablesNumber i n o a b
+whole : (s rest : List ℕ) (i n o a b : ℕ) → HeadRead s i n o rest → bodyNumber rest i n o ≡ 0 → importNumber s a b ≡ roomNumber i n o a b
 unfolding importNumber
 whole s rest i n o a b r e = rw (head-room s rest i n o a b r, r .after, r .inputs, r .outputs, r .gates) (first-none _ _ e)
 
@@ -140,12 +140,12 @@ allowed p q r s t u =
 
 -- an export is refused by 3, where it has too many gates, and by 4, and by nothing else
 module _ (g : Graph) (adm : Admitted g) (nodeRoom outputRoom : ℕ) where
-  pub import-room : importNumber (exportText g) nodeRoom outputRoom ≡ tablesNumber (g .I) (gatesBefore g (g .N)) (g .O) nodeRoom outputRoom
+  pub import-room : importNumber (exportText g) nodeRoom outputRoom ≡ roomNumber (g .I) (gatesBefore g (g .N)) (g .O) nodeRoom outputRoom
   import-room = whole (exportText g) (bodyText g) (g .I) (gatesBefore g (g .N)) (g .O) nodeRoom outputRoom (export-read g adm) (body-none g adm)
 
   pub import-number : importNumber (exportText g) nodeRoom outputRoom
       ≡ ifLess 100000 (gatesBefore g (g .N)) 3 (ifLess nodeRoom (3 * gatesBefore g (g .N)) 4 (ifLess outputRoom (g .O) 4 0))
-  unfolding tablesNumber
+  unfolding roomNumber
   import-number =
       let rest : ℕ = ifLess nodeRoom (3 * gatesBefore g (g .N)) 4 (ifLess outputRoom (g .O) 4 0) in
       let e : ifLess 4096 (g .O) 3 rest ≡ rest = sym (no-less 4096 (g .O) 3 rest (adm .few-outputs) refl) in

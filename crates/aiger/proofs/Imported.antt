@@ -9,35 +9,19 @@ use Rattle.graph.specs.Finite.{tab}
 use Rattle.graph.specs.Graph.{Graph, word, output}
 use Rattle.graph.specs.Admission.{Admitted}
 use Rattle.graph.specs.Answer.{Outcome, guarded}
+use Rattle.graph.proofs.Admit.{Rooms, rooms}
 use Rattle.graph.proofs.Cases.{lt-or-le}
 use Rattle.graph.proofs.Finite.{length-tab, getD-tab}
-use Rattle.graph.proofs.Tests.{equal, unequal, off, on, is, both, each-none}
+use Rattle.graph.proofs.Tests.{equal, unequal, on, is, both, each-none}
 use Rattle.graph.proofs.Answers.{accepted-outcome}
 use Rattle.aiger.specs.Lines.{number, next, skip, numberAt}
-use Rattle.aiger.specs.Import.{headI, headO, headA, body, tablesNumber, headerNumber, outputLineNumber, gateLineNumber, bodyNumber, importNumber, gateWord, graphImported, importCall}
+use Rattle.aiger.specs.Import.{headI, headO, headA, body, headerNumber, outputLineNumber, gateLineNumber, outputLinesNumber, gateLinesNumber, bodyNumber, importNumber, gateWord, graphImported, importCall}
 
 pub skip-add : (k m : ℕ) (s : List ℕ) → skip m (skip k s) ≡ skip (k + m) s
 skip-add zero m s = let e : 0 + m ≡ m = omega arith in rw e
 skip-add (suc k) m s = let e : suc k + m ≡ suc (k + m) = omega arith in rw e (skip-add k m (next s))
 
 -- limits and tables
-pub record Rooms (i n o nodeRoom outputRoom : ℕ) : Type 0 where
-  pub few-inputs : i ≤ 4096
-  pub few-nodes : n ≤ 100000
-  pub few-outputs : o ≤ 4096
-  pub long-nodes : 3 * n ≤ nodeRoom
-  pub long-outputs : o ≤ outputRoom
-
-rooms : (i n o a b : ℕ) → tablesNumber i n o a b ≡ 0 → Rooms i n o a b
-unfolding tablesNumber
-rooms i n o a b e =
-    let p = off _ _ _ _ e in
-    let q = off _ _ _ _ (p .1) in
-    let r = off _ _ _ _ (q .1) in
-    let t = off _ _ _ _ (r .1) in
-    let u = off _ _ _ _ (t .1) in
-    record { few-inputs = p .0; few-nodes = q .0; few-outputs = r .0; long-nodes = t .0; long-outputs = u .0 }
-
 head-rooms : (s : List ℕ) (a b : ℕ) → headerNumber s a b ≡ 0 → Rooms (headI s) (headA s) (headO s) a b
 unfolding headerNumber
 head-rooms s a b e =
@@ -65,12 +49,14 @@ word-other s at j n = sym (unequal (j % 3) 0 _ _ n refl)
 -- a body without a fault
 module _ (s : List ℕ) (i n o : ℕ) (e : bodyNumber s i n o ≡ 0) where
   output-ok : (j : ℕ) → j < o → numberAt s (i + j) / 2 < i + 1 + n
-  unfolding bodyNumber
-  output-ok j h = output-below _ _ (each-none o _ (both _ _ (both _ _ e .1) .0) j h)
+  unfolding bodyNumber outputLinesNumber
+  output-ok j h =
+      rw (ap number (skip-add i j s)) at (output-below _ _ (each-none o _ (both _ _ (both _ _ e .1) .0) j h))
 
   gate-ok : (k : ℕ) → k < n → (numberAt (skip (i + o + 3 * k) s) 1 / 2 < i + 1 + k) × (numberAt (skip (i + o + 3 * k) s) 2 / 2 < i + 1 + k)
-  unfolding bodyNumber
-  gate-ok k h = gate-below _ _ (each-none n _ (both _ _ (both _ _ e .1) .1) k h)
+  unfolding bodyNumber gateLinesNumber
+  gate-ok k h =
+      rw (← skip-add (i + o) (3 * k) s) (gate-below _ _ (each-none n _ (both _ _ (both _ _ e .1) .1) k h))
 
   place : (j k d : ℕ) → j ≡ 3 * k + d → numberAt (skip (i + o + 3 * k) s) d ≡ numberAt s (i + o + j)
   place j k d q =

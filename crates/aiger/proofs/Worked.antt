@@ -6,7 +6,8 @@ use Rattle.graph.specs.Finite.{ifLess, ifEqual, first, firstOf, sum, tab}
 use Rattle.graph.specs.Graph.{graphOf, mark, isXor, turn}
 use Rattle.graph.specs.Decimal.{decimalIn, decimal}
 use Rattle.aiger.specs.Lines.{ifDigit, digits, worth, number, endedNumber, next, lineNumber}
-use Rattle.aiger.specs.Import.{aagNumber, tablesNumber, headerNumber, inputLineNumber, outputLineNumber, gateLineNumber, bodyNumber, importNumber, gateWord, graphImported}
+use Rattle.graph.specs.Admission.{roomNumber}
+use Rattle.aiger.specs.Import.{aagNumber, headerNumber, inputLineNumber, outputLineNumber, gateLineNumber, inputLinesNumber, outputLinesNumber, gateLinesNumber, bodyNumber, importNumber, gateWord, graphImported}
 use Rattle.aiger.specs.Export.{gatesOf, gatesBefore, exported, xorGates, majorityGates, nodeGates, gates, ended, ones, threes, header, inputs, outputs, exportText}
 
 -- "aag 7 3 0 1 4|2|4|6|15|8 5 7|10 2 9|12 4 6|14 11 13|"
@@ -47,7 +48,7 @@ unfolding graphImported gateWord next number worth digits ifDigit ifLess ifEqual
 majority-graph = refl
 
 pub majority-numbers : (importNumber majorityText 12 1 ∷ importNumber majorityText 11 1 ∷ importNumber majorityText 12 0 ∷ []) ≡ (0 ∷ 4 ∷ 4 ∷ [])
-unfolding importNumber headerNumber aagNumber tablesNumber bodyNumber inputLineNumber outputLineNumber gateLineNumber lineNumber endedNumber next number worth digits ifDigit ifLess ifEqual first firstOf
+unfolding importNumber headerNumber aagNumber roomNumber inputLinesNumber outputLinesNumber gateLinesNumber bodyNumber inputLineNumber outputLineNumber gateLineNumber lineNumber endedNumber next number worth digits ifDigit ifLess ifEqual first firstOf
 majority-numbers = refl
 
 -- faults, with room for one gate and one output
@@ -56,62 +57,62 @@ fault s = importNumber s 3 1
 
 -- a leading zero: "aag 07 3 0 1 4|"
 pub leading-zero : fault (97 ∷ 97 ∷ 103 ∷ 32 ∷ 48 ∷ 55 ∷ 32 ∷ 51 ∷ 32 ∷ 48 ∷ 32 ∷ 49 ∷ 32 ∷ 52 ∷ 10 ∷ []) ≡ 10
-unfolding importNumber headerNumber aagNumber tablesNumber bodyNumber inputLineNumber outputLineNumber gateLineNumber lineNumber endedNumber next number worth digits ifDigit ifLess ifEqual first firstOf
+unfolding importNumber headerNumber aagNumber roomNumber inputLinesNumber outputLinesNumber gateLinesNumber bodyNumber inputLineNumber outputLineNumber gateLineNumber lineNumber endedNumber next number worth digits ifDigit ifLess ifEqual first firstOf
 leading-zero = refl
 
 -- a sixth number: "aag 3 3 0 0 0 0|"
 pub sixth : fault (97 ∷ 97 ∷ 103 ∷ 32 ∷ 51 ∷ 32 ∷ 51 ∷ 32 ∷ 48 ∷ 32 ∷ 48 ∷ 32 ∷ 48 ∷ 32 ∷ 48 ∷ 10 ∷ []) ≡ 10
-unfolding importNumber headerNumber aagNumber tablesNumber bodyNumber inputLineNumber outputLineNumber gateLineNumber lineNumber endedNumber next number worth digits ifDigit ifLess ifEqual first firstOf
+unfolding importNumber headerNumber aagNumber roomNumber inputLinesNumber outputLinesNumber gateLinesNumber bodyNumber inputLineNumber outputLineNumber gateLineNumber lineNumber endedNumber next number worth digits ifDigit ifLess ifEqual first firstOf
 sixth = refl
 
 -- the last newline is missing: "aag 1 1 0 0 0|2"
 pub no-newline : fault (97 ∷ 97 ∷ 103 ∷ 32 ∷ 49 ∷ 32 ∷ 49 ∷ 32 ∷ 48 ∷ 32 ∷ 48 ∷ 32 ∷ 48 ∷ 10 ∷ 50 ∷ []) ≡ 10
-unfolding importNumber headerNumber aagNumber tablesNumber bodyNumber inputLineNumber outputLineNumber gateLineNumber lineNumber endedNumber next number worth digits ifDigit ifLess ifEqual first firstOf
+unfolding importNumber headerNumber aagNumber roomNumber inputLinesNumber outputLinesNumber gateLinesNumber bodyNumber inputLineNumber outputLineNumber gateLineNumber lineNumber endedNumber next number worth digits ifDigit ifLess ifEqual first firstOf
 no-newline = refl
 
 -- 11 comes before 12: "aag 9 1 1 0 0|"
 pub latches : fault (97 ∷ 97 ∷ 103 ∷ 32 ∷ 57 ∷ 32 ∷ 49 ∷ 32 ∷ 49 ∷ 32 ∷ 48 ∷ 32 ∷ 48 ∷ 10 ∷ []) ≡ 11
-unfolding importNumber headerNumber aagNumber tablesNumber bodyNumber inputLineNumber outputLineNumber gateLineNumber lineNumber endedNumber next number worth digits ifDigit ifLess ifEqual first firstOf
+unfolding importNumber headerNumber aagNumber roomNumber inputLinesNumber outputLinesNumber gateLinesNumber bodyNumber inputLineNumber outputLineNumber gateLineNumber lineNumber endedNumber next number worth digits ifDigit ifLess ifEqual first firstOf
 latches = refl
 
 -- 12 before 3: "aag 9 5000 0 0 0|"
 pub maximum : fault (97 ∷ 97 ∷ 103 ∷ 32 ∷ 57 ∷ 32 ∷ 53 ∷ 48 ∷ 48 ∷ 48 ∷ 32 ∷ 48 ∷ 32 ∷ 48 ∷ 32 ∷ 48 ∷ 10 ∷ []) ≡ 12
-unfolding importNumber headerNumber aagNumber tablesNumber bodyNumber inputLineNumber outputLineNumber gateLineNumber lineNumber endedNumber next number worth digits ifDigit ifLess ifEqual first firstOf
+unfolding importNumber headerNumber aagNumber roomNumber inputLinesNumber outputLinesNumber gateLinesNumber bodyNumber inputLineNumber outputLineNumber gateLineNumber lineNumber endedNumber next number worth digits ifDigit ifLess ifEqual first firstOf
 maximum = refl
 
 -- 3 before a missing line: "aag 5000 5000 0 0 0|"
 pub many : fault (97 ∷ 97 ∷ 103 ∷ 32 ∷ 53 ∷ 48 ∷ 48 ∷ 48 ∷ 32 ∷ 53 ∷ 48 ∷ 48 ∷ 48 ∷ 32 ∷ 48 ∷ 32 ∷ 48 ∷ 32 ∷ 48 ∷ 10 ∷ []) ≡ 3
-unfolding importNumber headerNumber aagNumber tablesNumber bodyNumber inputLineNumber outputLineNumber gateLineNumber lineNumber endedNumber next number worth digits ifDigit ifLess ifEqual first firstOf
+unfolding importNumber headerNumber aagNumber roomNumber inputLinesNumber outputLinesNumber gateLinesNumber bodyNumber inputLineNumber outputLineNumber gateLineNumber lineNumber endedNumber next number worth digits ifDigit ifLess ifEqual first firstOf
 many = refl
 
 -- an input that is not 2: "aag 1 1 0 0 0|4|"
 pub wrong-input : fault (97 ∷ 97 ∷ 103 ∷ 32 ∷ 49 ∷ 32 ∷ 49 ∷ 32 ∷ 48 ∷ 32 ∷ 48 ∷ 32 ∷ 48 ∷ 10 ∷ 52 ∷ 10 ∷ []) ≡ 12
-unfolding importNumber headerNumber aagNumber tablesNumber bodyNumber inputLineNumber outputLineNumber gateLineNumber lineNumber endedNumber next number worth digits ifDigit ifLess ifEqual first firstOf
+unfolding importNumber headerNumber aagNumber roomNumber inputLinesNumber outputLinesNumber gateLinesNumber bodyNumber inputLineNumber outputLineNumber gateLineNumber lineNumber endedNumber next number worth digits ifDigit ifLess ifEqual first firstOf
 wrong-input = refl
 
 -- gates go on after the inputs: "aag 2 1 0 0 1|2|2 0 1|"
 pub restart : fault (97 ∷ 97 ∷ 103 ∷ 32 ∷ 50 ∷ 32 ∷ 49 ∷ 32 ∷ 48 ∷ 32 ∷ 48 ∷ 32 ∷ 49 ∷ 10 ∷ 50 ∷ 10 ∷ 50 ∷ 32 ∷ 48 ∷ 32 ∷ 49 ∷ 10 ∷ []) ≡ 12
-unfolding importNumber headerNumber aagNumber tablesNumber bodyNumber inputLineNumber outputLineNumber gateLineNumber lineNumber endedNumber next number worth digits ifDigit ifLess ifEqual first firstOf
+unfolding importNumber headerNumber aagNumber roomNumber inputLinesNumber outputLinesNumber gateLinesNumber bodyNumber inputLineNumber outputLineNumber gateLineNumber lineNumber endedNumber next number worth digits ifDigit ifLess ifEqual first firstOf
 restart = refl
 
 -- a gate that names itself: "aag 2 1 0 0 1|2|4 2 4|"
 pub own-index : fault (97 ∷ 97 ∷ 103 ∷ 32 ∷ 50 ∷ 32 ∷ 49 ∷ 32 ∷ 48 ∷ 32 ∷ 48 ∷ 32 ∷ 49 ∷ 10 ∷ 50 ∷ 10 ∷ 52 ∷ 32 ∷ 50 ∷ 32 ∷ 52 ∷ 10 ∷ []) ≡ 5
-unfolding importNumber headerNumber aagNumber tablesNumber bodyNumber inputLineNumber outputLineNumber gateLineNumber lineNumber endedNumber next number worth digits ifDigit ifLess ifEqual first firstOf
+unfolding importNumber headerNumber aagNumber roomNumber inputLinesNumber outputLinesNumber gateLinesNumber bodyNumber inputLineNumber outputLineNumber gateLineNumber lineNumber endedNumber next number worth digits ifDigit ifLess ifEqual first firstOf
 own-index = refl
 
 -- an output above the last index: "aag 1 1 0 1 0|2|4|"
 pub high-output : fault (97 ∷ 97 ∷ 103 ∷ 32 ∷ 49 ∷ 32 ∷ 49 ∷ 32 ∷ 48 ∷ 32 ∷ 49 ∷ 32 ∷ 48 ∷ 10 ∷ 50 ∷ 10 ∷ 52 ∷ 10 ∷ []) ≡ 5
-unfolding importNumber headerNumber aagNumber tablesNumber bodyNumber inputLineNumber outputLineNumber gateLineNumber lineNumber endedNumber next number worth digits ifDigit ifLess ifEqual first firstOf
+unfolding importNumber headerNumber aagNumber roomNumber inputLinesNumber outputLinesNumber gateLinesNumber bodyNumber inputLineNumber outputLineNumber gateLineNumber lineNumber endedNumber next number worth digits ifDigit ifLess ifEqual first firstOf
 high-output = refl
 
 -- text after the last gate is not read: "aag 2 1 0 1 1|2|5|4 2 3|c|"
 pub extra : fault (97 ∷ 97 ∷ 103 ∷ 32 ∷ 50 ∷ 32 ∷ 49 ∷ 32 ∷ 48 ∷ 32 ∷ 49 ∷ 32 ∷ 49 ∷ 10 ∷ 50 ∷ 10 ∷ 53 ∷ 10 ∷ 52 ∷ 32 ∷ 50 ∷ 32 ∷ 51 ∷ 10 ∷ 99 ∷ 10 ∷ []) ≡ 0
-unfolding importNumber headerNumber aagNumber tablesNumber bodyNumber inputLineNumber outputLineNumber gateLineNumber lineNumber endedNumber next number worth digits ifDigit ifLess ifEqual first firstOf
+unfolding importNumber headerNumber aagNumber roomNumber inputLinesNumber outputLinesNumber gateLinesNumber bodyNumber inputLineNumber outputLineNumber gateLineNumber lineNumber endedNumber next number worth digits ifDigit ifLess ifEqual first firstOf
 extra = refl
 
 -- no inputs, gates or outputs: "aag 0 0 0 0 0|"
 pub empty : fault (97 ∷ 97 ∷ 103 ∷ 32 ∷ 48 ∷ 32 ∷ 48 ∷ 32 ∷ 48 ∷ 32 ∷ 48 ∷ 32 ∷ 48 ∷ 10 ∷ []) ≡ 0
-unfolding importNumber headerNumber aagNumber tablesNumber bodyNumber inputLineNumber outputLineNumber gateLineNumber lineNumber endedNumber next number worth digits ifDigit ifLess ifEqual first firstOf
+unfolding importNumber headerNumber aagNumber roomNumber inputLinesNumber outputLinesNumber gateLinesNumber bodyNumber inputLineNumber outputLineNumber gateLineNumber lineNumber endedNumber next number worth digits ifDigit ifLess ifEqual first firstOf
 empty = refl
 
 pub largest : endedNumber 10 (52 ∷ 50 ∷ 57 ∷ 52 ∷ 57 ∷ 54 ∷ 55 ∷ 50 ∷ 57 ∷ 53 ∷ 10 ∷ []) ≡ 0

@@ -4,6 +4,7 @@ use mathlib.Core.List.{List, [], _∷_, _++_}
 use lib.ListN.{length, getD, drop}
 use Rattle.graph.specs.Finite.{ifLess, ifEqual, first, firstOf, tab}
 use Rattle.graph.specs.Graph.{Graph, graphOf, index}
+use Rattle.graph.specs.Admission.{roomNumber}
 use Rattle.graph.specs.Answer.{accepted, Outcome, outcome, guarded}
 use Rattle.tagged_file.specs.Load.{blank}
 use Rattle.aiger.specs.Lines.{number, skip, numberAt, lineNumber}
@@ -38,22 +39,14 @@ aagNumber s =
     10)
     10
 
--- limits and lent tables, as for loading
-unfoldable pub tablesNumber : ℕ → ℕ → ℕ → ℕ → ℕ → ℕ
-tablesNumber i n o nodeRoom outputRoom =
-    ifLess 4096 i 3
-    (ifLess 100000 n 3
-    (ifLess 4096 o 3
-    (ifLess nodeRoom (3 * n) 4
-    (ifLess outputRoom o 4 0))))
-
+-- the header: limits and lent tables as for loading
 unfoldable pub headerNumber : List ℕ → ℕ → ℕ → ℕ
 headerNumber s nodeRoom outputRoom =
     first (aagNumber s)
     (first (lineNumber 4 (drop 4 s))
     (ifEqual (headL s) 0
     (ifEqual (headM s) (headI s + headA s)
-    (tablesNumber (headI s) (headA s) (headO s) nodeRoom outputRoom)
+    (roomNumber (headI s) (headA s) (headO s) nodeRoom outputRoom)
     12)
     11))
 
@@ -77,12 +70,22 @@ gateLineNumber s v =
     5)
     12)
 
--- the lines of the body s with i inputs, o outputs and n gates
+-- i inputs; o outputs, which may name an index below v; n gates, the first with index v
+unfoldable pub inputLinesNumber : List ℕ → ℕ → ℕ
+inputLinesNumber s i = firstOf i (λ k. inputLineNumber (skip k s) k)
+
+unfoldable pub outputLinesNumber : List ℕ → ℕ → ℕ → ℕ
+outputLinesNumber s o v = firstOf o (λ j. outputLineNumber (skip j s) v)
+
+unfoldable pub gateLinesNumber : List ℕ → ℕ → ℕ → ℕ
+gateLinesNumber s n v = firstOf n (λ k. gateLineNumber (skip (3 * k) s) (v + k))
+
+-- the body s: i inputs, then o outputs, then n gates
 unfoldable pub bodyNumber : List ℕ → ℕ → ℕ → ℕ → ℕ
 bodyNumber s i n o =
-    first (firstOf i (λ k. inputLineNumber (skip k s) k))
-    (first (firstOf o (λ j. outputLineNumber (skip (i + j) s) (i + 1 + n)))
-    (firstOf n (λ k. gateLineNumber (skip (i + o + 3 * k) s) (i + 1 + k))))
+    first (inputLinesNumber s i)
+    (first (outputLinesNumber (skip i s) o (i + 1 + n))
+    (gateLinesNumber (skip (i + o) s) n (i + 1)))
 
 -- the whole text: the first fault from front to back
 unfoldable pub importNumber : List ℕ → ℕ → ℕ → ℕ

@@ -8,7 +8,7 @@ use lib.ListN.{length, getD, drop, List·getD-append}
 use Rattle.graph.specs.Finite.{tab, first}
 use Rattle.graph.specs.Graph.{Graph, output}
 use Rattle.graph.specs.Value.{values, outputValue}
-use Rattle.graph.specs.Admission.{limitNumber, tableNumber, literalNumber, admissionNumber, Admitted}
+use Rattle.graph.specs.Admission.{tablesNumber, literalNumber, admissionNumber, Admitted}
 use Rattle.graph.proofs.Finite.{length-tab, getD-tab}
 use Rattle.graph.proofs.Tests.{less, no-less, equal, fault, both, off}
 use Rattle.graph.proofs.Admit.{admitted-by}
@@ -22,11 +22,10 @@ use Rattle.evaluation.proofs.Gather.{bit-gather}
 pub met : {k : ℕ} (a b : ℕ) → 0 < k → k ≡ a → k ≡ first a b
 met a b h e = fault a b e (λ z. omega arith)
 
-first-within : (l t s w q n : ℕ) → first l (first t w) ≤ n → s ≤ n → q ≤ n → first l (first t (first s (first w q))) ≤ n
+first-within : (t s w q n : ℕ) → first t w ≤ n → s ≤ n → q ≤ n → first t (first s (first w q)) ≤ n
 unfolding first
-first-within (suc l) t s w q n h hs hq = h
-first-within zero (suc t) s w q n h hs hq = h
-first-within zero zero s w q n h hs hq = first-le s (first w q) n hs (first-le w q n h hq)
+first-within (suc t) s w q n h hs hq = h
+first-within zero s w q n h hs hq = first-le s (first w q) n hs (first-le w q n h hq)
 
 -- what an evaluation without a fault has been lent
 pub record Lent (g : Graph) (w s r : ℕ) : Type 0 where
@@ -52,20 +51,19 @@ module _ (g : Graph) (w s r : ℕ) where
   pub evaluate-le : evaluateNumber g w s r ≤ 9
   unfolding evaluateNumber sliceNumber scratchNumber admissionNumber
   evaluate-le =
-      first-within (limitNumber g) (tableNumber g) _ (literalNumber g) _ 9 (omega (arith, admission-le g))
+      first-within (tablesNumber g) _ (literalNumber g) _ 9 (omega (arith, admission-le g))
       (ifLess-le _ _ _ _ _ (omega arith) (ifLess-le _ _ _ _ _ (omega arith) (omega arith)))
       (ifLess-le _ _ _ _ _ (omega arith) (omega arith))
 
   pub lent : evaluateNumber g w s r ≡ 0 → Lent g w s r
   unfolding evaluateNumber sliceNumber scratchNumber
   lent e =
-      let l = both (limitNumber g) _ e in
-      let t = both (tableNumber g) _ (l .1) in
+      let t = both (tablesNumber g) _ e in
       let d = both _ _ (t .1) in
       let x = both (literalNumber g) _ (d .1) in
       let i = off w (g .I) 3 _ (d .0) in
       record {
-        admitted = admitted-by g (l .0) (t .0) (x .0);
+        admitted = admitted-by g (t .0) (x .0);
         words = i .0;
         scratch = off s (g .N) 7 0 (x .1) .0;
         results = off r (g .O) 3 0 (i .1) .0;

@@ -1,39 +1,21 @@
 -- The outputs' words from the words by index, and a result slice that has them in front. From the laws on rows and sweeps.
 use mathlib.Core.Path.{_≡_, refl, sym, ap, _∙_}
-use mathlib.Core.Logic.{⊎-elim}
-use mathlib.Core.List.{List, _++_}
-use Prim.Native.Nat.{ℕ, _+_, _-_, _*_, _≤_, _<_}
+use mathlib.Core.List.{List}
+use Prim.Native.Nat.{ℕ, _+_, _*_, _<_}
 use native.Mathlib.Omega.{arith}
 use native.Mathlib.Numerals.{add-one}
-use lib.ListN.{length, getD, set, drop, length-append, length-drop, List·getD-append}
-use lib.Seq.{ext-getD, getD-drop}
+use lib.ListN.{length, getD, set}
 use Rattle.graph.specs.Finite.{tab}
 use Rattle.graph.specs.Graph.{Graph}
 use Rattle.graph.specs.Value.{literalValue, outputValue}
 use Rattle.graph.specs.Admission.{Admitted}
-use Rattle.graph.proofs.Cases.{lt-or-le}
 use Rattle.graph.proofs.Edge.{edge-early, edge-third}
-use Rattle.graph.proofs.Finite.{length-tab, getD-tab, tab-same}
-use Rattle.graph.proofs.Sweep.{swept, length-swept, swept-done, swept-left, swept-suc}
+use Rattle.graph.proofs.Finite.{tab-same}
+use Rattle.graph.proofs.Sweep.{swept, swept-suc}
 use Rattle.evaluation.specs.Inner.{byIndex, literalWord, outputWordFrom, nodesOf, NodeBelow, NodeWords}
 use Rattle.evaluation.specs.Evaluation.{assignmentAt, outputWord}
 use Rattle.evaluation.proofs.Gather.{gather-same}
-use Rattle.evaluation.proofs.Index.{getD-right}
 use Rattle.evaluation.proofs.Rows.{values-of-nodes}
-
--- a slice swept up to place n
-pub swept-front : (f : ℕ → ℕ) (l : List ℕ) (n : ℕ) → n ≤ length l → swept f l n ≡ tab n f ++ drop n l
-swept-front f l n h =
-    ext-getD 0 _ _ (simp (length-swept, length-append, length-tab, length-drop) (omega arith))
-    (λ i k.
-    let t = length-tab n f in
-    let b : i < length l = rw length-swept at k in
-    ⊎-elim
-    (λ (p : i < n). swept-done f l n i b p ∙ sym (List·getD-append (tab n f) (drop n l) 0 i (omega arith) ∙ getD-tab n f i p))
-    (λ (p : n ≤ i).
-    let e : n + (i - length (tab n f)) ≡ i = omega arith in
-    swept-left f l n i b p ∙ sym (getD-right (tab n f) (drop n l) i (omega arith) ∙ getD-drop n l (i - length (tab n f)) 0 ∙ ap (λ (m : ℕ). getD l m 0) e))
-    (lt-or-le i n))
 
 outputWordFrom-is : (ws outputs : List ℕ) (o : ℕ) → outputWordFrom ws outputs o ≡ literalWord ws (getD outputs o 0)
 unfolding outputWordFrom

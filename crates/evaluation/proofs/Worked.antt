@@ -5,13 +5,13 @@ use Prim.Native.Nat.{ℕ}
 use Rattle.graph.specs.Finite.{tab, first, firstOf, ifLess, ifEqual}
 use Rattle.graph.specs.Graph.{graphOf, isXor, isEdge}
 use Rattle.graph.specs.Value.{majority, exclusive, literalValue, nodeValue, values, outputValue}
-use Rattle.graph.specs.Admission.{limitNumber, tableNumber, wordNumber, outputNumber, literalNumber}
+use Rattle.graph.specs.Admission.{roomNumber, tablesNumber, wordNumber, outputNumber, literalNumber}
 use Rattle.evaluation.specs.Word.{bit, gather}
 use Rattle.evaluation.specs.Evaluation.{assignmentAt, outputWord, sliceNumber, scratchNumber, evaluateNumber, resultsAfter}
 
 -- 2 4 6 on F0, CC, AA gives E8; a later result word stays
 e8 : resultsAfter (graphOf 3 1 1 (2 ∷ 4 ∷ 6 ∷ []) (8 ∷ [])) (240 ∷ 204 ∷ 170 ∷ []) 1 (0 ∷ 5 ∷ []) ≡ 232 ∷ 5 ∷ []
-unfolding resultsAfter evaluateNumber limitNumber tableNumber sliceNumber literalNumber wordNumber outputNumber scratchNumber first firstOf ifLess ifEqual isEdge outputWord assignmentAt gather bit outputValue values literalValue nodeValue isXor majority exclusive tab
+unfolding resultsAfter evaluateNumber tablesNumber roomNumber sliceNumber literalNumber wordNumber outputNumber scratchNumber first firstOf ifLess ifEqual isEdge outputWord assignmentAt gather bit outputValue values literalValue nodeValue isXor majority exclusive tab
 e8 = refl
 
 -- the first fault, by the third word of a node and the lengths of the input words, scratch and results
@@ -20,10 +20,10 @@ fault z w s r = evaluateNumber (graphOf 3 1 1 (7 ∷ 7 ∷ z ∷ []) (9 ∷ []))
 
 -- with I = 3 the first node may name 7, and 8 is refused by 5: before scratch is looked at, and after the other slices
 faults : fault 7 3 1 1 ∷ fault 8 3 1 1 ∷ fault 7 3 0 1 ∷ fault 8 3 0 1 ∷ fault 8 2 0 1 ∷ fault 8 3 0 0 ∷ [] ≡ 0 ∷ 5 ∷ 8 ∷ 5 ∷ 4 ∷ 4 ∷ []
-unfolding evaluateNumber limitNumber tableNumber sliceNumber literalNumber wordNumber outputNumber scratchNumber first firstOf ifLess isEdge
+unfolding evaluateNumber tablesNumber roomNumber sliceNumber literalNumber wordNumber outputNumber scratchNumber first firstOf ifLess isEdge
 faults = refl
 
 -- N = 100,001 is refused by 3, however short the slices are
 over : evaluateNumber (graphOf 3 100001 1 [] []) 0 0 0 ≡ 3
-unfolding evaluateNumber limitNumber first ifLess
+unfolding evaluateNumber tablesNumber roomNumber first ifLess
 over = refl

@@ -5,7 +5,7 @@ use lib.ListN.{length, getD, drop}
 use Rattle.graph.specs.Finite.{tab, ifLess, ifEqual, first}
 use Rattle.graph.specs.Graph.{Graph}
 use Rattle.graph.specs.Value.{Assignment, outputValue}
-use Rattle.graph.specs.Admission.{limitNumber, tableNumber, literalNumber}
+use Rattle.graph.specs.Admission.{tablesNumber, literalNumber}
 use Rattle.graph.specs.Answer.{Answer, accepted, refused, numberOf}
 use Rattle.evaluation.specs.Word.{bit, gather}
 use Rattle.evaluation.specs.declared.Evaluated.{Evaluated}
@@ -30,7 +30,7 @@ scratchNumber g s = ifLess s (g .N) 8 0
 -- the first fault by the lengths of the input words, scratch and results, or 0: 3, 4, 5 and 8 in that order
 unfoldable pub evaluateNumber : Graph → ℕ → ℕ → ℕ → ℕ
 evaluateNumber g w s r =
-    first (limitNumber g) (first (tableNumber g) (first (sliceNumber g w r) (first (literalNumber g) (scratchNumber g s))))
+    first (tablesNumber g) (first (sliceNumber g w r) (first (literalNumber g) (scratchNumber g s)))
 
 -- the results afterwards: the outputs' words in front where there is no fault, else what was there
 unfoldable pub resultsAfter : Graph → List ℕ → ℕ → List ℕ → List ℕ

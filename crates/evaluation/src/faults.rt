@@ -17,13 +17,15 @@ pub fn evaluate_number(
 ) -> u32
     ensures { λ r. ⌜ r ≡ evaluateNumber (graphOf inputs nodes outputs (now («node_table» .entry)) (now («output_table» .entry))) words scratch results ⌝ }
 {
-    let limit = graph::faults::limit_number(inputs, nodes, outputs);
-    if limit != 0 {
-        return limit;
-    }
-    let table = graph::faults::table_number(inputs, nodes, outputs, node_table, output_table);
-    if table != 0 {
-        return table;
+    let room = graph::faults::room_number(
+        inputs,
+        nodes,
+        outputs,
+        node_table.len(),
+        output_table.len(),
+    );
+    if room != 0 {
+        return room;
     }
     if words < inputs as usize {
         return 4;

@@ -7,9 +7,10 @@ use mathlib.Core.List.{List}
 use lib.Dec.{lit≤}
 use lib.ListN.{drop}
 use Rattle.graph.specs.Finite.{ifEqual}
+use Rattle.graph.specs.Answer.{IsRefusal}
 use Rattle.graph.proofs.Cases.{eq-or-ne}
 use Rattle.graph.proofs.Tests.{equal, unequal}
-use Rattle.graph.proofs.Answers.{ifLess-le, first-le}
+use Rattle.graph.proofs.Answers.{ifLess-le, first-le, room-le}
 use Rattle.file_checks.specs.File.{be4, dueNumber, nodeSize, headNumber, nodeFieldNumber, outputFieldNumber, endNumber, outputFieldsNumber, nodeFieldsNumber, fileNumber}
 
 ifEqual-le : (a b x y n : ℕ) → x ≤ n → y ≤ n → ifEqual a b x y ≤ n
@@ -25,8 +26,7 @@ due-le low high s =
 head-le : (s : List ℕ) (a b : ℕ) → headNumber s a b ≤ 6
 unfolding headNumber
 head-le s a b =
-    first-le _ _ 6 (due-le 1 1 s) (ifLess-le _ _ _ _ 6 (lit≤ tt) (ifLess-le _ _ _ _ 6 (lit≤ tt) (ifLess-le _ _ _ _ 6 (lit≤ tt)
-    (ifLess-le _ _ _ _ 6 (lit≤ tt) (ifLess-le _ _ _ _ 6 (lit≤ tt) (lit≤ tt))))))
+    first-le _ _ 6 (due-le 1 1 s) (omega (arith, room-le (be4 s 3) (be4 s 7) (be4 s 11) a b))
 
 node-le : (s : List ℕ) (v : ℕ) → nodeFieldNumber s v ≤ 6
 unfolding nodeFieldNumber
@@ -55,5 +55,5 @@ unfolding fileNumber
 file-le s a b = first-le _ _ 6 (head-le s a b) (nodes-le (be4 s 7) (be4 s 11) (drop 15 s) (be4 s 3 + 1))
 
 -- so that a fault is a refusal's number
-pub file-fault : (k : ℕ) (s : List ℕ) (a b : ℕ) → k ≡ fileNumber s a b → (k ≡ 0 → ⊥) → (1 ≤ k) × (k ≤ 9)
+pub file-fault : (k : ℕ) (s : List ℕ) (a b : ℕ) → k ≡ fileNumber s a b → (k ≡ 0 → ⊥) → IsRefusal k
 file-fault k s a b e n = (omega arith, omega (arith, file-le s a b))

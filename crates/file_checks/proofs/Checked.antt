@@ -7,6 +7,7 @@ use native.Mathlib.Nat.{eq-or-lt-of-le}
 use mathlib.Core.Logic.{⊎-elim}
 use lib.ListN.{length, getD, take, drop, length-drop}
 use lib.Seq.{take-all}
+use Rattle.graph.proofs.Admit.{rooms}
 use Rattle.graph.proofs.Tests.{off, is, both}
 use Rattle.file_checks.specs.Walk.{NodeRoom}
 use Rattle.graph.specs.Finite.{ifEqual, first}
@@ -99,9 +100,5 @@ pub head-passed : (s : List ℕ) (a b : ℕ) → headNumber s a b ≡ 0 → Head
 unfolding headNumber
 head-passed s a b e =
     let h = both _ _ e in
-    let i = off _ _ _ _ (h .1) in
-    let n = off _ _ _ _ (i .1) in
-    let o = off _ _ _ _ (n .1) in
-    let x = off _ _ _ _ (o .1) in
-    let y = off _ _ _ _ (x .1) in
-    record { room = head-room s (h .0); few-inputs = omega arith; few-nodes = omega arith; few-outputs = omega arith; long-nodes = omega arith; long-outputs = omega arith }
+    let r = rooms _ _ _ _ _ (h .1) in
+    record { room = head-room s (h .0); few-inputs = r .few-inputs; few-nodes = r .few-nodes; few-outputs = r .few-outputs; long-nodes = r .long-nodes; long-outputs = r .long-outputs }

@@ -4,6 +4,7 @@ use mathlib.Core.List.{List, [], _∷_}
 use lib.ListN.{length, getD, take, drop}
 use Rattle.graph.specs.Finite.{ifLess, ifEqual, first}
 use Rattle.graph.specs.Graph.{mark, index}
+use Rattle.graph.specs.Admission.{roomNumber}
 
 -- big-endian numbers of two and of four bytes, from this place on
 unfoldable pub be2 : List ℕ → ℕ → ℕ
@@ -45,13 +46,7 @@ third s = ifEqual (getD s 0 0) 3 mark (be4 s 11)
 
 -- field 01, with tables of so many words lent
 unfoldable pub headNumber : List ℕ → ℕ → ℕ → ℕ
-headNumber s nodeRoom outputRoom =
-    first (dueNumber 1 1 s)
-    (ifLess 4096 (be4 s 3) 3
-    (ifLess 100000 (be4 s 7) 3
-    (ifLess 4096 (be4 s 11) 3
-    (ifLess nodeRoom (3 * be4 s 7) 4
-    (ifLess outputRoom (be4 s 11) 4 0)))))
+headNumber s nodeRoom outputRoom = first (dueNumber 1 1 s) (roomNumber (be4 s 3) (be4 s 7) (be4 s 11) nodeRoom outputRoom)
 
 -- the field of the node that has index v: its literals name indices below v
 unfoldable pub nodeFieldNumber : List ℕ → ℕ → ℕ

@@ -12,24 +12,13 @@ pub fn head_number(s: &[u8], node_room: usize, output_room: usize) -> u32
     if k != 0 {
         return k;
     }
-    if 4096 < bytes::four(s, 3) {
-        return 3;
-    }
-    let nodes = bytes::four(s, 7);
-    if 100000 < nodes {
-        return 3;
-    }
-    let outputs = bytes::four(s, 11);
-    if 4096 < outputs {
-        return 3;
-    }
-    if node_room < 3 * nodes as usize {
-        return 4;
-    }
-    if output_room < outputs as usize {
-        return 4;
-    }
-    0
+    graph::faults::room_number(
+        bytes::four(s, 3),
+        bytes::four(s, 7),
+        bytes::four(s, 11),
+        node_room,
+        output_room,
+    )
 }
 
 pub fn node_number(s: &[u8], index: u32) -> u32

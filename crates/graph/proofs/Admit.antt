@@ -6,18 +6,41 @@ use native.Mathlib.Omega.{arith}
 use mathlib.Core.Logic.{⊎-elim}
 use lib.ListN.{length}
 use Rattle.graph.specs.Graph.{Graph, word, output, isEdge, node}
-use Rattle.graph.specs.Admission.{limitNumber, tableNumber, wordNumber, outputNumber, literalNumber, admissionNumber, Admitted}
+use Rattle.graph.specs.Admission.{roomNumber, tablesNumber, wordNumber, outputNumber, literalNumber, admissionNumber, Admitted}
 use Rattle.graph.proofs.Cases.{true-or-false}
 use Rattle.graph.proofs.Tests.{off, on, both, no-less, less, none, all-none, each-none}
 
-module _ (g : Graph) where
-  pub limits-are : limitNumber g ≡ 0 → (g .I ≤ 4096) × (g .N ≤ 100000) × (g .O ≤ 4096)
-  unfolding limitNumber
-  limits-are e = let a = off _ _ _ _ e in let b = off _ _ _ _ (a .1) in let d = off _ _ _ _ (b .1) in (a .0, b .0, d .0)
+-- limits that are kept, and tables that are long enough
+pub record Rooms (i n o nodeRoom outputRoom : ℕ) : Type 0 where
+  pub few-inputs : i ≤ 4096
+  pub few-nodes : n ≤ 100000
+  pub few-outputs : o ≤ 4096
+  pub long-nodes : 3 * n ≤ nodeRoom
+  pub long-outputs : o ≤ outputRoom
 
-  pub tables-are : tableNumber g ≡ 0 → (3 * g .N ≤ length (g .nodes)) × (g .O ≤ length (g .outputs))
-  unfolding tableNumber
-  tables-are e = let a = off _ _ _ _ e in let b = off _ _ _ _ (a .1) in (a .0, b .0)
+pub rooms : (i n o a b : ℕ) → roomNumber i n o a b ≡ 0 → Rooms i n o a b
+unfolding roomNumber
+rooms i n o a b e =
+    let p = off _ _ _ _ e in
+    let q = off _ _ _ _ (p .1) in
+    let r = off _ _ _ _ (q .1) in
+    let t = off _ _ _ _ (r .1) in
+    let u = off _ _ _ _ (t .1) in
+    record { few-inputs = p .0; few-nodes = q .0; few-outputs = r .0; long-nodes = t .0; long-outputs = u .0 }
+
+pub room-none : (i n o a b : ℕ) → Rooms i n o a b → roomNumber i n o a b ≡ 0
+unfolding roomNumber
+room-none i n o a b r =
+    sym (no-less _ _ _ _ (r .few-inputs)
+    (no-less _ _ _ _ (r .few-nodes)
+    (no-less _ _ _ _ (r .few-outputs)
+    (no-less _ _ _ _ (r .long-nodes)
+    (no-less _ _ _ _ (r .long-outputs) refl)))))
+
+module _ (g : Graph) where
+  pub tables-are : tablesNumber g ≡ 0 → Rooms (g .I) (g .N) (g .O) (length (g .nodes)) (length (g .outputs))
+  unfolding tablesNumber
+  tables-are e = rooms _ _ _ _ _ e
 
   word-is : (j : ℕ) → isEdge g j ≡ true → wordNumber g j ≡ 0 → word g j / 2 < node g (j / 3)
   unfolding wordNumber
@@ -42,37 +65,30 @@ module _ (g : Graph) where
       let b = both _ _ e in
       ((λ j h t. word-is j t (each-none (3 * g .N) (wordNumber g) (b .0) j h)), (λ j h. out-is j (each-none (g .O) (outputNumber g) (b .1) j h)))
 
-  pub admitted-by : limitNumber g ≡ 0 → tableNumber g ≡ 0 → literalNumber g ≡ 0 → Admitted g
-  admitted-by l t w =
-      let a = limits-are l in
-      let b = tables-are t in
+  pub admitted-by : tablesNumber g ≡ 0 → literalNumber g ≡ 0 → Admitted g
+  admitted-by t w =
+      let r = tables-are t in
       let d = literals-are w in
       record {
-        few-inputs = a .0;
-        few-nodes = a .1;
-        few-outputs = a .2;
-        long-nodes = b .0;
-        long-outputs = b .1;
+        few-inputs = r .few-inputs;
+        few-nodes = r .few-nodes;
+        few-outputs = r .few-outputs;
+        long-nodes = r .long-nodes;
+        long-outputs = r .long-outputs;
         below = d .0;
         output-below = d .1;
       }
 
   pub admitted : admissionNumber g ≡ 0 → Admitted g
   unfolding admissionNumber
-  admitted e =
-      let a = both _ _ e in
-      let b = both _ _ (a .1) in
-      admitted-by (a .0) (omega arith) (omega arith)
+  admitted e = let a = both _ _ e in admitted-by (a .0) (a .1)
 
   module _ (adm : Admitted g) where
-    pub limits-none : limitNumber g ≡ 0
-    unfolding limitNumber
-    limits-none =
-        sym (no-less _ _ _ _ (adm .few-inputs) (no-less _ _ _ _ (adm .few-nodes) (no-less _ _ _ _ (adm .few-outputs) refl)))
-
-    pub tables-none : tableNumber g ≡ 0
-    unfolding tableNumber
-    tables-none = sym (no-less _ _ _ _ (adm .long-nodes) (no-less _ _ _ _ (adm .long-outputs) refl))
+    pub tables-none : tablesNumber g ≡ 0
+    unfolding tablesNumber
+    tables-none =
+        room-none _ _ _ _ _
+        (record { few-inputs = adm .few-inputs; few-nodes = adm .few-nodes; few-outputs = adm .few-outputs; long-nodes = adm .long-nodes; long-outputs = adm .long-outputs })
 
     pub literals-none : literalNumber g ≡ 0
     unfolding literalNumber outputNumber
@@ -82,7 +98,4 @@ module _ (g : Graph) where
 
     pub admission-none : admissionNumber g ≡ 0
     unfolding admissionNumber
-    admission-none =
-        let t = tables-none in
-        let l = literals-none in
-        sym (none _ _ limits-none (none _ _ (omega arith) (omega arith)))
+    admission-none = sym (none _ _ tables-none (sym literals-none))

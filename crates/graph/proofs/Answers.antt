@@ -6,9 +6,26 @@ use native.Mathlib.Omega.{arith}
 use lib.Dec.{ltb}
 use Rattle.graph.specs.Finite.{ifLess, first, firstOf}
 use Rattle.graph.specs.Graph.{Graph, isEdge}
-use Rattle.graph.specs.Admission.{limitNumber, tableNumber, wordNumber, outputNumber, literalNumber, admissionNumber}
+use Rattle.graph.specs.Admission.{roomNumber, tablesNumber, wordNumber, outputNumber, literalNumber, admissionNumber}
 use Rattle.graph.proofs.Cases.{cond-le}
-use Rattle.graph.specs.Answer.{Answer, Outcome, refused, outcome, unless, guarded}
+use Rattle.graph.specs.Answer.{Answer, Outcome, numberOf, IsRefusal, refused, outcome, unless, guarded}
+use Rattle.graph.specs.declared.Refusal.{Refusal}
+use Rattle.graph.specs.declared.Refusal.the-variants.{MissingBytes, WrongField, OverLimit, ShortSlice, BadLiteral, ExtraBytes, NoSuchNode, ShortScratch, ShortBuffer, BadText, HasLatches, WrongNumbering}
+
+-- no refusal has the number 0
+pub number-some : (r : Refusal) → numberOf r ≡ 0 → ⊥
+number-some MissingBytes e = omega arith
+number-some WrongField e = omega arith
+number-some OverLimit e = omega arith
+number-some ShortSlice e = omega arith
+number-some BadLiteral e = omega arith
+number-some ExtraBytes e = omega arith
+number-some NoSuchNode e = omega arith
+number-some ShortScratch e = omega arith
+number-some ShortBuffer e = omega arith
+number-some BadText e = omega arith
+number-some HasLatches e = omega arith
+number-some WrongNumbering e = omega arith
 
 -- a call that is refused by k, and one that is not
 pub refused-is : (k m : ℕ) (a : Answer) → k ≡ m → (m ≡ 0 → ⊥) → refused k ≡ unless m a
@@ -47,14 +64,19 @@ unfolding firstOf
 firstOf-le zero f n h = omega arith
 firstOf-le (suc m) f n h = first-le (firstOf m f) (f m) n (firstOf-le m f n h) (h m)
 
-module _ (g : Graph) where
-  limit-le : limitNumber g ≤ 5
-  unfolding limitNumber
-  limit-le = ifLess-le _ _ _ _ _ (omega arith) (ifLess-le _ _ _ _ _ (omega arith) (ifLess-le _ _ _ _ _ (omega arith) (omega arith)))
+pub room-le : (i n o a b : ℕ) → roomNumber i n o a b ≤ 5
+unfolding roomNumber
+room-le i n o a b =
+    ifLess-le _ _ _ _ _ (omega arith)
+    (ifLess-le _ _ _ _ _ (omega arith)
+    (ifLess-le _ _ _ _ _ (omega arith)
+    (ifLess-le _ _ _ _ _ (omega arith)
+    (ifLess-le _ _ _ _ _ (omega arith) (omega arith)))))
 
-  table-le : tableNumber g ≤ 5
-  unfolding tableNumber
-  table-le = ifLess-le _ _ _ _ _ (omega arith) (ifLess-le _ _ _ _ _ (omega arith) (omega arith))
+module _ (g : Graph) where
+  tables-le : tablesNumber g ≤ 5
+  unfolding tablesNumber
+  tables-le = room-le _ _ _ _ _
 
   word-le : (j : ℕ) → wordNumber g j ≤ 5
   unfolding wordNumber
@@ -70,11 +92,8 @@ module _ (g : Graph) where
 
   pub admission-le : admissionNumber g ≤ 5
   unfolding admissionNumber
-  admission-le =
-      let t = table-le in
-      let l = literal-le in
-      first-le _ _ _ limit-le (first-le _ _ _ (omega arith) (omega arith))
+  admission-le = first-le _ _ _ tables-le literal-le
 
   -- what `refused_by` asks of the number
-  pub admission-range : (k : ℕ) → k ≡ admissionNumber g → (k ≡ 0 → ⊥) → (1 ≤ k) × (k ≤ 9)
+  pub admission-range : (k : ℕ) → k ≡ admissionNumber g → (k ≡ 0 → ⊥) → IsRefusal k
   admission-range k e n = (omega arith, omega (arith, admission-le))

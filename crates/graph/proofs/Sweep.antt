@@ -1,16 +1,16 @@
 -- A table rewritten in place from the front: place i holds f i below j, and what it held from j on. From the laws on
 -- tables.
-use mathlib.Core.Path.{_≡_, sym, _∙_}
+use mathlib.Core.Path.{_≡_, sym, ap, _∙_}
 use mathlib.Core.Bool.{cond}
 use mathlib.Core.Logic.{⊎-elim}
-use mathlib.Core.List.{List}
-use Prim.Native.Nat.{ℕ, suc, _≤_, _<_}
+use mathlib.Core.List.{List, _++_}
+use Prim.Native.Nat.{ℕ, suc, _+_, _-_, _≤_, _<_}
 use native.Mathlib.Omega.{arith}
 use native.Mathlib.Nat.{eq-or-lt-of-le}
 use borrow.Author.Tests.{lt-ltb, le-ltb}
 use lib.Dec.{ltb}
-use lib.Seq.{ext-getD, getD-set-same, getD-set-other}
-use lib.ListN.{length, getD, set, length-set}
+use lib.Seq.{ext-getD, getD-set-same, getD-set-other, getD-append-add, getD-drop}
+use lib.ListN.{length, getD, set, drop, length-set, length-append, length-drop, List·getD-append}
 use Rattle.graph.specs.Finite.{tab}
 use Rattle.graph.proofs.Cases.{lt-or-le}
 use Rattle.graph.proofs.Finite.{length-tab, getD-tab}
@@ -47,3 +47,20 @@ module _ (f : ℕ → ℕ) (l : List ℕ) where
       (λ (q : j < i). getD-set-other (swept f l j) j i (f j) 0 (omega arith) ∙ swept-left j i b p ∙ sym (swept-left (suc j) i b q))
       (eq-or-lt-of-le p))
       (lt-or-le i j))
+
+  -- up to place n: the front is f, the rest is left
+  pub swept-front : (n : ℕ) → n ≤ length l → swept f l n ≡ tab n f ++ drop n l
+  swept-front n h =
+      ext-getD 0 _ _ (simp (length-swept, length-append, length-tab, length-drop) (omega arith))
+      (λ i k.
+      let t = length-tab n f in
+      let b : i < length l = rw length-swept at k in
+      ⊎-elim
+      (λ (p : i < n). swept-done n i b p ∙ sym (List·getD-append (tab n f) (drop n l) 0 i (omega arith) ∙ getD-tab n f i p))
+      (λ (p : n ≤ i).
+      let e : n + (i - n) ≡ i = omega arith in
+      let q : length (tab n f) + (i - n) ≡ i = omega arith in
+      swept-left n i b p
+      ∙ sym (ap (λ (m : ℕ). getD (tab n f ++ drop n l) m 0) (sym q) ∙ getD-append-add (tab n f) (drop n l) (i - n) 0 ∙ getD-drop n l (i - n) 0
+      ∙ ap (λ (m : ℕ). getD l m 0) e))
+      (lt-or-le i n))

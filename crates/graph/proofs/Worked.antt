@@ -7,7 +7,7 @@ use Rattle.graph.specs.Finite.{ifLess, first, firstOf, sum, tab}
 use Rattle.graph.specs.Graph.{Graph, graphOf, mark, isXor, isEdge}
 use Rattle.graph.specs.Value.{majority, exclusive, literalValue, nodeValue, values, outputValue}
 use Rattle.graph.specs.Count.{C, edgeAdds, adds, wordAdds, nodeAdds, outputAdds}
-use Rattle.graph.specs.Admission.{limitNumber, tableNumber, wordNumber, outputNumber, literalNumber, admissionNumber}
+use Rattle.graph.specs.Admission.{roomNumber, tablesNumber, wordNumber, outputNumber, literalNumber, admissionNumber}
 use Rattle.graph.specs.Decimal.{decimalIn, decimal}
 
 -- one node of three words with one output
@@ -29,20 +29,20 @@ c-mark = refl
 
 -- the first node may name 7 with I = 3, and not 8
 pub names-7 : admissionNumber (one 3 2 4 7 8) ≡ 0
-unfolding admissionNumber limitNumber tableNumber literalNumber wordNumber outputNumber isEdge first firstOf ifLess
+unfolding admissionNumber tablesNumber roomNumber literalNumber wordNumber outputNumber isEdge first firstOf ifLess
 names-7 = refl
 
 pub names-8 : admissionNumber (one 3 2 4 8 8) ≡ 5
-unfolding admissionNumber limitNumber tableNumber literalNumber wordNumber outputNumber isEdge first firstOf ifLess
+unfolding admissionNumber tablesNumber roomNumber literalNumber wordNumber outputNumber isEdge first firstOf ifLess
 names-8 = refl
 
 -- 100,000 nodes are within the limits, and one more is refused before any table is looked at
-pub nodes-100000 : limitNumber (graphOf 3 100000 1 [] []) ≡ 0
-unfolding limitNumber ifLess
+pub nodes-100000 : roomNumber 3 100000 1 300000 1 ≡ 0
+unfolding roomNumber ifLess
 nodes-100000 = refl
 
 pub nodes-100001 : admissionNumber (graphOf 3 100001 1 [] []) ≡ 3
-unfolding admissionNumber limitNumber first ifLess
+unfolding admissionNumber tablesNumber roomNumber first ifLess
 nodes-100001 = refl
 
 -- bit 7 to 0 of F0, CC and AA: assignment k has the inputs k / 4, k / 2 and k, and the majority is that bit of E8

@@ -6,13 +6,18 @@ use lib.ListN.{length}
 use Rattle.graph.specs.Finite.{ifLess, first, firstOf}
 use Rattle.graph.specs.Graph.{Graph, node, word, output, index, isEdge}
 
--- 3: I, N or O above its limit
-unfoldable pub limitNumber : Graph → ℕ
-limitNumber g = ifLess 4096 (g .I) 3 (ifLess 100000 (g .N) 3 (ifLess 4096 (g .O) 3 0))
+-- 3: I, N or O above its limit; then 4: a lent table of so many words too short
+unfoldable pub roomNumber : ℕ → ℕ → ℕ → ℕ → ℕ → ℕ
+roomNumber i n o nodeRoom outputRoom =
+    ifLess 4096 i 3
+    (ifLess 100000 n 3
+    (ifLess 4096 o 3
+    (ifLess nodeRoom (3 * n) 4
+    (ifLess outputRoom o 4 0))))
 
--- 4: a lent table too short
-unfoldable pub tableNumber : Graph → ℕ
-tableNumber g = ifLess (length (g .nodes)) (3 * g .N) 4 (ifLess (length (g .outputs)) (g .O) 4 0)
+-- the same of a graph in its tables
+unfoldable pub tablesNumber : Graph → ℕ
+tablesNumber g = roomNumber (g .I) (g .N) (g .O) (length (g .nodes)) (length (g .outputs))
 
 -- 5: a literal of a node names an index that is not below the node's own
 unfoldable pub wordNumber : Graph → ℕ → ℕ
@@ -27,7 +32,7 @@ literalNumber g = first (firstOf (3 * g .N) (wordNumber g)) (firstOf (g .O) (out
 
 -- the first of the three, or 0 where the graph is admitted
 unfoldable pub admissionNumber : Graph → ℕ
-admissionNumber g = first (limitNumber g) (first (tableNumber g) (literalNumber g))
+admissionNumber g = first (tablesNumber g) (literalNumber g)
 
 -- the same as facts
 pub record Admitted (g : Graph) : Type 0 where

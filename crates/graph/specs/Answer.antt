@@ -1,16 +1,16 @@
 -- What calls answer: document 01's number, and the values returned.
 use mathlib.Core.Path.{_≡_}
 use mathlib.Core.List.{List, [], _∷_}
-use Prim.Native.Nat.{ℕ, zero, suc}
+use Prim.Native.Nat.{ℕ, zero, suc, _≤_}
 use Rattle.graph.specs.Graph.{Graph}
 use Rattle.graph.specs.declared.Refusal.{Refusal}
-use Rattle.graph.specs.declared.Refusal.the-variants.{MissingBytes, WrongField, OverLimit, ShortSlice, BadLiteral, ExtraBytes, NoSuchNode, ShortScratch, ShortBuffer}
+use Rattle.graph.specs.declared.Refusal.the-variants.{MissingBytes, WrongField, OverLimit, ShortSlice, BadLiteral, ExtraBytes, NoSuchNode, ShortScratch, ShortBuffer, BadText, HasLatches, WrongNumbering}
 use Rattle.graph.specs.declared.Admission.{Admission}
 use Rattle.graph.specs.declared.Admission.the-variants as admission
 use Rattle.graph.specs.declared.Count.{Count}
 use Rattle.graph.specs.declared.Count.the-variants as counted
 
--- document 01's number of each refusal
+-- document 01's number of each refusal, and document 02's
 abbrev pub numberOf : Refusal → ℕ
 numberOf MissingBytes = 1
 numberOf WrongField = 2
@@ -21,6 +21,13 @@ numberOf ExtraBytes = 6
 numberOf NoSuchNode = 7
 numberOf ShortScratch = 8
 numberOf ShortBuffer = 9
+numberOf BadText = 10
+numberOf HasLatches = 11
+numberOf WrongNumbering = 12
+
+-- the numbers that refusals have
+abbrev pub IsRefusal : ℕ → Type 0
+IsRefusal k = (1 ≤ k) × (k ≤ 12)
 
 -- a call's answer: the number, 0 where it is accepted, and the values that it then returns beside it
 pub record Answer : Type 0 where

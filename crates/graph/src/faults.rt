@@ -5,14 +5,21 @@ ghost use Prim.Native.Nat.{ℕ, _*_, _/_, _≤_};
 ghost use lib.ListN.{length};
 ghost use Rattle.graph.specs.Finite.{first, firstOf, ifLess, ifEqual};
 ghost use Rattle.graph.specs.Graph.{graphOf, mark};
-ghost use Rattle.graph.specs.Admission.{limitNumber, tableNumber, wordNumber, outputNumber, literalNumber, admissionNumber};
-ghost use Rattle.graph.specs.Answer.{numberOf};
+ghost use Rattle.graph.specs.Admission.{roomNumber, tablesNumber, wordNumber, outputNumber, literalNumber, admissionNumber};
+ghost use Rattle.graph.specs.Answer.{numberOf, IsRefusal};
 use crate::Refusal;
 use crate::literal::MARK;
 use crate::table::word_at;
 
-pub fn limit_number(inputs: u32, nodes: u32, outputs: u32) -> u32
-    ensures { λ r. ⌜ ((ns os : List ℕ) → r ≡ limitNumber (graphOf inputs nodes outputs ns os)) ⌝ }
+// By the limits, and by the words of the lent tables.
+pub fn room_number(
+    inputs: u32,
+    nodes: u32,
+    outputs: u32,
+    node_room: usize,
+    output_room: usize,
+) -> u32
+    ensures { λ r. ⌜ r ≡ roomNumber inputs nodes outputs «node_room» «output_room» ⌝ }
 {
     if 4096 < inputs {
         return 3;
@@ -23,23 +30,10 @@ pub fn limit_number(inputs: u32, nodes: u32, outputs: u32) -> u32
     if 4096 < outputs {
         return 3;
     }
-    0
-}
-
-pub fn table_number(
-    inputs: u32,
-    nodes: u32,
-    outputs: u32,
-    node_table: &[u32],
-    output_table: &[u32],
-) -> u32
-    requires { ⌜ nodes ≤ 100000 ⌝ }
-    ensures { λ r. ⌜ r ≡ tableNumber (graphOf inputs nodes outputs (now («node_table» .entry)) (now («output_table» .entry))) ⌝ }
-{
-    if node_table.len() < 3 * nodes as usize {
+    if node_room < 3 * nodes as usize {
         return 4;
     }
-    if output_table.len() < outputs as usize {
+    if output_room < outputs as usize {
         return 4;
     }
     0
@@ -117,7 +111,7 @@ pub fn literal_number(
     node_table: &[u32],
     output_table: &[u32],
 ) -> u32
-    requires { ⌜ (limitNumber (graphOf inputs nodes outputs (now «node_table») (now «output_table»)) ≡ 0) × (tableNumber (graphOf inputs nodes outputs (now «node_table») (now «output_table»)) ≡ 0) ⌝ }
+    requires { ⌜ tablesNumber (graphOf inputs nodes outputs (now «node_table») (now «output_table»)) ≡ 0 ⌝ }
     ensures { λ r. ⌜ r ≡ literalNumber (graphOf inputs nodes outputs (now («node_table» .entry)) (now («output_table» .entry))) ⌝ }
 {
     let k = nodes_number(inputs, nodes, node_table);
@@ -136,13 +130,9 @@ pub fn admission_number(
 ) -> u32
     ensures { λ r. ⌜ r ≡ admissionNumber (graphOf inputs nodes outputs (now («node_table» .entry)) (now («output_table» .entry))) ⌝ }
 {
-    let limit = limit_number(inputs, nodes, outputs);
-    if limit != 0 {
-        return limit;
-    }
-    let table = table_number(inputs, nodes, outputs, node_table, output_table);
-    if table != 0 {
-        return table;
+    let room = room_number(inputs, nodes, outputs, node_table.len(), output_table.len());
+    if room != 0 {
+        return room;
     }
     literal_number(inputs, nodes, outputs, node_table, output_table)
 }
@@ -159,7 +149,7 @@ pub fn first_fault(a: u32, b: u32) -> u32
 
 // The refusal of a number that is not 0.
 pub fn refused_by(number: u32) -> Refusal
-    requires { ⌜ (1 ≤ number) × (number ≤ 9) ⌝ }
+    requires { ⌜ IsRefusal number ⌝ }
     ensures { λ r. ⌜ numberOf r ≡ number ⌝ }
 {
     match number {
@@ -171,7 +161,10 @@ pub fn refused_by(number: u32) -> Refusal
         6 => Refusal::ExtraBytes,
         7 => Refusal::NoSuchNode,
         8 => Refusal::ShortScratch,
-        _ => Refusal::ShortBuffer,
+        9 => Refusal::ShortBuffer,
+        10 => Refusal::BadText,
+        11 => Refusal::HasLatches,
+        _ => Refusal::WrongNumbering,
     }
 }
 
@@ -188,5 +181,8 @@ pub fn number_of(refusal: Refusal) -> u32
         Refusal::NoSuchNode => 7,
         Refusal::ShortScratch => 8,
         Refusal::ShortBuffer => 9,
+        Refusal::BadText => 10,
+        Refusal::HasLatches => 11,
+        Refusal::WrongNumbering => 12,
     }
 }

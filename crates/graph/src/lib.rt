@@ -11,7 +11,7 @@ pub mod faults;
 pub mod literal;
 pub mod table;
 
-// Why a call is refused: the causes of document 01's table, in its order.
+// Why a call is refused: the causes of document 01's table, in its order, then those of document 02.
 pub enum Refusal {
     MissingBytes,
     WrongField,
@@ -22,6 +22,9 @@ pub enum Refusal {
     NoSuchNode,
     ShortScratch,
     ShortBuffer,
+    BadText,
+    HasLatches,
+    WrongNumbering,
 }
 
 // What the admission check answers.

@@ -6,6 +6,7 @@ use Prim.Native.Nat.{ℕ, zero, suc, _+_, _-_, _*_, _%_, _≤_, _<_}
 use native.Mathlib.Omega.{arith}
 use borrow.Author.Tests.{leb-true, ne-eqb}
 use lib.Dec.{leb}
+use Rattle.graph.specs.Answer.{IsRefusal}
 use Rattle.graph.specs.Admission.{Admitted, admissionNumber}
 use Rattle.graph.specs.Finite.{first}
 use Rattle.graph.specs.Graph.{Graph, node, isEdge, isXor}
@@ -44,9 +45,9 @@ module _ (g : Graph) (u : ℕ) where
   unfolding nodeNumber
   node-accepted e = let b = both (admissionNumber g) (nodeFault g u) e in node-is (b .0) (b .1)
 
-  pub node-range : (k : ℕ) → k ≡ nodeNumber g u → (k ≡ 0 → ⊥) → (1 ≤ k) × (k ≤ 9)
+  pub node-range : (k : ℕ) → k ≡ nodeNumber g u → (k ≡ 0 → ⊥) → IsRefusal k
   unfolding nodeNumber
-  node-range k e n = let a = admission-le g in (omega arith, rw e (first-le _ _ 9 (omega arith) (node-fault-le g u)))
+  node-range k e n = let a = admission-le g in (omega arith, omega (arith, first-le (admissionNumber g) (nodeFault g u) 9 (omega arith) (node-fault-le g u)))
 
   module _ (k : ℕ) where
     pub pair-is : pairNumber g u k ≡ first (nodeNumber g u) (wordFault g u k)
@@ -74,8 +75,8 @@ module _ (g : Graph) (u : ℕ) where
     unfolding nodeNumber
     node-le = let a = admission-le g in first-le _ _ 9 (omega arith) (node-fault-le g u)
 
-    pub pair-range : (n : ℕ) → n ≡ pairNumber g u k → (n ≡ 0 → ⊥) → (1 ≤ n) × (n ≤ 9)
-    pair-range n e z = (omega arith, rw (e, pair-is) (first-le _ _ 9 node-le word-le))
+    pub pair-range : (n : ℕ) → n ≡ pairNumber g u k → (n ≡ 0 → ⊥) → IsRefusal n
+    pair-range n e z = (omega arith, omega (arith, pair-is, first-le (nodeNumber g u) (wordFault g u k) 9 node-le word-le))
 
     -- the word is an edge, so it names an index below the node's
     module _ (w : AcceptedWord) where

@@ -20,7 +20,7 @@ use Rattle.replay.specs.declared.Replayed.{Replayed}
 use Rattle.replay.specs.declared.Replayed.the-variants as replayed
 use Rattle.replay.specs.declared.CallsFault.the-variants.{LeftOver, UnknownKind}
 use Rattle.replay.specs.Replay.{replayedAnswer, replayedGraph, DemandMet}
-use Rattle.replay.proofs.Whole.{numbered}
+use Rattle.graph.proofs.Answers.{number-some}
 
 -- equal answers keep the same scratch
 pub same-kept : {a b : Answer} (before after : List ℕ) → a ≡ b → ScratchKept a before after → ScratchKept b before after
@@ -53,7 +53,7 @@ pub replayed-demand : (r : Replayed) (g : Graph) (cs : List Call) (ns os l befor
 replayed-demand (replayed.Done i n o) g cs ns os l before m e h z = rw e (h z)
 replayed-demand (replayed.NotCalls LeftOver) g cs ns os l before m e h z = absurd (omega arith)
 replayed-demand (replayed.NotCalls UnknownKind) g cs ns os l before m e h z = absurd (omega arith)
-replayed-demand (replayed.Refused r) g cs ns os l before m e h z = absurd (numbered r z)
+replayed-demand (replayed.Refused r) g cs ns os l before m e h z = absurd (number-some r z)
 
 -- the stretch that a field call tells of is the payload
 take-again : (m : ℕ) (l : List ℕ) → take (length (take m l)) l ≡ take m l

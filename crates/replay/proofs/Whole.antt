@@ -10,25 +10,13 @@ use Rattle.graph.specs.Graph.{Graph, graphOf}
 use Rattle.graph.specs.Count.{C}
 use Rattle.graph.specs.Answer.{Answer, accepted, refused, numberOf, Outcome, outcome, guarded, ScratchKept}
 use Rattle.graph.specs.declared.Refusal.{Refusal}
-use Rattle.graph.specs.declared.Refusal.the-variants.{MissingBytes, WrongField, OverLimit, ShortSlice, BadLiteral, ExtraBytes, NoSuchNode, ShortScratch, ShortBuffer}
 use Rattle.graph.proofs.Tests.{equal, unequal, fault, none}
-use Rattle.graph.proofs.Answers.{refused-outcome, accepted-outcome}
+use Rattle.graph.proofs.Answers.{number-some, refused-outcome, accepted-outcome}
 use Rattle.tagged_file.specs.Load.{blank, loadedAnswer, loadedGraph, loadCall}
 use Rattle.tagged_file.specs.declared.Loaded.{Loaded}
 use Rattle.promises.specs.Demand.{Call, step, run, reported, savings, Demand}
 use Rattle.promises.proofs.Lists.{after-load}
 use Rattle.replay.specs.Replay.{decode, answersOf, codeNumber, replayNumber, replayCall, answersAfter, savingsIn, DemandMet}
-
-pub numbered : (r : Refusal) → numberOf r ≡ 0 → ⊥
-numbered MissingBytes e = omega arith
-numbered WrongField e = omega arith
-numbered OverLimit e = omega arith
-numbered ShortSlice e = omega arith
-numbered BadLiteral e = omega arith
-numbered ExtraBytes e = omega arith
-numbered NoSuchNode e = omega arith
-numbered ShortScratch e = omega arith
-numbered ShortBuffer e = omega arith
 
 guarded-graph : (k : ℕ) (g : Graph) (o : Outcome) → o .answer .number ≡ 0 → (guarded k g o .answer .number ≡ 0 → ⊥) → guarded k g o .graph ≡ g
 unfolding guarded
@@ -83,8 +71,8 @@ module _ (file ws ns os sc l : List ℕ) where
   unfolding replayNumber
   refused-file r ns′ os′ z e =
       let q : numberOf r ≡ loadCall file ns os .answer .number = ap (λ (o : Outcome). o .answer .number) e in
-      let h : blank ns′ os′ ≡ blank ns os = ap (λ (o : Outcome). o .graph) e ∙ unchanged (λ y. numbered r (q ∙ y)) in
-      let m = refuses (numberOf r) (none (codeNumber ws (length l)) (loadCall file ns os .answer .number) z q) (numbered r) in
+      let h : blank ns′ os′ ≡ blank ns os = ap (λ (o : Outcome). o .graph) e ∙ unchanged (λ y. number-some r (q ∙ y)) in
+      let m = refuses (numberOf r) (none (codeNumber ws (length l)) (loadCall file ns os .answer .number) z q) (number-some r) in
       rw h m
 
   pub replays : (i n o : ℕ) (ns′ os′ l′ sc′ : List ℕ) (h : Graph) → codeNumber ws (length l) ≡ 0

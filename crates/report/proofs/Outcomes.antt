@@ -8,11 +8,11 @@ use lib.ListN.{length, drop}
 use lib.Seq.{sets}
 use Rattle.graph.specs.Graph.{Graph, graphOf}
 use Rattle.graph.specs.Admission.{Admitted}
-use Rattle.graph.specs.Answer.{accepted, refused, numberOf, Outcome, outcome, guarded}
 use Rattle.graph.specs.declared.Refusal.{Refusal}
-use Rattle.graph.specs.declared.Refusal.the-variants.{MissingBytes, WrongField, OverLimit, ShortSlice, BadLiteral, ExtraBytes, NoSuchNode, ShortScratch, ShortBuffer}
+use Rattle.graph.specs.Answer.{accepted, refused, numberOf, Outcome, outcome, guarded}
 use Rattle.graph.proofs.Tests.{equal, unequal, both}
 use Rattle.graph.proofs.Admit.{admitted}
+use Rattle.graph.proofs.Answers.{number-some}
 use Rattle.tagged_file.proofs.Stores.{front}
 use Rattle.tagged_file.specs.Load.{loadedAnswer, loadedGraph, blank}
 use Rattle.tagged_file.specs.declared.Loaded.{Loaded}
@@ -23,17 +23,6 @@ use Rattle.settling.specs.declared.Settled.{Settled}
 use Rattle.settling.specs.declared.Settled.the-variants as settled
 use Rattle.report.specs.Text.{refusedText, line1}
 use Rattle.report.specs.Report.{settledText, textOf, thenSettle, settledFile, reportNumber, ReportOutcome, reportOutcome, printed, reportCall}
-
-pub numberOf-some : (r : Refusal) → numberOf r ≡ 0 → ⊥
-numberOf-some MissingBytes e = omega arith
-numberOf-some WrongField e = omega arith
-numberOf-some OverLimit e = omega arith
-numberOf-some ShortSlice e = omega arith
-numberOf-some BadLiteral e = omega arith
-numberOf-some ExtraBytes e = omega arith
-numberOf-some NoSuchNode e = omega arith
-numberOf-some ShortScratch e = omega arith
-numberOf-some ShortBuffer e = omega arith
 
 -- a text at the front of the buffer
 printed-is : (o : Outcome) (b b′ text : List ℕ) (r : ℕ) → textOf o ≡ text → r ≡ length text → r ≤ length b → b′ ≡ sets b 0 text
@@ -59,7 +48,7 @@ module _ (o : Outcome) (g : Graph) (b b′ : List ℕ) (r : ℕ) where
   unfolding textOf
   refused-printed q e h =
       let s : Outcome = outcome (refused (numberOf q)) g in
-      printed-is s b b′ (line1 refusedText (numberOf q)) r (sym (unequal (numberOf q) 0 _ _ (numberOf-some q) refl)) (h .0) (h .1) (h .2)
+      printed-is s b b′ (line1 refusedText (numberOf q)) r (sym (unequal (numberOf q) 0 _ _ (number-some q) refl)) (h .0) (h .1) (h .2)
       ∙ ap (λ (x : Outcome). printed x b) e
 
 -- a file that is loaded is settled, and a refused one is left at that
@@ -69,7 +58,7 @@ loaded-then l vs g s e = equal 0 0 _ _ refl refl ∙ ap (λ (x : Outcome). thenS
 
 pub refused-then : (l : Outcome) (q : Refusal) (g : Graph) (s : ℕ) → outcome (refused (numberOf q)) g ≡ l → outcome (refused (numberOf q)) g ≡ thenSettle l s
 unfolding thenSettle
-refused-then l q g s e = unequal (numberOf q) 0 _ _ (numberOf-some q) refl ∙ ap (λ (x : Outcome). thenSettle x s) e
+refused-then l q g s e = unequal (numberOf q) 0 _ _ (number-some q) refl ∙ ap (λ (x : Outcome). thenSettle x s) e
 
 -- a call that is accepted met no fault, and a graph that is settled was admitted
 pub guarded-zero : (k : ℕ) (g : Graph) (o : Outcome) → guarded k g o .answer .number ≡ 0 → k ≡ 0

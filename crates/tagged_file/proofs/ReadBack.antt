@@ -8,6 +8,7 @@ use native.Mathlib.Omega.{arith}
 use lib.ListN.{length, getD, drop, length-append}
 use Rattle.graph.specs.Graph.{mark}
 use Rattle.graph.proofs.Cases.{eq-or-ne}
+use Rattle.graph.proofs.Admit.{room-none}
 use Rattle.graph.proofs.Tests.{less, no-less, equal, unequal, none}
 use Rattle.file_checks.specs.File.{be2, be4, payloadOf, dueNumber, nodeSize, third, headNumber, nodeFieldNumber, outputFieldNumber, endNumber}
 use Rattle.tagged_file.specs.Write.{big, fieldOf, headField, nodeField, outputField, endField}
@@ -192,8 +193,8 @@ head-read a b i n o rest hi hn ho ha hb =
     let d = due-from 1 1 1 12 s (three-tag 1 i n o rest) (omega arith) (omega arith) payload-one (three-size 1 i n o rest) (omega arith) in
     record {
       number =
-          sym (none _ _ d (no-less _ _ _ _ (omega arith) (no-less _ _ _ _ (omega arith) (no-less _ _ _ _ (omega arith)
-          (no-less _ _ _ _ (omega arith) (no-less _ _ _ _ (omega arith) refl))))));
+          sym (none _ _ d (sym (room-none (be4 s 3) (be4 s 7) (be4 s 11) a b
+          (record { few-inputs = omega arith; few-nodes = omega arith; few-outputs = omega arith; long-nodes = omega arith; long-outputs = omega arith }))));
       inputs = ei;
       nodes = en;
       outputs = eo;

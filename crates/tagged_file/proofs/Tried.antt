@@ -5,7 +5,7 @@ use mathlib.Core.List.{List, [], _∷_, _++_}
 use lib.ListN.{length, take}
 use Rattle.graph.specs.Finite.{ifLess, ifEqual, first, firstOf}
 use Rattle.graph.specs.Graph.{graphOf, mark, isEdge}
-use Rattle.graph.specs.Admission.{limitNumber, tableNumber, wordNumber, literalNumber, admissionNumber}
+use Rattle.graph.specs.Admission.{roomNumber, tablesNumber, wordNumber, literalNumber, admissionNumber}
 use Rattle.graph.specs.Admission as admission
 use Rattle.graph.specs.Answer.{accepted, outcome, guarded}
 use Rattle.file_checks.specs.File.{be2, be4, payloadOf, dueNumber, fieldNumber, fieldPayload, nodeSize, third, headNumber, nodeFieldNumber, outputFieldNumber, endNumber, fileNumber}
@@ -28,7 +28,7 @@ size : length p1 ≡ 40
 size = refl
 
 loads : loadCall p1 (0 ∷ 0 ∷ 0 ∷ 6 ∷ []) (0 ∷ 8 ∷ []) ≡ outcome (accepted (3 ∷ 1 ∷ 1 ∷ [])) (graphOf 3 1 1 (3 ∷ 5 ∷ 7 ∷ 6 ∷ []) (9 ∷ 8 ∷ []))
-unfolding ifLess ifEqual first guarded be2 be4 payloadOf dueNumber nodeSize third headNumber nodeFieldNumber outputFieldNumber endNumber fileNumber graphRead loadCall
+unfolding ifLess ifEqual first guarded be2 be4 payloadOf dueNumber nodeSize third roomNumber headNumber nodeFieldNumber outputFieldNumber endNumber fileNumber graphRead loadCall
 loads = refl
 
 -- the number of each file, with tables of so many words lent
@@ -72,7 +72,7 @@ Agrees [] = Unit {0}
 Agrees (r ∷ rs) = (fileNumber (r .file) (r .nodeRoom) (r .outputRoom) ≡ r .number) × Agrees rs
 
 agree : Agrees rows
-unfolding rows ifLess ifEqual first be2 be4 payloadOf dueNumber nodeSize third headNumber nodeFieldNumber outputFieldNumber endNumber fileNumber
+unfolding rows ifLess ifEqual first be2 be4 payloadOf dueNumber nodeSize third roomNumber headNumber nodeFieldNumber outputFieldNumber endNumber fileNumber
 agree = (refl, (refl, (refl, (refl, (refl, (refl, (refl, (refl, (refl, (refl, (refl, (refl, (refl, (refl, tt))))))))))))))
 
 -- the file of P1's graph is P1's file; that of P5's graph, whose node is an XOR, has 36 bytes
@@ -88,7 +88,7 @@ p5-written = refl
 -- a buffer of 39 bytes is too short for P1's file, one of 40 is not; a graph that is not admitted is refused first
 fits : (writeNumber (graphOf 3 1 1 (3 ∷ 5 ∷ 7 ∷ []) (9 ∷ [])) 39 ≡ 9) × (writeNumber (graphOf 3 1 1 (3 ∷ 5 ∷ 7 ∷ []) (9 ∷ [])) 40 ≡ 0)
     × (writeNumber (graphOf 3 1 1 (3 ∷ 5 ∷ 8 ∷ []) (9 ∷ [])) 39 ≡ 5)
-unfolding ifLess ifEqual first firstOf isEdge limitNumber tableNumber wordNumber admission.outputNumber literalNumber admissionNumber big fieldOf headField nodeField outputField endField nodeFieldAt outputFieldAt fileOf writeNumber
+unfolding ifLess ifEqual first firstOf isEdge tablesNumber roomNumber wordNumber admission.outputNumber literalNumber admissionNumber big fieldOf headField nodeField outputField endField nodeFieldAt outputFieldAt fileOf writeNumber
 fits = (refl, refl, refl)
 
 -- one field: field 05 has an empty payload and is accepted; a cut head, an unknown tag, a wrong length and a cut payload are not

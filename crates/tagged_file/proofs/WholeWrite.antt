@@ -7,7 +7,7 @@ use lib.ListN.{length, length-append}
 use lib.Seq.{sets}
 use Rattle.graph.specs.Graph.{Graph}
 use Rattle.graph.specs.Admission.{admissionNumber}
-use Rattle.graph.specs.Answer.{accepted, refused}
+use Rattle.graph.specs.Answer.{IsRefusal, accepted, refused}
 use Rattle.graph.proofs.Tests.{both, off}
 use Rattle.graph.proofs.Answers.{ifLess-le, first-le, admission-le}
 use Rattle.tagged_file.specs.Write.{big, fieldOf, headField, endField, nodeFieldAt, outputFieldAt, inOrder, fileOf, writeNumber, writeOutcome, writeBy, writeCall}
@@ -80,7 +80,7 @@ file-stored g t t₁ t₂ t₃ t₄ middle end e₁ e₂ e₃ e₄ em ee =
     (omega (arith, length-file g, length-outputs (g .outputs) 0 (g .O)), f₄ ∙ ap (sets t 0) (in-a-row g))
 
 -- a refusal's number
-pub write-fault : (k : ℕ) (g : Graph) (room : ℕ) → k ≡ writeNumber g room → (k ≡ 0 → ⊥) → (1 ≤ k) × (k ≤ 9)
+pub write-fault : (k : ℕ) (g : Graph) (room : ℕ) → k ≡ writeNumber g room → (k ≡ 0 → ⊥) → IsRefusal k
 unfolding writeNumber
 write-fault k g room e n =
     let a = admission-le g in

@@ -10,7 +10,7 @@ use Rattle.graph.specs.Graph.{Graph}
 use Rattle.graph.specs.Count.{readers, nodeReaders}
 use Rattle.graph.specs.Admission.{admissionNumber, Admitted}
 use Rattle.graph.proofs.Admit.{admitted}
-use Rattle.graph.specs.Answer.{Outcome, outcome, refused}
+use Rattle.graph.specs.Answer.{IsRefusal, Outcome, outcome, refused}
 use Rattle.graph.proofs.Answers.{first-le, ifLess-le, admission-le, refused-outcome, accepted-outcome}
 use Rattle.graph.proofs.Cases.{cond-le}
 use Rattle.graph.proofs.Tests.{off, both, fault, none, passes, less, no-less}
@@ -68,7 +68,7 @@ module _ (g : Graph) where
     tree-le = first-le _ _ 9 (omega (arith, admission-le g)) (first-le _ _ 9 (node-fault-le g r) (first-le _ _ 9 root-le scratch-le))
 
     -- what `refused_by` asks of the number
-    pub tree-range : (k : ℕ) → k ≡ treeNumber g s r → k ≢ 0 → (1 ≤ k) × (k ≤ 9)
+    pub tree-range : (k : ℕ) → k ≡ treeNumber g s r → k ≢ 0 → IsRefusal k
     tree-range k e d = (omega (arith, d), omega (arith, tree-le))
 
     -- what an accepted call may rest on

@@ -3,9 +3,9 @@ use mathlib.Core.Path.{_≡_, refl, ap, _∙_}
 use Prim.Native.Nat.{_-_, _≤_}
 use native.Mathlib.Omega.{arith}
 use lib.ListN.{length, length-set}
-use Rattle.graph.proofs.Sweep.{swept, swept-zero}
+use Rattle.graph.proofs.Sweep.{swept, swept-zero, swept-front}
 use Rattle.evaluation.specs.Inner.{byIndex, literalWord, outputWordFrom}
-use Rattle.evaluation.proofs.Outputs.{swept-front, swept-next}
+use Rattle.evaluation.proofs.Outputs.{swept-next}
 use Rattle.evaluation.proofs.results.fill_results.Statement.{statement}
 use Rattle.evaluation.proofs.results.fill_results.Tie as tie
 

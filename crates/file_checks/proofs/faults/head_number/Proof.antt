@@ -2,8 +2,7 @@
 use native.Mathlib.Omega.{arith}
 use Rattle.file_checks.specs.File.{headNumber}
 use Rattle.file_checks.proofs.Checked.{head-room}
-use Rattle.graph.proofs.Tests.{less, no-less, fault, none}
-use mathlib.Core.Path.{refl}
+use Rattle.graph.proofs.Tests.{fault, none}
 use denote.Ref.{now}
 use borrow.Author.Needs.{needs}
 use Rattle.file_checks.proofs.faults.head_number.Statement.{statement}
@@ -16,35 +15,19 @@ returns c = fault _ _ (omega arith) (λ e. omega arith)
 four-requires : tie.Need-four-requires
 four-requires c κs = omega (arith, head-room (now (c .before .before .before .args .s)) (omega arith))
 
-returns-2 : tie.Need-returns-2
-unfolding headNumber
-returns-2 c = none _ _ (omega arith) (less _ _ _ _ (omega arith) (refl))
-
 four-requires-2 : tie.Need-four-requires-2
-four-requires-2 c κs = omega (arith, head-room (now (c .before .before .before .before .before .args .s)) (omega arith))
-
-returns-3 : tie.Need-returns-3
-unfolding headNumber
-returns-3 c = none _ _ (omega arith) (no-less _ _ _ _ (omega arith) (less _ _ _ _ (omega arith) (refl)))
+four-requires-2 c κs = omega (arith, head-room (now (c .before .before .before .before .args .s)) (omega arith))
 
 four-requires-3 : tie.Need-four-requires-3
-four-requires-3 c κs = omega (arith, head-room (now (c .before .before .before .before .before .before .before .args .s)) (omega arith))
+four-requires-3 c κs = omega (arith, head-room (now (c .before .before .before .before .before .args .s)) (omega arith))
 
-returns-4 : tie.Need-returns-4
+returns-2 : tie.Need-returns-2
 unfolding headNumber
-returns-4 c = none _ _ (omega arith) (no-less _ _ _ _ (omega arith) (no-less _ _ _ _ (omega arith) (less _ _ _ _ (omega arith) (refl))))
-
-returns-5 : tie.Need-returns-5
-unfolding headNumber
-returns-5 c = none _ _ (omega arith) (no-less _ _ _ _ (omega arith) (no-less _ _ _ _ (omega arith) (no-less _ _ _ _ (omega arith) (less _ _ _ _ (omega arith) (refl)))))
-
-returns-6 : tie.Need-returns-6
-unfolding headNumber
-returns-6 c = none _ _ (omega arith) (no-less _ _ _ _ (omega arith) (no-less _ _ _ _ (omega arith) (no-less _ _ _ _ (omega arith) (no-less _ _ _ _ (omega arith) (less _ _ _ _ (omega arith) (refl))))))
-
-returns-7 : tie.Need-returns-7
-unfolding headNumber
-returns-7 c = none _ _ (omega arith) (no-less _ _ _ _ (omega arith) (no-less _ _ _ _ (omega arith) (no-less _ _ _ _ (omega arith) (no-less _ _ _ _ (omega arith) (no-less _ _ _ _ (omega arith) (refl))))))
+returns-2 c =
+    let z = c .before in
+    let y = z .before in
+    let x = y .before in
+    none _ _ (omega arith) (rw (x .four .ensures, y .four2 .ensures, z .four3 .ensures) at (c .room-number .ensures))
 
 pub head-number-spec : {M : Type 1} → statement M
 head-number-spec =
@@ -53,14 +36,7 @@ head-number-spec =
     (λ c κs. search needs)
     returns
     four-requires
-    returns-2
     four-requires-2
-    returns-3
     four-requires-3
-    returns-4
-    (λ c. search needs)
-    (λ c. search needs)
-    returns-5
-    (λ c. search needs)
-    returns-6
-    returns-7)
+    (λ c κs. search needs)
+    returns-2)

@@ -2,15 +2,14 @@
 use mathlib.Core.Path.{sym, _∙_}
 use Rattle.graph.specs.Admission.{literalNumber}
 use Rattle.graph.proofs.Tests.{fault, none}
-use Rattle.graph.proofs.Admit.{limits-are, tables-are}
+use Rattle.graph.proofs.Admit.{tables-are}
 use Rattle.graph.proofs.faults.literal_number.Statement.{statement}
 use Rattle.graph.proofs.faults.literal_number.Tie as tie
 
 nodes-number-requires : tie.Need-nodes-number-requires
 nodes-number-requires c κs =
-    let s = c .before .before in
-    let l = limits-are _ (s .pre .0) in
-    (l .0, l .1, tables-are _ (s .pre .1) .0)
+    let r = tables-are _ (c .before .before .pre) in
+    (r .few-inputs, r .few-nodes, r .long-nodes)
 
 returns : tie.Need-returns
 unfolding literalNumber
@@ -21,9 +20,8 @@ returns c =
 
 outputs-number-requires : tie.Need-outputs-number-requires
 outputs-number-requires c κs =
-    let s = c .before .before .before .before in
-    let l = limits-are _ (s .pre .0) in
-    (l .0, l .1, tables-are _ (s .pre .1) .1)
+    let r = tables-are _ (c .before .before .before .before .pre) in
+    (r .few-inputs, r .few-nodes, r .long-outputs)
 
 returns-2 : tie.Need-returns-2
 unfolding literalNumber
