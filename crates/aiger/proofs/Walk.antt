@@ -12,7 +12,7 @@ use Rattle.graph.proofs.Tests.{no-less, on, is}
 use Rattle.aiger.specs.Lines.{ifDigit, digits, worth, number, endedNumber, next, skip}
 use Rattle.aiger.proofs.ReadNumber.{is-digit, no-digit}
 
-high-digit : (b x y : ℕ) → 58 ≤ b → ifDigit b x y ≡ y
+pub high-digit : (b x y : ℕ) → 58 ≤ b → ifDigit b x y ≡ y
 unfolding ifDigit
 high-digit b x y h = sym (no-less b 48 _ _ (omega arith) (no-less b 58 _ _ h refl))
 

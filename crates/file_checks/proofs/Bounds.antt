@@ -1,21 +1,13 @@
 -- The numbers that refuse a file are at most 6, so that each is a refusal's. From the laws on tests.
 use Prim.Native.Nat.{ℕ, zero, suc, _+_, _≤_}
-use mathlib.Core.Path.{_≡_, refl}
+use mathlib.Core.Path.{_≡_}
 use native.Mathlib.Omega.{arith}
-use mathlib.Core.Logic.{⊎-elim, _≢_}
 use mathlib.Core.List.{List}
 use lib.Dec.{lit≤}
 use lib.ListN.{drop}
-use Rattle.graph.specs.Finite.{ifEqual}
 use Rattle.graph.specs.Answer.{IsRefusal}
-use Rattle.graph.proofs.Cases.{eq-or-ne}
-use Rattle.graph.proofs.Tests.{equal, unequal}
-use Rattle.graph.proofs.Answers.{ifLess-le, first-le, room-le}
+use Rattle.graph.proofs.Answers.{ifLess-le, ifEqual-le, first-le, room-le}
 use Rattle.file_checks.specs.File.{be4, dueNumber, nodeSize, headNumber, nodeFieldNumber, outputFieldNumber, endNumber, outputFieldsNumber, nodeFieldsNumber, fileNumber}
-
-ifEqual-le : (a b x y n : ℕ) → x ≤ n → y ≤ n → ifEqual a b x y ≤ n
-ifEqual-le a b x y n h k =
-    ⊎-elim (λ (e : a ≡ b). rw (← equal a b x y e refl) h) (λ (d : a ≢ b). rw (← unequal a b x y d refl) k) (eq-or-ne a b)
 
 due-le : (low high : ℕ) (s : List ℕ) → dueNumber low high s ≤ 6
 unfolding dueNumber

@@ -2,12 +2,14 @@
 -- Assumes nothing.
 use mathlib.Core.Path.{_≡_, refl, ap}
 use Prim.Native.Nat.{ℕ, zero, suc, _≤_}
+use mathlib.Core.Logic.{⊎-elim, _≢_}
 use native.Mathlib.Omega.{arith}
 use lib.Dec.{ltb}
-use Rattle.graph.specs.Finite.{ifLess, first, firstOf}
+use Rattle.graph.specs.Finite.{ifLess, ifEqual, first, firstOf}
 use Rattle.graph.specs.Graph.{Graph, isEdge}
 use Rattle.graph.specs.Admission.{roomNumber, tablesNumber, wordNumber, outputNumber, literalNumber, admissionNumber}
-use Rattle.graph.proofs.Cases.{cond-le}
+use Rattle.graph.proofs.Cases.{cond-le, eq-or-ne}
+use Rattle.graph.proofs.Tests.{equal, unequal}
 use Rattle.graph.specs.Answer.{Answer, Outcome, numberOf, IsRefusal, refused, outcome, unless, guarded}
 use Rattle.graph.specs.declared.Refusal.{Refusal}
 use Rattle.graph.specs.declared.Refusal.the-variants.{MissingBytes, WrongField, OverLimit, ShortSlice, BadLiteral, ExtraBytes, NoSuchNode, ShortScratch, ShortBuffer, BadText, HasLatches, WrongNumbering}
@@ -53,6 +55,10 @@ accepted-outcome (suc m) g o e = absurd (omega arith)
 pub ifLess-le : (a b x y n : ℕ) → x ≤ n → y ≤ n → ifLess a b x y ≤ n
 unfolding ifLess
 ifLess-le a b x y n h k = cond-le (ltb a b) x y n h k
+
+pub ifEqual-le : (a b x y n : ℕ) → x ≤ n → y ≤ n → ifEqual a b x y ≤ n
+ifEqual-le a b x y n h k =
+    ⊎-elim (λ (e : a ≡ b). rw (← equal a b x y e refl) h) (λ (d : a ≢ b). rw (← unequal a b x y d refl) k) (eq-or-ne a b)
 
 pub first-le : (a b n : ℕ) → a ≤ n → b ≤ n → first a b ≤ n
 unfolding first

@@ -1,10 +1,13 @@
 -- Demand 3: whatever the list of calls, from any admitted start. By induction over the list, from what each call does (Calls).
+use mathlib.Core.Path.{_≡_}
 use mathlib.Core.List.{List, [], _∷_}
 use Prim.Native.Nat.{ℕ}
 use Rattle.graph.specs.Graph.{Graph}
 use Rattle.graph.specs.Admission.{Admitted}
 use Rattle.tagged_file.specs.Load.{loadCall}
 use Rattle.tagged_file.proofs.RoundTrip.{Accepts, load-admitted}
+use Rattle.aiger.specs.Import.{importCall}
+use Rattle.aiger.proofs.Imported.{import-admitted}
 use Rattle.moves.proofs.Kept.{Kept, kept-none, kept-then}
 use Rattle.promises.specs.Demand.{Call, step, run, reported, savings, Demand}
 use Rattle.promises.proofs.Calls.{call-made, call-kept}
@@ -29,3 +32,7 @@ demand g adm calls =
 -- after an accepted load of the file s into the tables ns and os
 pub after-load : (s ns os : List ℕ) → Accepts s ns os → (calls : List Call) → Demand (loadCall s ns os .graph) calls
 after-load s ns os e calls = demand (loadCall s ns os .graph) (load-admitted s ns os e) calls
+
+-- and after an accepted import of the text s
+pub after-import : (s ns os : List ℕ) → importCall s ns os .answer .number ≡ 0 → (calls : List Call) → Demand (importCall s ns os .graph) calls
+after-import s ns os e calls = demand (importCall s ns os .graph) (import-admitted s ns os e) calls

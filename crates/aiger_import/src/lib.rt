@@ -1,0 +1,40 @@
+// Importing a graph from ASCII AIGER.
+ghost use mathlib.Core.Path.{_≡_};
+ghost use Rattle.graph.specs.Answer.{outcome};
+ghost use Rattle.tagged_file.specs.Load.{loadedAnswer, loadedGraph};
+ghost use Rattle.aiger.specs.Import.{importCall};
+
+mod faults;
+mod fill;
+mod header;
+mod lines;
+
+use graph::faults::refused_by;
+use tagged_file::Loaded;
+
+// The first pass checks the whole text, the second fills the tables: a refusal has changed nothing.
+pub fn import(text: &[u8], node_table: &mut [u32], output_table: &mut [u32]) -> Loaded
+    ensures { λ r. ⌜ outcome (loadedAnswer r) (loadedGraph r (now («node_table» .exit)) (now («output_table» .exit))) ≡ importCall (now (text .entry)) (now («node_table» .entry)) (now («output_table» .entry)) ⌝ }
+{
+    let header = header::read_header(text, node_table.len(), output_table.len());
+    let fault = header.fault;
+    if fault != 0 {
+        return Loaded::Refused(refused_by(fault));
+    }
+    let start = header.size;
+    let inputs = header.inputs;
+    let nodes = header.nodes;
+    let outputs = header.outputs;
+    let number = faults::inputs_number(&text[start..], inputs, nodes, outputs);
+    if number != 0 {
+        return Loaded::Refused(refused_by(number));
+    }
+    let after = fill::after_ones(&text[start..], inputs);
+    let gates = fill::fill_outputs(after, outputs, output_table);
+    fill::fill_gates(gates, nodes, node_table);
+    Loaded::Graph {
+        inputs,
+        nodes,
+        outputs,
+    }
+}
