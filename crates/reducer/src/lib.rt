@@ -9,6 +9,7 @@ ghost use Rattle.graph.specs.Answer.{accepted, unless, ScratchKept};
 ghost use Rattle.file_checks.specs.File.{fieldNumber, fieldPayload};
 ghost use Rattle.tagged_file.specs.Load.{loadCall};
 ghost use Rattle.tagged_file.specs.Write.{writeCall};
+ghost use Rattle.aiger.specs.Import.{importCall};
 ghost use Rattle.evaluation.specs.Evaluation.{evaluateNumber, resultsAfter};
 ghost use Rattle.moves.specs.Call.{nodeCall, pairCall, treeCall};
 ghost use Rattle.rounds.specs.Settle.{settleCall};
@@ -42,6 +43,24 @@ pub extern "C" fn reducer_load(
     ensures numbers { λ r. ⌜ now (numbers .exit) ≡ told (loadCall (now (file .entry)) (now («node_table» .entry)) (now («output_table» .entry)) .answer) (now (numbers .entry)) ⌝ }
 {
     let answer = tagged_file::load(file, node_table, output_table);
+    *numbers = answers::told::loaded_told(answer, *numbers);
+    answers::told::loaded_number(answer)
+}
+
+// Fills the tables from ASCII AIGER, and `numbers` with I, N and O.
+#[no_mangle]
+pub extern "C" fn reducer_import(
+    text: &[u8],
+    node_table: &mut [u32],
+    output_table: &mut [u32],
+    numbers: &mut [u32; 3],
+) -> u32
+    ensures answer { λ r. ⌜ r ≡ importCall (now (text .entry)) (now («node_table» .entry)) (now («output_table» .entry)) .answer .number ⌝ }
+    ensures nodes { λ r. ⌜ now («node_table» .exit) ≡ importCall (now (text .entry)) (now («node_table» .entry)) (now («output_table» .entry)) .graph .nodes ⌝ }
+    ensures outputs { λ r. ⌜ now («output_table» .exit) ≡ importCall (now (text .entry)) (now («node_table» .entry)) (now («output_table» .entry)) .graph .outputs ⌝ }
+    ensures numbers { λ r. ⌜ now (numbers .exit) ≡ told (importCall (now (text .entry)) (now («node_table» .entry)) (now («output_table» .entry)) .answer) (now (numbers .entry)) ⌝ }
+{
+    let answer = aiger_import::import(text, node_table, output_table);
     *numbers = answers::told::loaded_told(answer, *numbers);
     answers::told::loaded_number(answer)
 }
