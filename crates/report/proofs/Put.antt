@@ -6,7 +6,7 @@ use Prim.Native.Nat.{ℕ, suc, _+_, _≤_, _<_}
 use native.Mathlib.Omega.{arith}
 use lib.ListN.{length, getD, set, drop, length-set, length-append}
 use lib.Seq.{sets, drop-cons, drop-length}
-use Rattle.tagged_file.proofs.Stores.{then}
+use Rattle.tagged_file.proofs.Stores.{in-a-row}
 
 -- a text half copied to place i: what is left of it, from place k on, comes to the whole
 pub record Copying (b₀ : List ℕ) (i : ℕ) (text b : List ℕ) (k : ℕ) : Type 0 where
@@ -40,13 +40,6 @@ room-first a b at n h = omega (arith, length-append a b)
 
 pub room-rest : (a b : List ℕ) (at middle n m : ℕ) → at + length (a ++ b) ≤ n → middle ≡ at + length a → m ≡ n → middle + length b ≤ m
 room-rest a b at middle n m h e s = omega (arith, length-append a b)
-
--- what is put first, and what is put after it
-pub in-a-row : (t t₁ t₂ a b : List ℕ) (at middle end : ℕ) → (middle ≡ at + length a) × (t₁ ≡ sets t at a)
-    → (end ≡ middle + length b) × (t₂ ≡ sets t₁ middle b) → (end ≡ at + length (a ++ b)) × (t₂ ≡ sets t at (a ++ b))
-in-a-row t t₁ t₂ a b at middle end h k =
-    let e = h .0 in
-    (omega (arith, length-append a b, k .0), then t t₁ t₂ a b at middle (h .1) (k .1) e)
 
 -- room for a text and a byte after it
 pub room-byte : (a : List ℕ) (x at middle n : ℕ) → at + length (a ++ (x ∷ [])) ≤ n → middle ≡ at + length a → middle < n

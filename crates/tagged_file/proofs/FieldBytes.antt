@@ -2,11 +2,16 @@
 use Prim.Native.Nat.{ℕ, _+_, _*_}
 use mathlib.Core.Path.{_≡_, refl, sym, ap, _∙_}
 use mathlib.Core.List.{List, [], _∷_, _++_}
+use mathlib.Core.Logic.{⊎-elim, _≢_}
+use native.Mathlib.Omega.{arith}
 use lib.ListN.{length, getD}
 use lib.Seq.{sets}
 use Rattle.graph.specs.Graph.{mark}
+use Rattle.graph.specs.Finite.{ifEqual}
+use Rattle.graph.proofs.Cases.{eq-or-ne}
 use Rattle.graph.proofs.Tests.{equal, unequal}
 use Rattle.tagged_file.specs.Write.{big, fieldOf, nodeField, outputField, nodeFieldAt, outputFieldAt, endField}
+use Rattle.tagged_file.specs.Inner.{thirdBytes}
 use Rattle.tagged_file.proofs.Stores.{then}
 
 pub end-is : endField ≡ 5 ∷ 0 ∷ 0 ∷ []
@@ -56,6 +61,46 @@ module _ (t t₁ t₂ t₃ : List ℕ) (at : ℕ) where
   two-stored tag x y e₁ e₂ e₃ =
       let h : List ℕ = tag ∷ 0 ∷ 8 ∷ [] in
       then t t₂ t₃ (h ++ big 4 x) (big 4 y) at (at + 7) (then t t₁ t₂ h (big 4 x) at (at + 3) e₁ e₂ refl) e₃ refl
+
+-- a third word takes no bytes or four
+pub third-none : (z : ℕ) → z ≡ mark → [] ≡ thirdBytes z
+unfolding thirdBytes
+third-none z e = equal _ _ _ _ e refl
+
+pub third-four : (z : ℕ) → (z ≡ mark → ⊥) → big 4 z ≡ thirdBytes z
+unfolding thirdBytes
+third-four z n = unequal _ _ _ _ n refl
+
+length-big : (z : ℕ) → length (big 4 z) ≡ 4
+unfolding big
+length-big z = refl
+
+pub length-third : (z : ℕ) → (z ≡ mark → ⊥) → length (thirdBytes z) ≡ 4
+length-third z n = ap length (sym (third-four z n)) ∙ length-big z
+
+-- a node's field, part after part
+pub node-length : (x y z : ℕ) → length (nodeField x y z) ≡ 11 + length (thirdBytes z)
+node-length x y z =
+    ⊎-elim
+    (λ (e : z ≡ mark). omega (arith, length-xor x y z e, ap length (third-none z e)))
+    (λ (n : z ≢ mark). omega (arith, length-majority x y z n, length-third z n))
+    (eq-or-ne z mark)
+
+pub node-stored : (t t₁ t₂ t₃ t₄ : List ℕ) (at x y z tag size : ℕ) → tag ≡ ifEqual z mark 3 2 → size ≡ ifEqual z mark 8 12
+    → t₁ ≡ sets t at (tag ∷ 0 ∷ size ∷ []) → t₂ ≡ sets t₁ (at + 3) (big 4 x) → t₃ ≡ sets t₂ (at + 7) (big 4 y) → t₄ ≡ sets t₃ (at + 11) (thirdBytes z)
+    → t₄ ≡ sets t at (nodeField x y z)
+node-stored t t₁ t₂ t₃ t₄ at x y z tag size p q e₁ e₂ e₃ e₄ =
+    ⊎-elim
+    (λ (e : z ≡ mark).
+    let p₁ : tag ≡ 3 = p ∙ sym (equal z mark _ _ e refl) in
+    let q₁ : size ≡ 8 = q ∙ sym (equal z mark _ _ e refl) in
+    let e₅ : t₄ ≡ t₃ = rw (← third-none z e) at e₄ in
+    e₅ ∙ two-stored t t₁ t₂ t₃ at 3 x y (rw (p₁, q₁) at e₁) e₂ e₃ ∙ ap (sets t at) (node-xor x y z e))
+    (λ (n : z ≢ mark).
+    let p₁ : tag ≡ 2 = p ∙ sym (unequal z mark _ _ n refl) in
+    let q₁ : size ≡ 12 = q ∙ sym (unequal z mark _ _ n refl) in
+    three-stored t t₁ t₂ t₃ at 2 x y z t₄ (rw (p₁, q₁) at e₁) e₂ e₃ (rw (← third-four z n) at e₄) ∙ ap (sets t at) (node-majority x y z n))
+    (eq-or-ne z mark)
 
 pub output-stored : (t t₁ t₂ : List ℕ) (at x : ℕ) → t₁ ≡ sets t at (4 ∷ 0 ∷ 4 ∷ []) → t₂ ≡ sets t₁ (at + 3) (big 4 x) → t₂ ≡ sets t at (outputField x)
 unfolding outputField fieldOf big

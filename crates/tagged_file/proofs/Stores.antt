@@ -4,7 +4,7 @@ use mathlib.Core.Path.{_≡_, ap, _∙_}
 use mathlib.Core.List.{List, [], _∷_, _++_}
 use native.Mathlib.Omega.{arith}
 use native.Mathlib.Nat.{zero-add}
-use lib.ListN.{length, drop, set}
+use lib.ListN.{length, drop, set, length-append}
 use lib.Seq.{sets, sets-eq}
 
 -- a run of stores from the front
@@ -18,3 +18,10 @@ sets-append (x ∷ a) b t at at′ e = sets-append a b (set t at x) (suc at) at�
 -- what a second run leaves that follows the first
 pub then : (t t₁ t₂ a b : List ℕ) (at at′ : ℕ) → t₁ ≡ sets t at a → t₂ ≡ sets t₁ at′ b → at′ ≡ at + length a → t₂ ≡ sets t at (a ++ b)
 then t t₁ t₂ a b at at′ e₁ e₂ e = e₂ ∙ ap (λ (l : List ℕ). sets l at′ b) e₁ ∙ sets-append a b t at at′ e
+
+-- the same with the place after each
+pub in-a-row : (t t₁ t₂ a b : List ℕ) (at middle end : ℕ) → (middle ≡ at + length a) × (t₁ ≡ sets t at a)
+    → (end ≡ middle + length b) × (t₂ ≡ sets t₁ middle b) → (end ≡ at + length (a ++ b)) × (t₂ ≡ sets t at (a ++ b))
+in-a-row t t₁ t₂ a b at middle end h k =
+    let e = h .0 in
+    (omega (arith, length-append a b, k .0), then t t₁ t₂ a b at middle (h .1) (k .1) e)

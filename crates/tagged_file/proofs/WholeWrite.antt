@@ -91,17 +91,20 @@ pub write-passed : (g : Graph) (room : ℕ) → writeNumber g room ≡ 0 → (ad
 unfolding writeNumber
 write-passed g room e = let b = both _ _ e in (b .0, off _ _ _ _ (b .1) .0)
 
--- the answers
+-- the answers, of anything that is written: refused by k, and with no fault
+pub by-refused : (k j : ℕ) (file b : List ℕ) → j ≡ k → (k ≡ 0 → ⊥) → writeOutcome (refused j) b ≡ writeBy k file b
+by-refused zero j file b e n = absurd (n refl)
+by-refused (suc k) j file b e n = ap (λ (i : ℕ). writeOutcome (refused i) b) e
+
+pub by-accepted : (k n : ℕ) (file b b′ : List ℕ) → k ≡ 0 → n ≡ length file → b′ ≡ sets b 0 file → length file ≤ length b
+    → writeOutcome (accepted (n ∷ [])) b′ ≡ writeBy k file b
+by-accepted k n file b b′ z en eb h = rw (z, en, eb, front file b (length file) refl h) refl
+
 pub write-refused : (k j : ℕ) (g : Graph) (b : List ℕ) → j ≡ k → k ≡ writeNumber g (length b) → (k ≡ 0 → ⊥) → writeOutcome (refused j) b ≡ writeCall g b
 unfolding writeCall
-write-refused k j g b ej e n = rw (ej, ← e) (by k n)
-  where
-    by : (k : ℕ) → (k ≡ 0 → ⊥) → writeOutcome (refused k) b ≡ writeBy k (fileOf g) b
-    by zero n = absurd (n refl)
-    by (suc k) n = refl
+write-refused k j g b ej e n = rw (← e) (by-refused k j (fileOf g) b ej n)
 
 pub write-accepted : (n : ℕ) (g : Graph) (b b′ : List ℕ) → writeNumber g (length b) ≡ 0 → n ≡ length (fileOf g) → b′ ≡ sets b 0 (fileOf g)
     → writeOutcome (accepted (n ∷ [])) b′ ≡ writeCall g b
 unfolding writeCall
-write-accepted n g b b′ z en eb =
-    rw (z, en, eb, front (fileOf g) b (length (fileOf g)) refl (write-passed g (length b) z .1)) refl
+write-accepted n g b b′ z en eb = by-accepted _ n (fileOf g) b b′ z en eb (write-passed g (length b) z .1)

@@ -4,7 +4,9 @@ ghost use mathlib.Core.List.{[], _∷_, _++_};
 ghost use Prim.Native.Nat.{_+_, _*_, _≤_};
 ghost use lib.ListN.{length};
 ghost use lib.Seq.{sets};
-ghost use Rattle.graph.specs.Graph.{graphOf};
+ghost use Rattle.graph.specs.Finite.{ifEqual};
+ghost use Rattle.graph.specs.Graph.{graphOf, mark};
+ghost use Rattle.tagged_file.specs.Inner.{thirdBytes};
 ghost use Rattle.tagged_file.specs.Write.{big, fieldOf, nodeField, outputField, nodeFieldAt, outputFieldAt, inOrder, fileOf};
 use graph::literal::MARK;
 use graph::table::word_at;
@@ -40,15 +42,6 @@ pub fn put_three(buffer: &mut [u8], at: usize, tag: u8, x: u32, y: u32, z: u32)
     put_number(buffer, at + 11, z);
 }
 
-pub fn put_xor(buffer: &mut [u8], at: usize, x: u32, y: u32)
-    requires { ⌜ at + 11 ≤ length (now buffer) ⌝ }
-    ensures { λ _. ⌜ now (buffer .exit) ≡ sets (now (buffer .entry)) at (fieldOf 3 (big 4 x ++ big 4 y)) ⌝ }
-{
-    put_head(buffer, at, 3, 8);
-    put_number(buffer, at + 3, x);
-    put_number(buffer, at + 7, y);
-}
-
 pub fn put_output(buffer: &mut [u8], at: usize, x: u32)
     requires { ⌜ at + 7 ≤ length (now buffer) ⌝ }
     ensures { λ _. ⌜ now (buffer .exit) ≡ sets (now (buffer .entry)) at (outputField x) ⌝ }
@@ -57,18 +50,48 @@ pub fn put_output(buffer: &mut [u8], at: usize, x: u32)
     put_number(buffer, at + 3, x);
 }
 
-// Returns the place after the field.
+// The tag of a node's field, by the node's third word, and the length of its payload.
+pub fn node_tag(z: u32) -> u8
+    ensures { λ r. ⌜ r ≡ ifEqual z mark 3 2 ⌝ }
+{
+    if z == MARK {
+        return 3;
+    }
+    2
+}
+
+pub fn node_payload(z: u32) -> u8
+    ensures { λ r. ⌜ r ≡ ifEqual z mark 8 12 ⌝ }
+{
+    if z == MARK {
+        return 8;
+    }
+    12
+}
+
+// A third word: the mark takes no bytes. Returns the place after it.
+pub fn put_third(buffer: &mut [u8], at: usize, z: u32) -> usize
+    requires { ⌜ at + length (thirdBytes z) ≤ length (now buffer) ⌝ }
+    ensures { λ r. ⌜ r ≡ at + length (thirdBytes z) ⌝ }
+    ensures { λ _. ⌜ now (buffer .exit) ≡ sets (now (buffer .entry)) at (thirdBytes z) ⌝ }
+{
+    if z == MARK {
+        return at;
+    }
+    put_number(buffer, at, z);
+    at + 4
+}
+
+// Returns the place after the field. Both kinds go one way up to the third word: so each number is one store.
 pub fn put_node(buffer: &mut [u8], at: usize, x: u32, y: u32, z: u32) -> usize
     requires { ⌜ at + length (nodeField x y z) ≤ length (now buffer) ⌝ }
     ensures { λ r. ⌜ r ≡ at + length (nodeField x y z) ⌝ }
     ensures { λ _. ⌜ now (buffer .exit) ≡ sets (now (buffer .entry)) at (nodeField x y z) ⌝ }
 {
-    if z == MARK {
-        put_xor(buffer, at, x, y);
-        return at + 11;
-    }
-    put_three(buffer, at, 2, x, y, z);
-    at + 15
+    put_head(buffer, at, node_tag(z), node_payload(z));
+    put_number(buffer, at + 3, x);
+    put_number(buffer, at + 7, y);
+    put_third(buffer, at + 11, z)
 }
 
 pub fn put_nodes(buffer: &mut [u8], start: usize, nodes: u32, node_table: &[u32]) -> usize

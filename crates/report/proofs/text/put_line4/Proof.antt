@@ -2,7 +2,8 @@
 use native.Mathlib.Omega.{arith}
 use borrow.Author.Needs.{needs}
 use Rattle.report.specs.Text.{numbered, line3, line4}
-use Rattle.report.proofs.Put.{room-first, room-rest, in-a-row}
+use Rattle.tagged_file.proofs.Stores.{in-a-row}
+use Rattle.report.proofs.Put.{room-first, room-rest}
 use Rattle.report.proofs.text.put_line4.Statement.{statement}
 use Rattle.report.proofs.text.put_line4.Tie as tie
 

@@ -3,7 +3,8 @@ use native.Mathlib.Omega.{arith}
 use borrow.Author.Needs.{needs}
 use Rattle.graph.specs.Decimal.{decimal}
 use Rattle.report.specs.Text.{numbered}
-use Rattle.report.proofs.Put.{room-first, room-rest, in-a-row}
+use Rattle.tagged_file.proofs.Stores.{in-a-row}
+use Rattle.report.proofs.Put.{room-first, room-rest}
 use Rattle.report.proofs.text.put_numbered.Statement.{statement}
 use Rattle.report.proofs.text.put_numbered.Tie as tie
 
