@@ -1,0 +1,52 @@
+// A graph as ASCII AIGER text.
+ghost use mathlib.Core.Path.{_≡_};
+ghost use Rattle.graph.specs.Graph.{graphOf};
+ghost use Rattle.graph.specs.Answer.{ScratchKept};
+ghost use Rattle.tagged_file.specs.Write.{writtenAnswer, writeOutcome};
+ghost use Rattle.aiger.specs.Export.{exportCall};
+
+mod faults;
+mod gates;
+mod lines;
+mod sizes;
+mod steps;
+mod text;
+
+use tagged_file::Written;
+
+// The text's length is known before scratch or the buffer is written: a refusal has changed nothing.
+pub fn export(
+    inputs: u32,
+    nodes: u32,
+    outputs: u32,
+    node_table: &[u32],
+    output_table: &[u32],
+    scratch: &mut [u32],
+    buffer: &mut [u8],
+) -> Written
+    ensures outcome { λ r. ⌜ writeOutcome (writtenAnswer r) (now (buffer .exit)) ≡ exportCall (graphOf inputs nodes outputs (now («node_table» .entry)) (now («output_table» .entry))) (now (scratch .entry)) (now (buffer .entry)) ⌝ }
+    ensures scratch { λ r. ⌜ ScratchKept (writtenAnswer r) (now (scratch .entry)) (now (scratch .exit)) ⌝ }
+{
+    let number = faults::export_number(
+        inputs,
+        nodes,
+        outputs,
+        node_table,
+        output_table,
+        scratch.len(),
+        buffer.len(),
+    );
+    if number != 0 {
+        return Written::Refused(graph::faults::refused_by(number));
+    }
+    gates::fill_literals(inputs, nodes, outputs, node_table, output_table, scratch);
+    Written::Bytes(text::put_text(
+        inputs,
+        nodes,
+        outputs,
+        node_table,
+        output_table,
+        scratch,
+        buffer,
+    ))
+}
