@@ -10,6 +10,7 @@ ghost use Rattle.file_checks.specs.File.{fieldNumber, fieldPayload};
 ghost use Rattle.tagged_file.specs.Load.{loadCall};
 ghost use Rattle.tagged_file.specs.Write.{writeCall};
 ghost use Rattle.aiger.specs.Import.{importCall};
+ghost use Rattle.aiger.specs.Export.{exportCall};
 ghost use Rattle.evaluation.specs.Evaluation.{evaluateNumber, resultsAfter};
 ghost use Rattle.moves.specs.Call.{nodeCall, pairCall, treeCall};
 ghost use Rattle.rounds.specs.Settle.{settleCall};
@@ -81,6 +82,36 @@ pub extern "C" fn reducer_write(
     ensures size { λ r. ⌜ now (length .exit) ≡ toldOne (writeCall (graphOf inputs nodes outputs (now («node_table» .entry)) (now («output_table» .entry))) (now (buffer .entry)) .answer) (now (length .entry)) ⌝ }
 {
     let answer = tagged_file::write(inputs, nodes, outputs, node_table, output_table, buffer);
+    *length = answers::told::written_told(answer, *length);
+    answers::told::written_number(answer)
+}
+
+// Fills the front of `buffer` with the graph's ASCII AIGER text.
+#[no_mangle]
+pub extern "C" fn reducer_export(
+    inputs: u32,
+    nodes: u32,
+    outputs: u32,
+    node_table: &[u32],
+    output_table: &[u32],
+    scratch: &mut [u32],
+    buffer: &mut [u8],
+    length: &mut usize,
+) -> u32
+    ensures answer { λ r. ⌜ r ≡ exportCall (graphOf inputs nodes outputs (now («node_table» .entry)) (now («output_table» .entry))) (now (scratch .entry)) (now (buffer .entry)) .answer .number ⌝ }
+    ensures buffer { λ r. ⌜ now (buffer .exit) ≡ exportCall (graphOf inputs nodes outputs (now («node_table» .entry)) (now («output_table» .entry))) (now (scratch .entry)) (now (buffer .entry)) .buffer ⌝ }
+    ensures size { λ r. ⌜ now (length .exit) ≡ toldOne (exportCall (graphOf inputs nodes outputs (now («node_table» .entry)) (now («output_table» .entry))) (now (scratch .entry)) (now (buffer .entry)) .answer) (now (length .entry)) ⌝ }
+    ensures scratch { λ r. ⌜ ScratchKept (exportCall (graphOf inputs nodes outputs (now («node_table» .entry)) (now («output_table» .entry))) (now (scratch .entry)) (now (buffer .entry)) .answer) (now (scratch .entry)) (now (scratch .exit)) ⌝ }
+{
+    let answer = aiger_export::export(
+        inputs,
+        nodes,
+        outputs,
+        node_table,
+        output_table,
+        scratch,
+        buffer,
+    );
     *length = answers::told::written_told(answer, *length);
     answers::told::written_number(answer)
 }
