@@ -4,6 +4,7 @@
 //! everything is out of reach (`trees`, `fast`), a cleverer way stands beside the plain one and the tests
 //! hold it to the plain one. Its answers are what the proved crates are run against.
 
+pub mod aiger;
 pub mod calls;
 pub mod evaluation;
 pub mod fast;
@@ -17,5 +18,7 @@ pub mod settling;
 pub mod trees;
 pub mod vectors;
 
+#[cfg(test)]
+mod aiger_tests;
 #[cfg(test)]
 mod tests;
