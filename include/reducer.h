@@ -20,7 +20,8 @@
  *   Every function returns 0 or the number of a refusal, below. What it answers beside that goes through its last pointer.
  *   A refused call has changed nothing: tables, scratch, results, buffer, answers and that last number or array are as they
  *   were. The first fault is returned, in the order of the numbers 3, 4, 5, 7, 8, 9; loading meets its file from front to back,
- *   and a replay its calls and answers before its file.
+ *   importing its text line by line, each line being tested for 10, 11, 12, 3, 4, 5 in that order, and a replay its calls and
+ *   answers before its file.
  *   Scratch holds nothing of use before or after a call.
  *
  * What a caller owes
@@ -51,9 +52,13 @@ extern "C" {
 #define REDUCER_TREE_SCRATCH(n) (8 * (size_t)(n))
 #define REDUCER_SETTLE_SCRATCH(n) (8 * (size_t)(n))
 #define REDUCER_EVALUATE_SCRATCH(n) ((size_t)(n))
+#define REDUCER_EXPORT_SCRATCH(n) ((size_t)(n))
 
 /* Bytes that are enough for the file of a graph with n nodes and o outputs. */
 #define REDUCER_FILE_BYTES(n, o) (18 + 15 * (size_t)(n) + 7 * (size_t)(o))
+
+/* Bytes that are enough for the AIGER text of a graph with i inputs, n nodes and o outputs. */
+#define REDUCER_TEXT_BYTES(i, n, o) (30 + 5 * (size_t)(i) + 84 * (size_t)(n) + 7 * (size_t)(o))
 
 /* Words of one call of a list, and of its answer. */
 #define REDUCER_CALL_WORDS 3
@@ -67,7 +72,10 @@ enum reducer_kind {
     REDUCER_SETTLE_CALL = 3
 };
 
-/* What is returned. 1 to 9 are the refusals of document 01; 101 and 102 are a replay's own and none of document 01's. */
+/*
+ * What is returned. 1 to 9 are the refusals of document 01, 10 to 12 those that document 02 adds; 101 and 102 are a replay's own
+ * and of neither document.
+ */
 enum reducer_number {
     REDUCER_OK = 0,
     /* fewer bytes left than the due field's 3-byte head, or than its payload */
@@ -88,6 +96,12 @@ enum reducer_number {
     REDUCER_SHORT_SCRATCH = 8,
     /* write buffer too short */
     REDUCER_SHORT_BUFFER = 9,
+    /* a header without "aag", or a line that lacks its decimal numbers */
+    REDUCER_BAD_TEXT = 10,
+    /* L is not 0 */
+    REDUCER_HAS_LATCHES = 11,
+    /* M other than I + A, or inputs or gate numbers not rising by 2 from literal 2 */
+    REDUCER_WRONG_NUMBERING = 12,
     /* words of the list are left over: their number is not a multiple of 3 */
     REDUCER_LEFT_OVER = 101,
     /* a call of the list has a kind above 3 */
@@ -118,6 +132,30 @@ uint32_t reducer_write(uint32_t inputs, uint32_t nodes, uint32_t outputs,
                        const uint32_t *output_table, size_t output_table_length,
                        uint8_t *buffer, size_t buffer_length,
                        size_t *length);
+
+/*
+ * Imports an ASCII AIGER text: fills both tables as reducer_load does. numbers are I, N and O, N being the header's A. The text
+ * is a header "aag M I L O A", a line an input with its literal, a line an output with its own, and a line a gate with the
+ * gate's literal and two that name lower indices. Numbers are decimal, below 2 to the 32nd, without leading zeros; one space
+ * parts them and a newline ends each line. An AND becomes a majority with word 1 equal to 0 and words 2 and 3 in the line's
+ * order. What follows the last gate is not read. Refusals: 10, 11, 12, 3, 4, 5.
+ */
+uint32_t reducer_import(const uint8_t *text, size_t text_length,
+                        uint32_t *node_table, size_t node_table_length,
+                        uint32_t *output_table, size_t output_table_length,
+                        uint32_t numbers[3]);
+
+/*
+ * Writes the graph's ASCII AIGER text to the front of the buffer: a majority as four ANDs, an XOR as three, and no symbols or
+ * comment. length is the text's length; REDUCER_TEXT_BYTES(inputs, nodes, outputs) are enough. reducer_import refuses the text by
+ * 3 or 4 only, and else gives a graph with the same value at every output under every assignment. Refusals: 3, 4, 5, 8, 9.
+ */
+uint32_t reducer_export(uint32_t inputs, uint32_t nodes, uint32_t outputs,
+                        const uint32_t *node_table, size_t node_table_length,
+                        const uint32_t *output_table, size_t output_table_length,
+                        uint32_t *scratch, size_t scratch_length,
+                        uint8_t *buffer, size_t buffer_length,
+                        size_t *length);
 
 /*
  * Evaluates all outputs under 64 assignments: bit j of input word k is input k + 1 under assignment j, and bit j of result o

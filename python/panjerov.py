@@ -6,6 +6,8 @@
     print(graph.settle())
     open("settled.bin", "wb").write(graph.write())
 
+import_aiger and Graph.export_aiger do the same for ASCII AIGER, the text of and-inverter tools.
+
 Every call is one of the proved library's. A call that cannot be made raises: Refused, with the number of the refusal, where
 the library refuses it; TypeError or ValueError where an argument is not of the kind that the library takes. Either way
 nothing has changed.
@@ -23,7 +25,7 @@ from pathlib import Path
 from typing import Iterable, List, NamedTuple, Sequence, Tuple, Type
 
 __all__ = [
-    "Graph", "Refused", "Settled", "Told", "load", "field", "replay",
+    "Graph", "Refused", "Settled", "Told", "load", "import_aiger", "field", "replay",
     "NODE", "PAIR", "TREE", "SETTLE", "MARK", "MOST_INPUTS", "MOST_NODES", "MOST_OUTPUTS",
 ]
 
@@ -46,12 +48,15 @@ _WHY = {
     7: "there is no such node, root or word",
     8: "the scratch is too short",
     9: "the buffer is too short",
+    10: "the header has no \"aag\", or a line lacks its decimal numbers",
+    11: "there are latches",
+    12: "M is not I + A, or inputs or gate numbers do not rise by 2 from literal 2",
     102: "a call of the list has a kind that is none",
 }
 
 
 class Refused(Exception):
-    """A call that the library refuses. `number` is 1 to 9, or 102 of a replay; nothing has changed."""
+    """A call that the library refuses. `number` is 1 to 12, or 102 of a replay; nothing has changed."""
 
     def __init__(self, number: int) -> None:
         super().__init__(f"refused {number}: {_WHY.get(number, 'for no known cause')}")
@@ -116,6 +121,8 @@ def _function(name: str, arguments: list):
 _field = _function("reducer_field", _WORDS + [ctypes.c_void_p])
 _load = _function("reducer_load", _WORDS * 3 + [ctypes.c_void_p])
 _write = _function("reducer_write", _GRAPH + _WORDS + [ctypes.c_void_p])
+_import = _function("reducer_import", _WORDS * 3 + [ctypes.c_void_p])
+_export = _function("reducer_export", _GRAPH + _WORDS * 2 + [ctypes.c_void_p])
 _evaluate = _function("reducer_evaluate", _GRAPH + _WORDS * 3)
 _count = _function("reducer_count", _GRAPH + [ctypes.c_void_p])
 _node = _function("reducer_node", _GRAPH + [_U32, ctypes.c_void_p])
@@ -169,15 +176,27 @@ def _accept(number: int) -> None:
         raise Refused(number)
 
 
-def _said(file: bytes, at: int, most: int) -> int:
-    """What the head of a file says at this place, at most `most`; 0 where the file is too short to say it."""
-    return min(int.from_bytes(file[at : at + 4], "big"), most) if len(file) >= at + 4 else 0
+def _said(file: bytes, at: int) -> int:
+    """What the head of a file says at this place; 0 where the file is too short to say it."""
+    return int.from_bytes(file[at : at + 4], "big") if len(file) >= at + 4 else 0
+
+
+def _tables(nodes: int, outputs: int):
+    """Tables with room for so many nodes and outputs, at most the limits, and their lengths."""
+    node_words, output_words = 3 * min(nodes, MOST_NODES), min(outputs, MOST_OUTPUTS)
+    return _array(_U32, node_words), node_words, _array(_U32, output_words), output_words
 
 
 def _room(file: bytes):
-    """Tables with room for what the head says, at most the limits, and their lengths."""
-    node_words, output_words = 3 * _said(file, 7, MOST_NODES), _said(file, 11, MOST_OUTPUTS)
-    return _array(_U32, node_words), node_words, _array(_U32, output_words), output_words
+    """Tables with room for what the head says."""
+    return _tables(_said(file, 7), _said(file, 11))
+
+
+def _text_room(text: bytes):
+    """Tables with room for what the header says. A line that is longer is no header that is accepted."""
+    words = text[:64].split(b"\n")[0].split(b" ")
+    said = [int(word) if word.isdigit() else 0 for word in words]
+    return _tables(said[5], said[4]) if len(said) == 6 else _tables(0, 0)
 
 
 def field(data: bytes) -> bytes:
@@ -194,6 +213,15 @@ def load(file: bytes) -> "Graph":
     nodes, node_words, outputs, output_words = _room(bytes(file))
     numbers = (_U32 * 3)()
     _accept(_load(array, length, nodes, node_words, outputs, output_words, numbers))
+    return Graph(numbers[0], nodes[:node_words], outputs[:output_words])
+
+
+def import_aiger(text: bytes) -> "Graph":
+    """The graph that an ASCII AIGER text says: a majority of the constant and two literals for each AND."""
+    array, length = _bytes(text, "text")
+    nodes, node_words, outputs, output_words = _text_room(bytes(text))
+    numbers = (_U32 * 3)()
+    _accept(_import(array, length, nodes, node_words, outputs, output_words, numbers))
     return Graph(numbers[0], nodes[:node_words], outputs[:output_words])
 
 
@@ -265,6 +293,17 @@ class Graph:
         buffer, length = _array(ctypes.c_uint8, room), _SIZE()
         _accept(_write(*lent, buffer, room, ctypes.byref(length)))
         return bytes(buffer[: length.value])
+
+    def export_aiger(self) -> bytes:
+        """The graph's ASCII AIGER text: four ANDs for each majority, three for each XOR."""
+        # A graph over the limits is refused before room is looked at, and gets none.
+        self.complemented_edges()
+        lent = self._lent()
+        inputs, nodes, outputs = lent[:3]
+        room = 30 + 5 * inputs + 84 * nodes + 7 * outputs
+        scratch, buffer, length = _array(_U32, nodes), _array(ctypes.c_uint8, room), _SIZE()
+        _accept(_export(*lent, scratch, nodes, buffer, room, ctypes.byref(length)))
+        return ctypes.string_at(buffer, length.value)
 
     def evaluate(self, input_words: Sequence[int]) -> List[int]:
         """The outputs' words of 64 bits for one such word an input: each bit place is an assignment of its own."""

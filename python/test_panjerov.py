@@ -5,13 +5,39 @@ In the repository's root: python3 python/test_panjerov.py
 
 import random
 import unittest
+from pathlib import Path
 
 import panjerov
 from panjerov import MARK, Graph, Refused
 
+EXAMPLES = Path(__file__).resolve().parent.parent / "examples"
+MAJORITY = b"aag 7 3 0 1 4\n2\n4\n6\n15\n8 5 7\n10 2 9\n12 4 6\n14 11 13\n"
+XOR = b"aag 5 2 0 1 3\n2\n4\n11\n6 2 5\n8 3 4\n10 7 9\n"
+
 
 def p1() -> Graph:
     return Graph(3, [3, 5, 7], [9])
+
+
+def values(graph: Graph, assignments: list) -> list:
+    """The outputs as one number, the first as its lowest bit, for each of these numbers, whose lowest bit is input 1."""
+    told = []
+    for at in range(0, len(assignments), 64):
+        part = assignments[at : at + 64]
+        words = [sum((number >> k & 1) << j for j, number in enumerate(part)) for k in range(graph.inputs)]
+        results = graph.evaluate(words)
+        told += [sum((word >> j & 1) << o for o, word in enumerate(results)) for j in range(len(part))]
+    return told
+
+
+def random_graph(generator: random.Random) -> Graph:
+    nodes = []
+    inputs = generator.randrange(6)
+    for index in range(inputs + 1, inputs + 1 + generator.randrange(9)):
+        nodes += [generator.randrange(2 * index) for _ in range(2)]
+        nodes.append(MARK if generator.random() < 0.4 else generator.randrange(2 * index))
+    end = 2 * (inputs + 1 + len(nodes) // 3)
+    return Graph(inputs, nodes, [generator.randrange(end) for _ in range(generator.randrange(5))])
 
 
 class Good(unittest.TestCase):
@@ -76,6 +102,42 @@ class Good(unittest.TestCase):
                     self.assertEqual(answer, (refused.number, 0))
             self.assertEqual(after, graph)
 
+    def test_aiger(self) -> None:
+        self.assertEqual(Graph(3, [2, 4, 6], [8]).export_aiger(), MAJORITY)
+        self.assertEqual(Graph(2, [2, 4, MARK], [6]).export_aiger(), XOR)
+        self.assertEqual(panjerov.import_aiger(MAJORITY), Graph(3, [0, 5, 7, 0, 2, 9, 0, 4, 6, 0, 11, 13], [15]))
+        self.assertEqual(panjerov.import_aiger(XOR + b"c\nby hand\n"), Graph(2, [0, 2, 5, 0, 3, 4, 0, 7, 9], [11]))
+        self.assertEqual(panjerov.import_aiger(memoryview(b"aag 0 0 0 1 0\n1\n")), Graph(0, [], [1]))
+        self.assertEqual(Graph(0, [], []).export_aiger(), b"aag 0 0 0 0 0\n")
+
+    def test_aiger_of_a_tool(self) -> None:
+        """Files that yosys wrote, held to sums, products and so on, before settling, after it, and exported."""
+        pairs = [(x, y) for x in range(16) for y in range(16)]
+        both = [x + 16 * y for x, y in pairs]
+        divided = [(x // y, x % y) if y else (15, x) for x, y in pairs]
+        for name, assignments, due in [
+            ("ripple_adder4", both + [n + 256 for n in both], [x + y for x, y in pairs] + [x + y + 1 for x, y in pairs]),
+            ("multiplier4", both, [x * y for x, y in pairs]),
+            ("comparator4", both, [(x < y) + 2 * (x == y) for x, y in pairs]),
+            ("divider4", both, [quotient + 16 * rest for quotient, rest in divided]),
+        ]:
+            graph = panjerov.import_aiger((EXAMPLES / f"{name}.aag").read_bytes())
+            self.assertEqual(values(graph, assignments), due, name)
+            settled = graph.settle()
+            self.assertLess(settled.after, settled.before, name)
+            self.assertEqual(values(graph, assignments), due, name)
+            again = panjerov.import_aiger(graph.export_aiger())
+            self.assertEqual(len(again.nodes), 4 * len(graph.nodes))
+            self.assertEqual(values(again, assignments), due, name)
+
+    def test_aiger_and_back(self) -> None:
+        generator = random.Random(3)
+        for _ in range(500):
+            graph = random_graph(generator)
+            again = panjerov.import_aiger(graph.export_aiger())
+            words = [generator.randrange(2**64) for _ in range(graph.inputs)]
+            self.assertEqual(again.evaluate(words), graph.evaluate(words))
+
     def test_largest(self) -> None:
         nodes = []
         for index in range(4097, 104097):
@@ -88,6 +150,21 @@ class Good(unittest.TestCase):
         self.assertEqual(graph.complemented_edges(), settled.after)
         self.assertEqual(graph.evaluate(words), before)
         self.assertEqual(panjerov.load(graph.write()), graph)
+        text = graph.export_aiger()
+        xors = graph.nodes[2::3].count(MARK)
+        gates = 400000 - xors
+        self.assertTrue(text.startswith(b"aag %d 4096 0 4096 %d\n2\n4\n" % (4096 + gates, gates)))
+        self.assertEqual(text.count(b"\n"), 1 + 4096 + 4096 + gates)
+        with self.assertRaises(Refused) as caught:
+            panjerov.import_aiger(text)
+        self.assertEqual(caught.exception.number, 3)
+
+    def test_largest_text(self) -> None:
+        lines = ["aag 104096 4096 0 4096 100000"] + [str(2 * (k + 1)) for k in range(4096)] + ["208193"] * 4096
+        lines += [f"{2 * index} {2 * index - 1} {index}" for index in range(4097, 104097)]
+        graph = panjerov.import_aiger("\n".join(lines + [""]).encode())
+        nodes = [word for index in range(4097, 104097) for word in (0, 2 * index - 1, index)]
+        self.assertEqual(graph, Graph(4096, nodes, [208193] * 4096))
 
 
 class Bad(unittest.TestCase):
@@ -107,7 +184,9 @@ class Bad(unittest.TestCase):
         self.refused(4, p1(), "evaluate", [1, 2])
         self.refused(3, Graph(4097, [], []), "settle")
         self.refused(3, Graph(0, [0] * 300003, []), "write")
-        for call in ["settle", "write", "complemented_edges"]:
+        self.refused(3, Graph(2**32 - 1, [], []), "export_aiger")
+        self.refused(3, Graph(0, [0] * 300003, []), "export_aiger")
+        for call in ["settle", "write", "export_aiger", "complemented_edges"]:
             self.refused(5, Graph(3, [2, 4, 8], [8]), call)
             self.refused(5, Graph(3, [2, 4, 6], [10]), call)
 
@@ -121,6 +200,32 @@ class Bad(unittest.TestCase):
             with self.assertRaises(Refused) as caught:
                 panjerov.field(bad)
             self.assertEqual(caught.exception.number, number)
+
+    def test_texts(self) -> None:
+        for number, bad in [
+            (10, b""),
+            (10, b"aag"),
+            (10, b"aag 0 0 0 0 0"),
+            (10, b"aag 0 0 0 0 00\n"),
+            (10, b"aag 0 0 0 1 0\n4294967296\n"),
+            (5, b"aag 0 0 0 1 0\n4294967295\n"),
+            (10, b"aag 0 0 0 0 0\r\n"),
+            (10, b"aag 100000 0 0 0 100000\n"),
+            (11, b"aag 1 0 1 0 0\n"),
+            (12, b"aag 1 0 0 0 0\n"),
+            (12, b"aag 0 1 0 0 4294967295\n"),
+            (12, b"aag 1 1 0 0 0\n4\n"),
+            (12, MAJORITY.replace(b"12 4 6", b"14 4 6")),
+            (3, b"aag 4097 4097 0 0 0\n"),
+            (3, b"aag 100001 0 0 0 100001\n"),
+            (3, b"aag 0 0 0 4294967295 0\n"),
+            (5, MAJORITY.replace(b"12 4 6", b"12 4 12")),
+        ]:
+            with self.assertRaises(Refused) as caught:
+                panjerov.import_aiger(bad)
+            self.assertEqual(caught.exception.number, number, bad)
+        with self.assertRaisesRegex(Refused, "refused 11: there are latches"):
+            panjerov.import_aiger(b"aag 1 0 1 0 0\n")
 
     def test_replays(self) -> None:
         file = p1().write()
@@ -155,6 +260,24 @@ class Bad(unittest.TestCase):
             except Refused as refused:
                 self.assertIn(refused.number, range(1, 7))
 
+    def test_any_text(self) -> None:
+        """Whatever is changed, a text is refused by a number that it may have, or gives a graph that comes back."""
+        generator = random.Random(4)
+        accepted = 0
+        for _ in range(5000):
+            bad = bytearray(MAJORITY[: generator.randrange(len(MAJORITY))] if generator.random() < 0.2 else MAJORITY)
+            for _ in range(generator.randrange(4)):
+                if bad:
+                    bad[generator.randrange(len(bad))] = generator.choice(b"0123456789 \n\r\tag")
+            try:
+                graph = panjerov.import_aiger(bad)
+                again = panjerov.import_aiger(graph.export_aiger())
+                self.assertEqual(again.evaluate([0xF0, 0xCC, 0xAA]), graph.evaluate([0xF0, 0xCC, 0xAA]))
+                accepted += 1
+            except Refused as refused:
+                self.assertIn(refused.number, (10, 11, 12, 3, 5))
+        self.assertGreater(accepted, 1000)
+
     def test_kinds(self) -> None:
         for error, inputs, nodes, outputs in [
             (TypeError, "3", [], []),
@@ -178,6 +301,8 @@ class Bad(unittest.TestCase):
         for bad in ["text", None, 3, [1, 2]]:
             with self.assertRaises(TypeError):
                 panjerov.load(bad)
+            with self.assertRaises(TypeError):
+                panjerov.import_aiger(bad)
             with self.assertRaises(TypeError):
                 panjerov.field(bad)
 

@@ -8,7 +8,7 @@ use crate::{Refusal, ReplayRefusal, Settled, Size};
 pub(crate) fn answer<T>(number: u32, value: T) -> Result<T, Refusal> {
     match number {
         0 => Ok(value),
-        refused => Err(Refusal::from_number(refused).expect("the library answers 0 to 9")),
+        refused => Err(Refusal::from_number(refused).expect("the library answers 0 to 12")),
     }
 }
 
@@ -49,6 +49,51 @@ pub fn write(size: Size, node_table: &[u32], output_table: &[u32], buffer: &mut 
             node_table.len(),
             output_table.as_ptr(),
             output_table.len(),
+            buffer.as_mut_ptr(),
+            buffer.len(),
+            &mut length,
+        )
+    };
+    answer(number, length)
+}
+
+/// Fills the front of both tables from an ASCII AIGER text.
+pub fn import(text: &[u8], node_table: &mut [u32], output_table: &mut [u32]) -> Result<Size, Refusal> {
+    let mut numbers = [0u32; 3];
+    let number = unsafe {
+        raw::reducer_import(
+            text.as_ptr(),
+            text.len(),
+            node_table.as_mut_ptr(),
+            node_table.len(),
+            output_table.as_mut_ptr(),
+            output_table.len(),
+            &mut numbers,
+        )
+    };
+    answer(number, Size { inputs: numbers[0], nodes: numbers[1], outputs: numbers[2] })
+}
+
+/// Fills the front of the buffer with the graph's ASCII AIGER text; the text's length. Scratch is one word a node.
+pub fn export(
+    size: Size,
+    node_table: &[u32],
+    output_table: &[u32],
+    scratch: &mut [u32],
+    buffer: &mut [u8],
+) -> Result<usize, Refusal> {
+    let mut length = 0usize;
+    let number = unsafe {
+        raw::reducer_export(
+            size.inputs,
+            size.nodes,
+            size.outputs,
+            node_table.as_ptr(),
+            node_table.len(),
+            output_table.as_ptr(),
+            output_table.len(),
+            scratch.as_mut_ptr(),
+            scratch.len(),
             buffer.as_mut_ptr(),
             buffer.len(),
             &mut length,

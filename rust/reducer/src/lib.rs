@@ -14,6 +14,8 @@
 //! std::fs::write("settled.bin", graph.write().unwrap()).unwrap();
 //! ```
 //!
+//! [`Graph::import`] and [`Graph::export`] do the same for ASCII AIGER, the text of and-inverter tools.
+//!
 //! The module [`lent`] has the same calls on slices that the caller lends, without a heap.
 
 use std::fmt;
@@ -52,10 +54,16 @@ pub enum Refusal {
     ShortScratch = 8,
     /// The buffer to write to is too short.
     ShortBuffer = 9,
+    /// A header of AIGER text has no "aag", or a line lacks its decimal numbers.
+    BadText = 10,
+    /// The AIGER text has latches.
+    HasLatches = 11,
+    /// M is not I + A, or inputs or gate numbers do not rise by 2 from literal 2.
+    WrongNumbering = 12,
 }
 
 impl Refusal {
-    /// The refusal's number, 1 to 9.
+    /// The refusal's number, 1 to 12.
     pub fn number(self) -> u32 {
         self as u32
     }
@@ -72,6 +80,9 @@ impl Refusal {
             7 => Some(Refusal::NoSuchNode),
             8 => Some(Refusal::ShortScratch),
             9 => Some(Refusal::ShortBuffer),
+            10 => Some(Refusal::BadText),
+            11 => Some(Refusal::HasLatches),
+            12 => Some(Refusal::WrongNumbering),
             _ => None,
         }
     }
@@ -89,6 +100,9 @@ impl fmt::Display for Refusal {
             Refusal::NoSuchNode => "there is no such node, root or word",
             Refusal::ShortScratch => "the scratch is too short",
             Refusal::ShortBuffer => "the buffer is too short",
+            Refusal::BadText => "the header has no \"aag\", or a line lacks its decimal numbers",
+            Refusal::HasLatches => "there are latches",
+            Refusal::WrongNumbering => "M is not I + A, or inputs or gate numbers do not rise by 2 from literal 2",
         };
         write!(f, "refused {}: {why}", self.number())
     }
@@ -160,6 +174,11 @@ pub fn file_bytes(size: Size) -> usize {
     18 + 15 * size.nodes as usize + 7 * size.outputs as usize
 }
 
+/// How many bytes are enough for the ASCII AIGER text of a graph of this size.
+pub fn text_bytes(size: Size) -> usize {
+    30 + 5 * size.inputs as usize + 84 * size.nodes as usize + 7 * size.outputs as usize
+}
+
 /// A graph that owns its tables.
 ///
 /// The fields may be set to anything: a call on what is no graph is refused.
@@ -176,6 +195,16 @@ pub struct Graph {
 fn head_number(file: &[u8], at: usize, most: u32) -> usize {
     let bytes = file.get(at..at + 4).and_then(|four| four.try_into().ok());
     bytes.map_or(0, |four| u32::from_be_bytes(four).min(most)) as usize
+}
+
+/// What the header of AIGER text says as its number `at` from 0, at most `most`; 0 where it says none.
+fn header_number(text: &[u8], at: usize, most: u32) -> usize {
+    // Longer than this is no header that is accepted.
+    let front = &text[..text.len().min(64)];
+    let line = front.split(|&byte| byte == b'\n').next().unwrap_or(front);
+    let word = line.split(|&byte| byte == b' ').nth(1 + at).and_then(|word| std::str::from_utf8(word).ok());
+    let number: u32 = word.and_then(|word| word.parse().ok()).unwrap_or(0);
+    number.min(most) as usize
 }
 
 impl Graph {
@@ -214,6 +243,25 @@ impl Graph {
         let length = lent::write(self.size, &self.node_table, &self.output_table, &mut file)?;
         file.truncate(length);
         Ok(file)
+    }
+
+    /// The graph that an ASCII AIGER text says: a majority of the constant and two literals for each AND.
+    pub fn import(text: &[u8]) -> Result<Graph, Refusal> {
+        // As for loading, room for what the header says.
+        let mut node_table = vec![0; 3 * header_number(text, 4, MOST_NODES)];
+        let mut output_table = vec![0; header_number(text, 3, MOST_OUTPUTS)];
+        let size = lent::import(text, &mut node_table, &mut output_table)?;
+        Ok(Graph { size, node_table, output_table })
+    }
+
+    /// The graph's ASCII AIGER text: four ANDs for each majority, three for each XOR.
+    pub fn export(&self) -> Result<Vec<u8>, Refusal> {
+        self.complemented_edges()?;
+        let mut scratch = vec![0; self.size.nodes as usize];
+        let mut text = vec![0; text_bytes(self.size)];
+        let length = lent::export(self.size, &self.node_table, &self.output_table, &mut scratch, &mut text)?;
+        text.truncate(length);
+        Ok(text)
     }
 
     /// The outputs' words for one word an input: each of the 64 bit places is an assignment of its own.

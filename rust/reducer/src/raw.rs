@@ -26,6 +26,31 @@ extern "C" {
         length: *mut usize,
     ) -> u32;
 
+    pub fn reducer_import(
+        text: *const u8,
+        text_length: usize,
+        node_table: *mut u32,
+        node_table_length: usize,
+        output_table: *mut u32,
+        output_table_length: usize,
+        numbers: *mut [u32; 3],
+    ) -> u32;
+
+    pub fn reducer_export(
+        inputs: u32,
+        nodes: u32,
+        outputs: u32,
+        node_table: *const u32,
+        node_table_length: usize,
+        output_table: *const u32,
+        output_table_length: usize,
+        scratch: *mut u32,
+        scratch_length: usize,
+        buffer: *mut u8,
+        buffer_length: usize,
+        length: *mut usize,
+    ) -> u32;
+
     pub fn reducer_evaluate(
         inputs: u32,
         nodes: u32,

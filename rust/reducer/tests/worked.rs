@@ -1,4 +1,4 @@
-//! Document 01's worked graphs and edges of the limits, through the safe interface.
+//! Document 01's worked graphs and edges of the limits, and texts of document 02's M-100, through the safe interface.
 
 use reducer::{lent, Call, Graph, Refusal, ReplayRefusal, Settled, Size, MARK};
 
@@ -56,11 +56,11 @@ fn edges_of_the_limits() {
 
 #[test]
 fn numbers_of_refusals() {
-    for number in 1..=9 {
+    for number in 1..=12 {
         assert_eq!(Refusal::from_number(number).unwrap().number(), number);
     }
     assert_eq!(Refusal::from_number(0), None);
-    assert_eq!(Refusal::from_number(10), None);
+    assert_eq!(Refusal::from_number(13), None);
 }
 
 #[test]
@@ -93,4 +93,99 @@ fn replays_refused() {
     refused(&[4, 4, 0, 9], 0, ReplayRefusal::LeftOver);
     refused(&[0, 4, 0, 4, 0, 0], 0, ReplayRefusal::UnknownKind);
     refused(&[0, 4, 0, 3, 0, 0], 3, ReplayRefusal::Refused(Refusal::ShortSlice));
+}
+
+const MAJORITY: &[u8] = b"aag 7 3 0 1 4\n2\n4\n6\n15\n8 5 7\n10 2 9\n12 4 6\n14 11 13\n";
+const XOR: &[u8] = b"aag 5 2 0 1 3\n2\n4\n11\n6 2 5\n8 3 4\n10 7 9\n";
+
+#[test]
+fn worked_texts() {
+    assert_eq!(graph(3, &[2, 4, 6], &[8]).export(), Ok(MAJORITY.to_vec()));
+    assert_eq!(graph(2, &[2, 4, MARK], &[6]).export(), Ok(XOR.to_vec()));
+    let majority = graph(3, &[0, 5, 7, 0, 2, 9, 0, 4, 6, 0, 11, 13], &[15]);
+    assert_eq!(Graph::import(MAJORITY), Ok(majority.clone()));
+    assert_eq!(Graph::import(&[MAJORITY, b"anything"].concat()), Ok(majority.clone()));
+    assert_eq!(majority.evaluate(&[0xF0, 0xCC, 0xAA]), Ok(vec![0xE8]));
+    assert_eq!(Graph::import(XOR), Ok(graph(2, &[0, 2, 5, 0, 3, 4, 0, 7, 9], &[11])));
+    assert_eq!(graph(0, &vec![0; 300_003], &[]).export(), Err(Refusal::OverLimit));
+    assert_eq!(graph(u32::MAX, &[], &[]).export(), Err(Refusal::OverLimit));
+    assert_eq!(graph(3, &[8, 7, 7], &[]).export(), Err(Refusal::BadLiteral));
+}
+
+#[test]
+fn texts_refused() {
+    for (text, due) in [
+        ("", Refusal::BadText),
+        ("aag 0 0 0 1 0\n4294967296\n", Refusal::BadText),
+        ("aag 0 0 0 1 0\n4294967295\n", Refusal::BadLiteral),
+        ("aag 0 0 0 1 0\n00\n", Refusal::BadText),
+        ("aag 0 0 1 0 0\n", Refusal::HasLatches),
+        ("aag 0 1 0 0 4294967295\n", Refusal::WrongNumbering),
+        ("aag 1 1 0 0 0\n3\n", Refusal::WrongNumbering),
+        ("aag 4097 4097 0 0 0\n", Refusal::OverLimit),
+        ("aag 1 0 0 0 1\n2 2 1\n", Refusal::BadLiteral),
+        ("aag 100000 0 0 4096 100000\n", Refusal::BadText),
+    ] {
+        assert_eq!(Graph::import(text.as_bytes()), Err(due), "{text:?}");
+    }
+}
+
+#[test]
+fn lent_texts() {
+    let (mut node_table, mut output_table) = ([77; 13], [77; 2]);
+    let size = Size { inputs: 3, nodes: 4, outputs: 1 };
+    for (node_words, output_words) in [(11, 1), (12, 0)] {
+        let got = lent::import(MAJORITY, &mut node_table[..node_words], &mut output_table[..output_words]);
+        assert_eq!(got, Err(Refusal::ShortSlice));
+        assert_eq!((node_table, output_table), ([77; 13], [77; 2]));
+    }
+    assert_eq!(lent::import(MAJORITY, &mut node_table, &mut output_table), Ok(size));
+    assert_eq!(node_table, [0, 5, 7, 0, 2, 9, 0, 4, 6, 0, 11, 13, 77]);
+    assert_eq!(output_table, [15, 77]);
+    let one = Size { nodes: 1, ..size };
+    for (words, room, due) in
+        [(0, 52, Err(Refusal::ShortScratch)), (1, 51, Err(Refusal::ShortBuffer)), (1, 52, Ok(52)), (2, 54, Ok(52))]
+    {
+        let (mut scratch, mut buffer) = (vec![77; words], vec![77; room]);
+        assert_eq!(lent::export(one, &[2, 4, 6], &[8], &mut scratch, &mut buffer), due);
+        let filled = due.unwrap_or(0);
+        assert_eq!(buffer[..filled], MAJORITY[..filled]);
+        assert!(buffer[filled..].iter().all(|&byte| byte == 77));
+        assert!(due.is_ok() || scratch.iter().all(|&word| word == 77));
+    }
+}
+
+/// The output word as one number a bit place, the first output as its lowest bit.
+fn numbers(results: &[u64]) -> Vec<u64> {
+    let bit = |place: u32, at: usize| (results[at] >> place & 1) << at;
+    (0..64).map(|place| (0..results.len()).map(|at| bit(place, at)).sum()).collect()
+}
+
+/// Two numbers of 4 bits and an AIGER text that yosys wrote, held to what it is meant to compute: as it is, settled, and
+/// exported and imported again.
+fn held(name: &str, meant: impl Fn(u64, u64) -> u64) {
+    let path = format!("{}/../../examples/{name}.aag", env!("CARGO_MANIFEST_DIR"));
+    let mut given = Graph::import(&std::fs::read(path).unwrap()).unwrap();
+    let before = given.clone();
+    let settled = given.settle().unwrap();
+    assert!(settled.after < settled.before, "{name}");
+    let again = Graph::import(&given.export().unwrap()).unwrap();
+    for high in 0..4 {
+        let pair = |place: u64| ((high * 64 + place) % 16, (high * 64 + place) / 16);
+        let both = |place: u64| pair(place).0 + 16 * pair(place).1;
+        let words: Vec<u64> =
+            (0..before.size.inputs).map(|at| (0..64).map(|place| (both(place) >> at & 1) << place).sum()).collect();
+        let due: Vec<u64> = (0..64).map(|place| meant(pair(place).0, pair(place).1)).collect();
+        for graph in [&before, &given, &again] {
+            assert_eq!(numbers(&graph.evaluate(&words).unwrap()), due, "{name}");
+        }
+    }
+}
+
+#[test]
+fn texts_of_yosys() {
+    held("ripple_adder4", |x, y| x + y);
+    held("multiplier4", |x, y| x * y);
+    held("comparator4", |x, y| (x < y) as u64 + 2 * (x == y) as u64);
+    held("divider4", |x, y| x.checked_div(y).unwrap_or(15) + 16 * x.checked_rem(y).unwrap_or(x));
 }
