@@ -6,7 +6,7 @@ use crate::raw;
 use reference::calls::{self, Call};
 use reference::graph::{complemented_edges, Graph};
 use reference::random::Random;
-use reference::{evaluation, file};
+use reference::{aiger, evaluation, file};
 
 /// Lengths from a little less than this one to a little more.
 fn around(length: usize) -> std::ops::RangeInclusive<usize> {
@@ -116,11 +116,44 @@ fn check_loading(g: &Graph) -> Result<u64, String> {
     Ok(done)
 }
 
+fn check_importing(g: &Graph) -> Result<u64, String> {
+    let mut done = 0;
+    let text = aiger::text_of(g);
+    let gates: usize = g.node_indices().map(|node| 1 + g.words_of(node)).sum();
+    for node_words in around(3 * gates) {
+        for output_words in around(g.outputs as usize) {
+            let mut due = (vec![0xcafe_0001; node_words], vec![0xcafe_0002; output_words]);
+            let mut got = due.clone();
+            let what = format!("importing into {node_words} and {output_words} words");
+            let answer = raw::import(text.as_bytes(), &mut got.0, &mut got.1)?;
+            same(&what, &answer, &aiger::import(text.as_bytes(), &mut due.0, &mut due.1))?;
+            same(&format!("the tables after {what}"), &got, &due)?;
+            done += 1;
+        }
+    }
+    Ok(done)
+}
+
+/// Exports of what may be no graph, with enough scratch and room and with none.
+fn check_exporting(what: &str, g: &Graph) -> Result<u64, String> {
+    let size = reducer::Size { inputs: g.inputs, nodes: g.nodes, outputs: g.outputs };
+    let (enough, long) = (g.nodes as usize, reducer::text_bytes(size));
+    for (scratch, room) in [(enough, long), (0, long), (enough, 0), (0, 0)] {
+        let mut due = vec![0xee; room];
+        let mut got = due.clone();
+        let what = format!("exporting {what}, with scratch {scratch} to {room} bytes");
+        same(&what, &raw::export(g, scratch, &mut got)?, &aiger::export(g, scratch, &mut due))?;
+        same(&format!("the buffer after {what}"), &got, &due)?;
+    }
+    Ok(4)
+}
+
 /// How many calls were made.
 pub fn check_lengths(case: &Case) -> Result<u64, String> {
     let g = &case.graph;
     let mut random = Random::new(case.seed);
     let mut done = check_loading(g)? + check_writing(g)? + check_evaluation(g, &mut random)?;
+    done += check_importing(g)?;
     for g in with_tables(g) {
         same("the count", &raw::count(&g)?, &complemented_edges(&g))?;
         let mut due = vec![0xee; 18 + 15 * g.nodes as usize + 7 * g.outputs as usize];
@@ -133,7 +166,7 @@ pub fn check_lengths(case: &Case) -> Result<u64, String> {
         let number = evaluation::evaluate(&g, &words, g.nodes as usize, &mut due);
         same("evaluation", &raw::evaluate(&g, &words, &mut vec![2; g.nodes as usize], &mut got)?, &number)?;
         same("results", &got, &due)?;
-        done += 3;
+        done += 3 + check_exporting("from tables of other lengths", &g)?;
         for step in &case.steps {
             done += check_calls(&g, step.call)?;
         }
@@ -182,7 +215,9 @@ fn check_limit(g: &Graph) -> Result<u64, String> {
     same(&format!("evaluation of {what}"), &number, &admitted)?;
     let mut buffer = vec![0; 18 + 1_500_000 + 7 * 4_096];
     same(&format!("writing {what}"), &raw::write(g, &mut buffer)?.map(|_| ()), &admitted)?;
-    Ok(3)
+    let mut text = vec![0; 30 + 5 * 4_096 + 84 * 100_000 + 7 * 4_096];
+    same(&format!("exporting {what}"), &raw::export(g, 100_000, &mut text)?.map(|_| ()), &admitted)?;
+    Ok(4)
 }
 
 /// Each word of the graph set to the last literal allowed, the first not allowed, and the mark.
@@ -208,6 +243,7 @@ pub fn check_literals(case: &Case) -> Result<u64, String> {
                 &file::write(&bad, &mut buffers.1),
             )?;
             same("the buffer", &buffers.0, &buffers.1)?;
+            done += check_exporting(&format!("with {word} at place {place}"), &bad)?;
             for step in &case.steps {
                 check_calls(&bad, step.call)?;
             }

@@ -4,7 +4,9 @@
 //! a fast second opinion on graphs that are too large for the crate `reference`, to which it is itself held on small ones.
 
 pub mod cases;
+pub mod exports;
 pub mod extremes;
+pub mod faults;
 pub mod files;
 pub mod lengths;
 pub mod lists;
@@ -13,3 +15,5 @@ pub mod raw;
 pub mod replays;
 pub mod shrink;
 pub mod stored;
+pub mod text_limits;
+pub mod texts;

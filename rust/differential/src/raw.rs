@@ -11,10 +11,10 @@ const CANARY: u32 = 0xa5a5_a5a5;
 const LONG_CANARY: usize = 0xa5a5_a5a5_a5a5;
 
 /// The numbers that a call can return, 0 for an accepted one.
-pub const NUMBERS: [u32; 12] = [0, 1, 2, 3, 4, 5, 6, 7, 8, 9, 101, 102];
+pub const NUMBERS: [u32; 15] = [0, 1, 2, 3, 4, 5, 6, 7, 8, 9, 10, 11, 12, 101, 102];
 
 /// How often each of them was returned.
-pub static MET: [AtomicU64; 12] = [const { AtomicU64::new(0) }; 12];
+pub static MET: [AtomicU64; 15] = [const { AtomicU64::new(0) }; 15];
 
 /// What a call answered, or what was wrong with how it answered.
 pub type Answered<T> = Result<Result<T, u32>, String>;
@@ -79,6 +79,51 @@ pub fn write(g: &Graph, buffer: &mut [u8]) -> Answered<usize> {
         )
     };
     answered(number, length, LONG_CANARY)
+}
+
+pub fn import(text: &[u8], node_table: &mut [u32], output_table: &mut [u32]) -> Answered<(u32, u32, u32)> {
+    let canary = [CANARY; 3];
+    let mut numbers = canary;
+    let number = unsafe {
+        raw::reducer_import(
+            text.as_ptr(),
+            text.len(),
+            node_table.as_mut_ptr(),
+            node_table.len(),
+            output_table.as_mut_ptr(),
+            output_table.len(),
+            &mut numbers,
+        )
+    };
+    Ok(answered(number, numbers, canary)?.map(|[inputs, nodes, outputs]| (inputs, nodes, outputs)))
+}
+
+/// With so many words of scratch, which a refused call must leave.
+pub fn export(g: &Graph, scratch: usize, buffer: &mut [u8]) -> Answered<usize> {
+    let mut length = LONG_CANARY;
+    let mut lent = vec![CANARY; scratch];
+    let number = unsafe {
+        raw::reducer_export(
+            g.inputs,
+            g.nodes,
+            g.outputs,
+            g.node_table.as_ptr(),
+            g.node_table.len(),
+            g.output_table.as_ptr(),
+            g.output_table.len(),
+            lent.as_mut_ptr(),
+            lent.len(),
+            buffer.as_mut_ptr(),
+            buffer.len(),
+            &mut length,
+        )
+    };
+    match answered(number, length, LONG_CANARY)? {
+        Err(number) if lent.iter().any(|&word| word != CANARY) => {
+            Err(format!("refused by {number}, and yet scratch is changed"))
+        }
+        answer => Ok(answer),
+    }
 }
 
 pub fn evaluate(g: &Graph, input_words: &[u64], scratch: &mut [u64], results: &mut [u64]) -> Answered<()> {

@@ -7,7 +7,7 @@
 
 use std::time::{Duration, Instant};
 
-use reducer::{file_bytes, scratch_words, Size};
+use reducer::{scratch_words, text_bytes, Size};
 use reference::generate::{graph, Shape};
 use reference::graph::Graph;
 use reference::random::Random;
@@ -44,11 +44,12 @@ fn on_processor() -> f64 {
     time[0] as f64 * 1e9 + time[1] as f64
 }
 
-/// A graph, its file, and the nodes and roots that calls are made at.
+/// A graph, its file, an AIGER text of as many gates as it has nodes, and the nodes and roots that calls are made at.
 #[derive(Clone)]
 struct Sample {
     g: Graph,
     file: Vec<u8>,
+    text: String,
     nodes: Vec<u32>,
     roots: Vec<u32>,
 }
@@ -66,10 +67,20 @@ fn spread(g: &Graph, roots: bool) -> Vec<u32> {
     (0..SPREAD).map(|k| all[(all.len() - 1) * k / (SPREAD - 1)]).collect()
 }
 
+/// Each gate has a node's first two words.
+fn text_of_gates(g: &Graph) -> String {
+    let mut lines = vec![format!("aag {} {} 0 {} {}", g.inputs + g.nodes, g.inputs, g.outputs, g.nodes)];
+    lines.extend((1..=g.inputs).map(|input| (2 * input).to_string()));
+    lines.extend(g.output_table.iter().map(u32::to_string));
+    lines.extend(g.node_indices().map(|node| format!("{} {} {}", 2 * node, g.word(node, 0), g.word(node, 1))));
+    lines.join("\n") + "\n"
+}
+
 impl Sample {
     fn new(seed: u64, shape: Shape, nodes: u32) -> Sample {
         let g = graph(&mut Random::new(seed), shape, 256, nodes, 128);
-        Sample { file: reference::file::file_of(&g), nodes: spread(&g, false), roots: spread(&g, true), g }
+        let (file, text) = (reference::file::file_of(&g), text_of_gates(&g));
+        Sample { file, text, nodes: spread(&g, false), roots: spread(&g, true), g }
     }
 
     fn size(&self) -> Size {
@@ -93,7 +104,8 @@ struct Lent {
 impl Lent {
     fn new(size: Size) -> Lent {
         Lent {
-            buffer: vec![0; file_bytes(size)],
+            // Enough for a file too.
+            buffer: vec![0; text_bytes(size)],
             words: (0..size.inputs as u64).map(|k| (k + 1).wrapping_mul(0x9e37_79b9_7f4a_7c15)).collect(),
             scratch: vec![0; scratch_words(size.nodes)],
             long_scratch: vec![0; size.nodes as usize],
@@ -113,6 +125,14 @@ mod proved {
 
     pub fn write(s: &mut Sample, l: &mut Lent) -> u64 {
         lent::write(s.size(), &s.g.node_table, &s.g.output_table, &mut l.buffer).unwrap() as u64
+    }
+
+    pub fn import(s: &mut Sample, _: &mut Lent) -> u64 {
+        lent::import(s.text.as_bytes(), &mut s.g.node_table, &mut s.g.output_table).unwrap().nodes.into()
+    }
+
+    pub fn export(s: &mut Sample, l: &mut Lent) -> u64 {
+        lent::export(s.size(), &s.g.node_table, &s.g.output_table, &mut l.scratch, &mut l.buffer).unwrap() as u64
     }
 
     pub fn evaluate(s: &mut Sample, l: &mut Lent) -> u64 {
@@ -150,7 +170,7 @@ mod proved {
 mod plain {
     use super::{Lent, Sample};
     use differential::lists::tables;
-    use differential::plain::{calls, evaluate, file, settle, sweeps};
+    use differential::plain::{aiger, calls, evaluate, file, settle, sweeps};
 
     pub fn load(s: &mut Sample, _: &mut Lent) -> u64 {
         file::load(&s.file, &mut s.g.node_table, &mut s.g.output_table).unwrap().1.into()
@@ -158,6 +178,14 @@ mod plain {
 
     pub fn write(s: &mut Sample, l: &mut Lent) -> u64 {
         file::write(&tables(&mut s.g).view(), &mut l.buffer).unwrap() as u64
+    }
+
+    pub fn import(s: &mut Sample, _: &mut Lent) -> u64 {
+        aiger::import(s.text.as_bytes(), &mut s.g.node_table, &mut s.g.output_table).unwrap().1.into()
+    }
+
+    pub fn export(s: &mut Sample, l: &mut Lent) -> u64 {
+        aiger::export(&tables(&mut s.g).view(), &mut l.scratch, &mut l.buffer).unwrap() as u64
     }
 
     pub fn evaluate(s: &mut Sample, l: &mut Lent) -> u64 {
@@ -202,9 +230,12 @@ struct Call {
 
 const SETTLE: &str = "settle";
 
-const CALLS: [Call; 8] = [
+const CALLS: [Call; 10] = [
     Call { name: "load", times: 1, proved: proved::load, plain: plain::load },
     Call { name: "write", times: 1, proved: proved::write, plain: plain::write },
+    // Of as many ANDs as there are nodes, and to three or four for each node.
+    Call { name: "import", times: 1, proved: proved::import, plain: plain::import },
+    Call { name: "export", times: 1, proved: proved::export, plain: plain::export },
     Call { name: "evaluate", times: 1, proved: proved::evaluate, plain: plain::evaluate },
     Call { name: "node", times: SPREAD, proved: proved::node, plain: plain::node },
     Call { name: "pair", times: SPREAD, proved: proved::pair, plain: plain::pair },

@@ -8,7 +8,7 @@ use std::time::Instant;
 use differential::cases::{Case, Step};
 use differential::extremes::{self, EXTREMES};
 use differential::shrink::hold;
-use differential::{files, lengths, lists, raw, replays, stored};
+use differential::{exports, faults, files, lengths, lists, raw, replays, stored, text_limits, texts};
 use reference::calls::Call;
 use reference::generate::{graph, Shape};
 use reference::random::Random;
@@ -16,7 +16,7 @@ use reference::random::Random;
 /// What one kind of test does with a seed: how many cases it tried, or what failed.
 type Kind = (&'static str, u64, fn(u64) -> Result<u64, String>);
 
-const KINDS: [Kind; 13] = [
+const KINDS: [Kind; 20] = [
     ("stored cases of single calls and evaluation", 1, stored),
     ("the plain implementation, lists of calls", 30_000, plain_lists),
     ("lists of calls on small graphs", 80_000, small_lists),
@@ -30,6 +30,13 @@ const KINDS: [Kind; 13] = [
     ("files, whole and damaged", 400_000, damaged),
     ("files with every byte changed, and cut anywhere", 100, every_byte),
     ("replays, made at once and call by call", 80_000, replayed),
+    ("AIGER texts, whole and damaged", 250_000, damaged_texts),
+    ("AIGER texts with every byte changed, left out or added", 100, every_byte_of_texts),
+    ("AIGER texts with up to four faults of known numbers", 1, faulty_texts),
+    ("AIGER texts at the limits", 1, texts_at_limits),
+    ("exports, and imports of them", 10_000, exported),
+    ("exports where literals grow by a digit", 60, exported_around_tens),
+    ("exports at the limits", 1, exported_at_limits),
 ];
 
 fn stored(_: u64) -> Result<u64, String> {
@@ -126,6 +133,39 @@ fn replayed(seed: u64) -> Result<u64, String> {
     let calls = case.words.len() as u64 / 3;
     hold(seed, case, &replays::check_replay)?;
     Ok(calls.max(1))
+}
+
+fn damaged_texts(seed: u64) -> Result<u64, String> {
+    hold(seed, texts::random_text(seed), &texts::check_text)?;
+    Ok(1)
+}
+
+fn every_byte_of_texts(seed: u64) -> Result<u64, String> {
+    texts::check_every_byte(seed)
+}
+
+fn faulty_texts(_: u64) -> Result<u64, String> {
+    faults::check_faults()
+}
+
+fn texts_at_limits(_: u64) -> Result<u64, String> {
+    text_limits::check_limits()
+}
+
+fn exported(seed: u64) -> Result<u64, String> {
+    hold(seed, exports::random_case(seed), &exports::check_export)?;
+    Ok(1)
+}
+
+fn exported_around_tens(seed: u64) -> Result<u64, String> {
+    exports::check_large(&exports::around_tens(seed)).map_err(|wrong| format!("seed {seed}: {wrong}"))?;
+    Ok(1)
+}
+
+fn exported_at_limits(_: u64) -> Result<u64, String> {
+    let graphs = exports::at_limits();
+    graphs.iter().try_for_each(exports::check_large)?;
+    Ok(graphs.len() as u64)
 }
 
 fn run(kind: &Kind, only: Option<u64>) -> Result<u64, String> {

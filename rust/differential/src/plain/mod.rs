@@ -1,5 +1,6 @@
 //! The reducer in plain Rust: the same algorithms as the proved one's, written without thought of proof.
 
+pub mod aiger;
 pub mod calls;
 pub mod decide;
 pub mod evaluate;
