@@ -1,0 +1,138 @@
+//! Reading what is there, and writing so that no half of a file is ever left.
+
+use std::fs::{self, File, Metadata, OpenOptions, Permissions};
+use std::io::{self, Read, Write};
+use std::os::unix::fs::{chown, MetadataExt, PermissionsExt};
+use std::path::{Path, PathBuf};
+
+use crate::progress::Progress;
+use reducer::{MOST_INPUTS, MOST_NODES, MOST_OUTPUTS};
+
+/// A file as it was read.
+pub struct Input {
+    pub name: String,
+    pub bytes: Vec<u8>,
+}
+
+/// How much is read. The longest AIGER text up to its last gate has fewer bytes, each line with the digits that its largest
+/// number has, and so has the longest tagged file; then a line of the largest numbers that there are.
+fn most_bytes() -> u64 {
+    let text = 30 + 5 * MOST_INPUTS + 7 * MOST_OUTPUTS + 21 * MOST_NODES;
+    u64::from(text + 64)
+}
+
+fn read_from(from: impl Read) -> io::Result<Vec<u8>> {
+    let mut bytes = Vec::new();
+    from.take(most_bytes()).read_to_end(&mut bytes)?;
+    Ok(bytes)
+}
+
+/// The file of this name, or standard input.
+pub fn read(path: Option<&Path>) -> Result<Input, String> {
+    let name = path.map_or("standard input".into(), |path| path.display().to_string());
+    let _reading = Progress::of(format!("reading {name}"));
+    let bytes = match path {
+        Some(path) => File::open(path).and_then(read_from),
+        None => read_from(io::stdin().lock()),
+    };
+    match bytes {
+        Ok(bytes) => Ok(Input { name, bytes }),
+        Err(error) => Err(format!("cannot read {name}: {error}")),
+    }
+}
+
+/// A new file in the folder of another. It is removed unless it takes the other's place.
+struct Beside {
+    path: PathBuf,
+    file: File,
+    placed: bool,
+}
+
+impl Beside {
+    fn new(target: &Path) -> io::Result<Beside> {
+        let folder = target.parent().filter(|folder| *folder != Path::new("")).unwrap_or(Path::new("."));
+        let mut tried = 0;
+        loop {
+            let path = folder.join(format!(".panjerov-{}-{tried}", std::process::id()));
+            match OpenOptions::new().write(true).create_new(true).open(&path) {
+                Ok(file) => return Ok(Beside { path, file, placed: false }),
+                Err(error) if error.kind() == io::ErrorKind::AlreadyExists && tried < 100 => tried += 1,
+                Err(error) => return Err(error),
+            }
+        }
+    }
+
+    /// Whose it is, where that can be given, and who may read and write it.
+    fn like(&self, known: &Metadata) -> io::Result<()> {
+        let _ = chown(&self.path, Some(known.uid()), Some(known.gid()));
+        self.file.set_permissions(Permissions::from_mode(known.mode() & 0o777))
+    }
+
+    fn fill(&mut self, bytes: &[u8]) -> io::Result<()> {
+        self.file.write_all(bytes)?;
+        self.file.sync_all()
+    }
+
+    fn place(mut self, target: &Path) -> io::Result<()> {
+        fs::rename(&self.path, target)?;
+        self.placed = true;
+        Ok(())
+    }
+}
+
+impl Drop for Beside {
+    fn drop(&mut self) {
+        if !self.placed {
+            let _ = fs::remove_file(&self.path);
+        }
+    }
+}
+
+/// Puts a file with these bytes in the place of what is there, if anything is.
+fn replace(target: &Path, known: Option<&Metadata>, bytes: &[u8]) -> io::Result<()> {
+    let mut beside = Beside::new(target)?;
+    if let Some(known) = known {
+        beside.like(known)?;
+    }
+    beside.fill(bytes)?;
+    beside.place(target)
+}
+
+/// Where a link leads to that leads to nothing yet.
+fn end_of_links(path: &Path) -> PathBuf {
+    match fs::read_link(path) {
+        Ok(next) => end_of_links(&path.parent().unwrap_or(Path::new("")).join(next)),
+        Err(_) => path.to_path_buf(),
+    }
+}
+
+fn write_file(path: &Path, bytes: &[u8]) -> io::Result<()> {
+    let known = match fs::metadata(path) {
+        Ok(known) => known,
+        Err(error) if error.kind() == io::ErrorKind::NotFound => return replace(&end_of_links(path), None, bytes),
+        Err(error) => return Err(error),
+    };
+    // What may not be written is not replaced either.
+    let mut there = OpenOptions::new().write(true).open(path)?;
+    if known.is_file() {
+        // A link stays, and the file that it leads to is replaced.
+        return replace(&fs::canonicalize(path)?, Some(&known), bytes);
+    }
+    // A device or a pipe.
+    there.write_all(bytes)
+}
+
+fn write_out(bytes: &[u8]) -> io::Result<()> {
+    let mut out = io::stdout().lock();
+    out.write_all(bytes)?;
+    out.flush()
+}
+
+/// To the file of this name, or to standard output.
+pub fn write(path: Option<&Path>, bytes: &[u8]) -> Result<(), String> {
+    let (name, written) = match path {
+        Some(path) => (path.display().to_string(), write_file(path, bytes)),
+        None => ("standard output".into(), write_out(bytes)),
+    };
+    written.map_err(|error| format!("cannot write {name}: {error}"))
+}

@@ -1,0 +1,80 @@
+//! What `--help` tells.
+
+use crate::words::Command;
+
+const PROGRAM: &str = "\
+usage: panjerov COMMAND [FILE] [-o FILE]
+
+Reduces inversions in majority and XOR graphs. The commands:
+
+    settle   turns edges until no move lowers the number of complemented edges
+    import   gives the graph as a tagged file
+    export   gives the graph as ASCII AIGER text
+    show     tells sizes, kinds, complemented edges and depth
+
+`panjerov COMMAND --help` tells more of a command.
+";
+
+const SETTLE: &str = "\
+usage: panjerov settle [FILE] [-o FILE] [--to tagged|aiger]
+
+Turns edges until no move at a node, on a pair or on a tree lowers the number of complemented edges. Wiring and
+function stay the same. The settled graph is given in the format that FILE has, or in the one that --to names. A
+line with the figures goes to standard error:
+
+    inputs 3 nodes 1 outputs 1 before 4 after 0 rounds 2
+
+AIGER has ANDs alone: as text, each majority is four ANDs and each XOR three. Between two settlings keep the tagged
+file, which has one node for each AND that was imported.
+";
+
+const IMPORT: &str = "\
+usage: panjerov import [FILE] [-o FILE]
+
+Gives the graph as a tagged file. Each AND of AIGER text becomes a majority with the constant false as its first
+word. The text must have no latches, inputs from literal 2 on and gates after them, both rising by 2; what follows
+the last gate, symbols and comments, is not read. A tagged file is given back as it is once it has been checked.
+";
+
+const EXPORT: &str = "\
+usage: panjerov export [FILE] [-o FILE]
+
+Gives the graph as ASCII AIGER text, each majority as four ANDs and each XOR as three, without symbols or comments.
+";
+
+const SHOW: &str = "\
+usage: panjerov show [FILE] [-o FILE]
+
+Tells of the graph:
+
+    format tagged
+    inputs 3 nodes 1 outputs 1
+    majorities 1 xors 0
+    complemented edges 4
+    depth 1
+
+Edges to the constant do not count as complemented. The depth is the most nodes on a way from an output down.
+";
+
+const FILES: &str = "
+FILE is a tagged file or ASCII AIGER text, which is seen from its first bytes; without FILE, or where it is -,
+standard input is read. What is given goes to standard output, or with -o to a file, which is replaced only once
+all of it is there, and may be FILE itself. Work of more than a second says so on standard error.
+
+The exit status is 0; 1 where the graph is refused or a file cannot be read or written, and then no file is made or
+changed; 2 where the command line is not understood.
+";
+
+pub fn program() -> String {
+    format!("{PROGRAM}{FILES}")
+}
+
+pub fn of(command: Command) -> String {
+    let own = match command {
+        Command::Settle => SETTLE,
+        Command::Import => IMPORT,
+        Command::Export => EXPORT,
+        Command::Show => SHOW,
+    };
+    format!("{own}{FILES}")
+}

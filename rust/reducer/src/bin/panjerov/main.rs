@@ -1,0 +1,67 @@
+//! The program `panjerov`: settles graphs, shows them, and makes tagged files of AIGER texts and back.
+
+mod faults;
+mod files;
+mod formats;
+mod help;
+mod progress;
+mod show;
+mod words;
+
+use std::io::{self, Write};
+use std::process::ExitCode;
+
+use formats::Format;
+use progress::Progress;
+use reducer::{Graph, Settled, Size};
+use words::{Asked, Command, Work};
+
+/// A line on standard error. Where that cannot be written to, nobody reads it.
+fn say(line: &str) {
+    let _ = writeln!(io::stderr(), "{line}");
+}
+
+/// Settles the graph; the line with the figures.
+fn settle(graph: &mut Graph) -> Result<String, String> {
+    let Settled { rounds, before, after } = graph.settle().map_err(|refusal| refusal.to_string())?;
+    let Size { inputs, nodes, outputs } = graph.size;
+    Ok(format!("inputs {inputs} nodes {nodes} outputs {outputs} before {before} after {after} rounds {rounds}"))
+}
+
+fn work(asked: &Work) -> Result<(), String> {
+    let input = files::read(asked.input.as_deref())?;
+    let working = Progress::of(format!("{} {}", asked.command.doing(), input.name));
+    let (mut graph, got) = formats::graph_of(&input)?;
+    let mut figures = None;
+    let given = match asked.command {
+        Command::Settle => {
+            figures = Some(settle(&mut graph)?);
+            formats::bytes_of(&graph, asked.to.unwrap_or(got))?
+        }
+        Command::Import => formats::bytes_of(&graph, Format::Tagged)?,
+        Command::Export => formats::bytes_of(&graph, Format::Aiger)?,
+        Command::Show => show::text_of(&graph, got)?.into_bytes(),
+    };
+    files::write(asked.output.as_deref(), &given)?;
+    drop(working);
+    figures.iter().for_each(|line| say(line));
+    Ok(())
+}
+
+fn run() -> Result<(), (u8, String)> {
+    match words::asked(std::env::args_os().skip(1)).map_err(|why| (2, why))? {
+        Asked::Help(text) => files::write(None, text.as_bytes()),
+        Asked::Work(asked) => work(&asked),
+    }
+    .map_err(|why| (1, why))
+}
+
+fn main() -> ExitCode {
+    match run() {
+        Ok(()) => ExitCode::SUCCESS,
+        Err((status, why)) => {
+            say(&format!("panjerov: {why}"));
+            ExitCode::from(status)
+        }
+    }
+}

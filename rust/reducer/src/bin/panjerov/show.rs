@@ -1,0 +1,50 @@
+//! What `panjerov show` tells.
+
+use crate::formats::Format;
+use reducer::{Graph, Size, MARK};
+
+/// The most nodes on a way from an output down, of a graph that the library has admitted.
+fn depth(graph: &Graph) -> u32 {
+    let Size { inputs, outputs, .. } = graph.size;
+    // By index: the most nodes on a way from it down, itself among them.
+    let mut depths = vec![0; 1 + inputs as usize];
+    let below = |depths: &[u32], literal: u32| depths[literal as usize / 2];
+    for words in graph.node_table.chunks_exact(3) {
+        let third = if words[2] == MARK { 0 } else { below(&depths, words[2]) };
+        depths.push(1 + below(&depths, words[0]).max(below(&depths, words[1])).max(third));
+    }
+    graph.output_table[..outputs as usize].iter().map(|&literal| below(&depths, literal)).max().unwrap_or(0)
+}
+
+pub fn text_of(graph: &Graph, format: Format) -> Result<String, String> {
+    let complemented = graph.complemented_edges().map_err(|refusal| refusal.to_string())?;
+    let Size { inputs, nodes, outputs } = graph.size;
+    let xors = graph.node_table.chunks_exact(3).filter(|words| words[2] == MARK).count() as u32;
+    Ok(format!(
+        "format {}\ninputs {inputs} nodes {nodes} outputs {outputs}\nmajorities {} xors {xors}\n\
+         complemented edges {complemented}\ndepth {}\n",
+        format.name(),
+        nodes - xors,
+        depth(graph)
+    ))
+}
+
+#[cfg(test)]
+mod tests {
+    use super::*;
+
+    fn depth_of(inputs: u32, node_table: &[u32], output_table: &[u32]) -> u32 {
+        let size = Size { inputs, nodes: node_table.len() as u32 / 3, outputs: output_table.len() as u32 };
+        depth(&Graph { size, node_table: node_table.to_vec(), output_table: output_table.to_vec() })
+    }
+
+    #[test]
+    fn depths() {
+        assert_eq!(depth_of(0, &[], &[]), 0);
+        assert_eq!(depth_of(1, &[], &[3, 0]), 0);
+        assert_eq!(depth_of(3, &[2, 4, 6], &[9]), 1);
+        // The highest node is not read.
+        assert_eq!(depth_of(2, &[2, 4, MARK, 6, 2, 0, 8, 8, MARK], &[8, 6]), 2);
+        assert_eq!(depth_of(2, &[2, 4, MARK, 0, 1, 6, 3, 8, MARK], &[0, 11]), 3);
+    }
+}

@@ -1,0 +1,163 @@
+//! The words of the command line.
+
+use std::ffi::OsString;
+use std::path::PathBuf;
+
+use crate::formats::Format;
+use crate::help;
+
+#[derive(Clone, Copy, Debug, PartialEq, Eq)]
+pub enum Command {
+    Settle,
+    Import,
+    Export,
+    Show,
+}
+
+impl Command {
+    fn named(name: &str) -> Option<Command> {
+        match name {
+            "settle" => Some(Command::Settle),
+            "import" => Some(Command::Import),
+            "export" => Some(Command::Export),
+            "show" => Some(Command::Show),
+            _ => None,
+        }
+    }
+
+    pub fn name(self) -> &'static str {
+        match self {
+            Command::Settle => "settle",
+            Command::Import => "import",
+            Command::Export => "export",
+            Command::Show => "show",
+        }
+    }
+
+    /// What it is at while it works.
+    pub fn doing(self) -> &'static str {
+        match self {
+            Command::Settle => "settling",
+            Command::Import => "importing",
+            Command::Export => "exporting",
+            Command::Show => "looking at",
+        }
+    }
+}
+
+/// A command with its files; none is standard input or standard output.
+#[derive(Debug, PartialEq, Eq)]
+pub struct Work {
+    pub command: Command,
+    pub input: Option<PathBuf>,
+    pub output: Option<PathBuf>,
+    /// What settling gives; none is what it got.
+    pub to: Option<Format>,
+}
+
+#[derive(Debug, PartialEq, Eq)]
+pub enum Asked {
+    Help(String),
+    Work(Work),
+}
+
+/// The file that a word names, unless it is `-`.
+fn file(word: OsString) -> Option<PathBuf> {
+    (word != "-").then(|| word.into())
+}
+
+/// What is asked for, or what is wrong with the words.
+pub fn asked(mut words: impl Iterator<Item = OsString>) -> Result<Asked, String> {
+    let Some(first) = words.next() else {
+        return Err("a command is missing; `panjerov --help` tells them".into());
+    };
+    let name = first.to_string_lossy();
+    if name == "--help" || name == "-h" {
+        return Ok(Asked::Help(help::program()));
+    }
+    match Command::named(&name) {
+        Some(command) => asked_of(command, words).map_err(|why| {
+            let name = command.name();
+            format!("{why}; `panjerov {name} --help` tells what {name} takes")
+        }),
+        None => Err(format!("there is no command {name}; `panjerov --help` tells them")),
+    }
+}
+
+fn format_named(word: Option<OsString>) -> Result<Format, String> {
+    match word.as_ref().and_then(|word| word.to_str()) {
+        Some("tagged") => Ok(Format::Tagged),
+        Some("aiger") => Ok(Format::Aiger),
+        _ => Err("--to wants tagged or aiger after it".into()),
+    }
+}
+
+/// Puts a value where none is yet.
+fn put<T>(place: &mut Option<T>, value: T, what: &str) -> Result<(), String> {
+    match place.replace(value) {
+        None => Ok(()),
+        Some(_) => Err(format!("{what} is given twice")),
+    }
+}
+
+fn asked_of(command: Command, mut words: impl Iterator<Item = OsString>) -> Result<Asked, String> {
+    let (mut input, mut output, mut to) = (None, None, None);
+    let mut only_files = false;
+    while let Some(word) = words.next() {
+        let text = word.to_string_lossy().into_owned();
+        match text.as_str() {
+            _ if only_files || text == "-" || !text.starts_with('-') => put(&mut input, word, "FILE")?,
+            "--help" | "-h" => return Ok(Asked::Help(help::of(command))),
+            "-o" => put(&mut output, words.next().ok_or("-o wants a file after it")?, "-o")?,
+            "--to" if command == Command::Settle => put(&mut to, format_named(words.next())?, "--to")?,
+            "--" => only_files = true,
+            _ => return Err(format!("there is no option {text}")),
+        }
+    }
+    Ok(Asked::Work(Work { command, input: input.and_then(file), output: output.and_then(file), to }))
+}
+
+#[cfg(test)]
+mod tests {
+    use super::*;
+
+    fn of(words: &[&str]) -> Result<Asked, String> {
+        asked(words.iter().map(OsString::from))
+    }
+
+    fn work(command: Command, input: Option<&str>, output: Option<&str>, to: Option<Format>) -> Result<Asked, String> {
+        Ok(Asked::Work(Work { command, input: input.map(PathBuf::from), output: output.map(PathBuf::from), to }))
+    }
+
+    #[test]
+    fn files_and_options_in_any_order() {
+        assert_eq!(of(&["show"]), work(Command::Show, None, None, None));
+        assert_eq!(of(&["show", "-"]), work(Command::Show, None, None, None));
+        assert_eq!(of(&["import", "a", "-o", "b"]), work(Command::Import, Some("a"), Some("b"), None));
+        assert_eq!(of(&["export", "-o", "b", "a"]), work(Command::Export, Some("a"), Some("b"), None));
+        assert_eq!(of(&["export", "-o", "-", "a"]), work(Command::Export, Some("a"), None, None));
+        assert_eq!(of(&["show", "--", "-o"]), work(Command::Show, Some("-o"), None, None));
+        let settled = work(Command::Settle, Some("a"), None, Some(Format::Aiger));
+        assert_eq!(of(&["settle", "--to", "aiger", "a"]), settled);
+    }
+
+    #[test]
+    fn what_is_not_understood() {
+        for words in [
+            &[][..],
+            &["grind"],
+            &["--to"],
+            &["settle", "a", "b"],
+            &["settle", "-o"],
+            &["settle", "-o", "a", "-o", "b"],
+            &["settle", "--to"],
+            &["settle", "--to", "verilog"],
+            &["settle", "--to", "aiger", "--to", "aiger"],
+            &["import", "--to", "tagged"],
+            &["show", "--verbose"],
+            &["show", "-x"],
+        ] {
+            assert!(of(words).is_err(), "{words:?}");
+        }
+    }
+}

@@ -1,0 +1,306 @@
+//! The program `panjerov`, run as a user runs it.
+
+use std::fs::{self, Permissions};
+use std::io::{BufRead, BufReader, Write};
+use std::os::unix::fs::{symlink, PermissionsExt};
+use std::path::{Path, PathBuf};
+use std::process::{Command, Output, Stdio};
+use std::time::{Duration, Instant};
+
+const PROGRAM: &str = env!("CARGO_BIN_EXE_panjerov");
+const MAJORITY: &str = "aag 7 3 0 1 4\n2\n4\n6\n15\n8 5 7\n10 2 9\n12 4 6\n14 11 13\n";
+
+/// An empty folder of a test's own.
+fn folder(test: &str) -> PathBuf {
+    let folder = Path::new(env!("CARGO_TARGET_TMPDIR")).join(test);
+    let _ = fs::remove_dir_all(&folder);
+    fs::create_dir_all(&folder).unwrap();
+    folder
+}
+
+/// A tagged file, field by field: tag and words.
+fn tagged(fields: &[(u8, &[u32])]) -> Vec<u8> {
+    let field = |&(tag, words): &(u8, &[u32])| {
+        let payload: Vec<u8> = words.iter().flat_map(|word| word.to_be_bytes()).collect();
+        [&[tag, 0, payload.len() as u8], &payload[..]].concat()
+    };
+    fields.iter().flat_map(field).collect()
+}
+
+fn p1() -> Vec<u8> {
+    tagged(&[(1, &[3, 1, 1]), (2, &[3, 5, 7]), (4, &[9]), (5, &[])])
+}
+
+fn p1_settled() -> Vec<u8> {
+    tagged(&[(1, &[3, 1, 1]), (2, &[2, 4, 6]), (4, &[8]), (5, &[])])
+}
+
+fn run_in(folder: &Path, words: &[&str], input: &[u8]) -> Output {
+    let mut child = Command::new(PROGRAM)
+        .args(words)
+        .current_dir(folder)
+        .stdin(Stdio::piped())
+        .stdout(Stdio::piped())
+        .stderr(Stdio::piped())
+        .spawn()
+        .unwrap();
+    // It need not read what it is handed.
+    let _ = child.stdin.take().unwrap().write_all(input);
+    child.wait_with_output().unwrap()
+}
+
+fn run(words: &[&str], input: &[u8]) -> Output {
+    run_in(Path::new("."), words, input)
+}
+
+fn text(bytes: &[u8]) -> &str {
+    std::str::from_utf8(bytes).unwrap()
+}
+
+/// What was said on standard error, but for lines of progress, which a machine at other work may bring about.
+fn said(output: &Output) -> String {
+    let progress = |line: &&str| line.starts_with("panjerov: ") && line.contains(" for ") && line.ends_with(" s\n");
+    text(&output.stderr).split_inclusive('\n').filter(|line| !progress(line)).collect()
+}
+
+/// Accepted, with this on standard output and this on standard error.
+fn gives(output: &Output, given: &[u8], due: &str) {
+    assert_eq!(said(output), due);
+    assert_eq!(output.stdout.escape_ascii().to_string(), given.escape_ascii().to_string());
+    assert_eq!(output.status.code(), Some(0));
+}
+
+/// Ended with this status, nothing on standard output, and this on standard error.
+fn stops(output: &Output, status: i32, due: &str) {
+    assert_eq!(said(output), due);
+    assert_eq!(output.stdout, b"");
+    assert_eq!(output.status.code(), Some(status));
+}
+
+/// That the folder has just these files: nothing was left beside them.
+fn holds(folder: &Path, names: &[&str]) {
+    let mut found: Vec<String> =
+        fs::read_dir(folder).unwrap().map(|entry| entry.unwrap().file_name().into_string().unwrap()).collect();
+    found.sort();
+    assert_eq!(found, names);
+}
+
+const FIGURES: &str = "inputs 3 nodes 1 outputs 1 before 4 after 0 rounds 2\n";
+
+#[test]
+fn settling() {
+    gives(&run(&["settle"], &p1()), &p1_settled(), FIGURES);
+    gives(&run(&["settle", "-"], &p1()), &p1_settled(), FIGURES);
+    gives(&run(&["settle", "--to", "tagged"], &p1()), &p1_settled(), FIGURES);
+    gives(&run(&["settle", "--to", "aiger"], &p1()), MAJORITY.as_bytes(), FIGURES);
+    // A NOR settles to an OR whose output is complemented: 0 3 5 -> 6 is document 01's P7.
+    let nor = b"aag 3 2 0 1 1\n2\n4\n6\n6 3 5\n";
+    let said = "inputs 2 nodes 1 outputs 1 before 2 after 1 rounds 2\n";
+    let settled = tagged(&[(1, &[2, 1, 1]), (2, &[1, 2, 4]), (4, &[7]), (5, &[])]);
+    gives(&run(&["settle", "--to", "tagged"], nor), &settled, said);
+    let as_text = "aag 6 2 0 1 4\n2\n4\n12\n6 3 5\n8 1 7\n10 2 4\n12 9 11\n";
+    gives(&run(&["settle"], nor), as_text.as_bytes(), said);
+}
+
+#[test]
+fn importing_and_exporting() {
+    let nodes: [&[u32]; 4] = [&[0, 5, 7], &[0, 2, 9], &[0, 4, 6], &[0, 11, 13]];
+    let imported =
+        tagged(&[(1, &[3, 4, 1]), (2, nodes[0]), (2, nodes[1]), (2, nodes[2]), (2, nodes[3]), (4, &[15]), (5, &[])]);
+    gives(&run(&["import"], MAJORITY.as_bytes()), &imported, "");
+    gives(&run(&["import"], format!("{MAJORITY}i0 x\nc\nmade by hand\n").as_bytes()), &imported, "");
+    gives(&run(&["import"], &p1()), &p1(), "");
+    gives(&run(&["export"], &p1_settled()), MAJORITY.as_bytes(), "");
+    let xor = tagged(&[(1, &[2, 1, 1]), (3, &[2, 4]), (4, &[6]), (5, &[])]);
+    gives(&run(&["export"], &xor), b"aag 5 2 0 1 3\n2\n4\n11\n6 2 5\n8 3 4\n10 7 9\n", "");
+    gives(&run(&["export"], b"aag 1 1 0 1 0\n2\n3\n"), b"aag 1 1 0 1 0\n2\n3\n", "");
+}
+
+#[test]
+fn showing() {
+    let due = "format tagged\ninputs 3 nodes 1 outputs 1\nmajorities 1 xors 0\ncomplemented edges 4\ndepth 1\n";
+    gives(&run(&["show"], &p1()), due.as_bytes(), "");
+    let due = "format aiger\ninputs 3 nodes 4 outputs 1\nmajorities 4 xors 0\ncomplemented edges 6\ndepth 3\n";
+    gives(&run(&["show"], MAJORITY.as_bytes()), due.as_bytes(), "");
+    let mixed = tagged(&[(1, &[2, 2, 2]), (3, &[2, 5]), (2, &[1, 6, 4]), (4, &[8]), (4, &[1]), (5, &[])]);
+    let due = "format tagged\ninputs 2 nodes 2 outputs 2\nmajorities 1 xors 1\ncomplemented edges 1\ndepth 2\n";
+    gives(&run(&["show"], &mixed), due.as_bytes(), "");
+}
+
+#[test]
+fn files_of_names() {
+    let folder = folder("files_of_names");
+    fs::write(folder.join("in"), p1()).unwrap();
+    gives(&run_in(&folder, &["settle", "in", "-o", "out"], b""), b"", FIGURES);
+    assert_eq!(fs::read(folder.join("out")).unwrap(), p1_settled());
+    gives(&run_in(&folder, &["settle", "in", "-o", "-"], b""), &p1_settled(), FIGURES);
+    gives(&run_in(&folder, &["export", "-o", "text", "out"], b""), b"", "");
+    assert_eq!(fs::read(folder.join("text")).unwrap(), MAJORITY.as_bytes());
+    // What it reads is what it writes.
+    gives(&run_in(&folder, &["settle", "in", "-o", "in"], b""), b"", FIGURES);
+    assert_eq!(fs::read(folder.join("in")).unwrap(), p1_settled());
+    holds(&folder, &["in", "out", "text"]);
+}
+
+#[test]
+fn what_is_replaced() {
+    let folder = folder("what_is_replaced");
+    let target = folder.join("there");
+    fs::write(&target, "old, and longer than what takes its place: it must be gone to the last byte").unwrap();
+    fs::set_permissions(&target, Permissions::from_mode(0o640)).unwrap();
+    symlink("there", folder.join("link")).unwrap();
+    gives(&run_in(&folder, &["import", "-o", "link"], &p1()), b"", "");
+    assert_eq!(fs::read(&target).unwrap(), p1());
+    assert_eq!(fs::metadata(&target).unwrap().permissions().mode() & 0o7777, 0o640);
+    assert!(fs::symlink_metadata(folder.join("link")).unwrap().is_symlink());
+    symlink("new", folder.join("to_new")).unwrap();
+    gives(&run_in(&folder, &["import", "-o", "to_new"], &p1()), b"", "");
+    assert_eq!(fs::read(folder.join("new")).unwrap(), p1());
+    gives(&run_in(&folder, &["import", "-o", "/dev/null"], &p1()), b"", "");
+    assert!(!fs::metadata("/dev/null").unwrap().is_file());
+    holds(&folder, &["link", "new", "there", "to_new"]);
+}
+
+#[test]
+fn nothing_half_written() {
+    let folder = folder("nothing_half_written");
+    fs::write(folder.join("old"), "old").unwrap();
+    let stopped = run_in(&folder, &["settle", "-o", "old"], b"aag 1 1 0 0 0\n4\n");
+    assert_eq!(stopped.status.code(), Some(1));
+    let gone = "panjerov: cannot write no/folder: No such file or directory (os error 2)\n";
+    stops(&run_in(&folder, &["export", "-o", "no/folder"], &p1()), 1, gone);
+    let is_folder = "panjerov: cannot write .: Is a directory (os error 21)\n";
+    stops(&run_in(&folder, &["export", "-o", "."], &p1()), 1, is_folder);
+    let full = "panjerov: cannot write /dev/full: No space left on device (os error 28)\n";
+    stops(&run_in(&folder, &["export", "-o", "/dev/full"], &p1()), 1, full);
+    // A file that may have 512 bytes, where more are to be written.
+    let many = format!("aag 200 0 0 0 200\n{}", (1..=200).map(|at| format!("{} 0 1\n", 2 * at)).collect::<String>());
+    fs::write(folder.join("many"), many).unwrap();
+    let limited = "trap '' XFSZ; ulimit -f 1; exec \"$0\" import many -o old";
+    let output = Command::new("sh").args(["-c", limited, PROGRAM]).current_dir(&folder).output().unwrap();
+    stops(&output, 1, "panjerov: cannot write old: File too large (os error 27)\n");
+    assert_eq!(fs::read(folder.join("old")).unwrap(), b"old");
+    holds(&folder, &["many", "old"]);
+}
+
+#[test]
+fn standard_output_that_is_full() {
+    for words in ["settle", "show", "--help"] {
+        let full = fs::OpenOptions::new().write(true).open("/dev/full").unwrap();
+        let folder = folder(&format!("full_{words}"));
+        fs::write(folder.join("in"), p1()).unwrap();
+        let mut command = Command::new(PROGRAM);
+        command.arg(words).stdin(fs::File::open(folder.join("in")).unwrap()).stdout(full);
+        let output = command.output().unwrap();
+        assert_eq!(output.status.code(), Some(1), "{words}");
+        let due = "panjerov: cannot write standard output: No space left on device (os error 28)\n";
+        assert_eq!(said(&output), due);
+    }
+}
+
+#[test]
+fn refused_texts() {
+    let numbering = "refused 12: M is not I + A, or inputs or gate numbers do not rise by 2 from literal 2";
+    let bad_text = "refused 10: the header has no \"aag\", or a line lacks its decimal numbers";
+    let bad_literal = "refused 5: a literal names an index that is not allowed there";
+    let good = "aag 3 2 0 1 1\n2\n4\n6\n6 5 2\n";
+    for (from, to, line, due, why) in [
+        ("aag 3", "aag3", 1, "the header", bad_text),
+        ("3 2 0", "3 2 1", 1, "the header", "refused 11: there are latches"),
+        ("aag 3", "aag 4", 1, "the header", numbering),
+        ("3 2 0 1", "3 2 0 5000", 1, "the header", "refused 3: there are too many inputs, nodes or outputs"),
+        ("\n4\n", "\n04\n", 3, "input 2", bad_text),
+        ("\n2\n4\n", "\n4\n2\n", 2, "input 1", numbering),
+        ("\n4\n6\n", "\n4\n8\n", 4, "output 1", bad_literal),
+        ("6 5 2", "6 6 2", 5, "gate 1", bad_literal),
+        ("6 5 2", "8 5 2", 5, "gate 1", numbering),
+        ("6 5 2", "6 5", 5, "gate 1", bad_text),
+    ] {
+        assert!(good.contains(from));
+        let output = run(&["import"], good.replacen(from, to, 1).as_bytes());
+        stops(&output, 1, &format!("panjerov: standard input, line {line}, where {due} is due: {why}\n"));
+    }
+    let cut = run(&["show"], &good.as_bytes()[..good.len() - 1]);
+    let said = format!("standard input, line 5, where gate 1 is due: {bad_text}; the text ends within it");
+    stops(&cut, 1, &format!("panjerov: {said}\n"));
+    let returns = run(&["show"], good.replace('\n', "\r\n").as_bytes());
+    let said = format!("standard input, line 1, where the header is due: {bad_text}; it has a carriage return");
+    stops(&returns, 1, &format!("panjerov: {said}\n"));
+}
+
+#[test]
+fn refused_files() {
+    let folder = folder("refused_files");
+    fs::write(folder.join("long"), [p1(), vec![0]].concat()).unwrap();
+    let said = "panjerov: long: refused 6: there are bytes after the end field\n";
+    stops(&run_in(&folder, &["settle", "long"], b""), 1, said);
+    let empty = "panjerov: standard input: refused 1: the bytes end within a field; it is empty\n";
+    stops(&run(&["export"], b""), 1, empty);
+    let other = "panjerov: standard input: refused 2: a field has not the tag or the length that is due; \
+                 neither a tagged file nor AIGER text begins so\n";
+    stops(&run(&["show"], b"module adder;\n"), 1, other);
+    let missing = "panjerov: cannot read missing: No such file or directory (os error 2)\n";
+    stops(&run_in(&folder, &["show", "missing"], b""), 1, missing);
+    let binary = "panjerov: standard input is AIGER in the binary format, and only ASCII is read. Either makes ASCII of it:\n    \
+                  aigtoaig OLD.aig NEW.aag\n    \
+                  yosys -p 'read_aiger OLD.aig; write_aiger -ascii -symbols NEW.aag'\n\
+                  yosys may put inputs and outputs that have names in another order; the symbols in the new file tell it.\n";
+    stops(&run(&["import"], b"aig 1 1 0 1 0\n2\n"), 1, binary);
+}
+
+#[test]
+fn usage() {
+    for words in [&[][..], &["grind"], &["settle", "a", "b"], &["show", "-o"], &["import", "--to", "aiger"]] {
+        let output = run(words, &p1());
+        assert_eq!(output.status.code(), Some(2), "{words:?}");
+        assert_eq!(output.stdout, b"");
+        assert!(text(&output.stderr).starts_with("panjerov: ") && text(&output.stderr).contains("--help"), "{words:?}");
+    }
+    for words in
+        [&["--help"][..], &["-h"], &["settle", "--help"], &["import", "-h"], &["export", "--help"], &["show", "--help"]]
+    {
+        let output = run(words, b"");
+        let begin =
+            if words.len() == 1 { "usage: panjerov COMMAND" } else { &format!("usage: panjerov {} ", words[0]) };
+        assert!(text(&output.stdout).starts_with(begin), "{words:?}");
+        assert_eq!((text(&output.stderr), output.status.code()), ("", Some(0)));
+    }
+}
+
+#[test]
+fn a_line_after_a_second() {
+    let start = Instant::now();
+    let mut child = Command::new(PROGRAM)
+        .arg("show")
+        .stdin(Stdio::piped())
+        .stdout(Stdio::piped())
+        .stderr(Stdio::piped())
+        .spawn()
+        .unwrap();
+    let mut said = String::new();
+    BufReader::new(child.stderr.take().unwrap()).read_line(&mut said).unwrap();
+    assert_eq!(said, "panjerov: reading standard input for 1 s\n");
+    assert!(start.elapsed() >= Duration::from_secs(1));
+    child.stdin.take().unwrap().write_all(&p1()).unwrap();
+    let output = child.wait_with_output().unwrap();
+    assert!(text(&output.stdout).starts_with("format tagged\n"));
+    assert_eq!(output.status.code(), Some(0));
+}
+
+/// The longest texts: all is read that is looked at, and no more.
+#[test]
+fn long_input() {
+    let mut long = "aag 104096 4096 0 4096 100000\n".to_string();
+    (1..=4_096).for_each(|input| long += &format!("{}\n", 2 * input));
+    (1..=4_096).for_each(|_| long += "208193\n");
+    (4_097..=104_096).for_each(|gate| long += &format!("{} {} {}\n", 2 * gate, 2 * gate - 1, 2 * gate - 2));
+    let due = "format aiger\ninputs 4096 nodes 100000 outputs 4096\nmajorities 100000 xors 0\n\
+               complemented edges 104096\ndepth 100000\n";
+    gives(&run(&["show"], long.as_bytes()), due.as_bytes(), "");
+    let symbols = "i0 a name that is long enough\n".repeat(200_000);
+    gives(&run(&["show"], (long.clone() + &symbols).as_bytes()), due.as_bytes(), "");
+    let last = long.replacen("\n208192 208191 208190\n", "\n208192 208191 4294967295\n", 1);
+    let said = "panjerov: standard input, line 108193, where gate 100000 is due: \
+                refused 5: a literal names an index that is not allowed there\n";
+    stops(&run(&["show"], last.as_bytes()), 1, said);
+}
