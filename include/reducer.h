@@ -168,7 +168,7 @@ uint32_t reducer_evaluate(uint32_t inputs, uint32_t nodes, uint32_t outputs,
                           uint64_t *scratch, size_t scratch_length,
                           uint64_t *results, size_t results_length);
 
-/* How many edges are complemented, those to the constant not counted. Refusals: 3, 4, 5. */
+/* How many edges are complemented, those from the constant among them. Refusals: 3, 4, 5. */
 uint32_t reducer_count(uint32_t inputs, uint32_t nodes, uint32_t outputs,
                        const uint32_t *node_table, size_t node_table_length,
                        const uint32_t *output_table, size_t output_table_length,

@@ -314,7 +314,7 @@ class Graph:
         return results[: lent[2]]
 
     def complemented_edges(self) -> int:
-        """How many edges are complemented, those to the constant not counted."""
+        """How many edges are complemented, those from the constant among them."""
         count = _U32()
         _accept(_count(*self._lent(), ctypes.byref(count)))
         return count.value

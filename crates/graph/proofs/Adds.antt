@@ -1,28 +1,19 @@
--- What a word adds to C is at most 1, and C at most the number of words. Assumes nothing.
-use mathlib.Core.Path.{_≡_}
+-- What a word adds to C is at most 1, and C at most the number of words; the words of one node. Assumes nothing.
+use mathlib.Core.Path.{_≡_, ap}
 use mathlib.Core.Bool.{_&&_}
-use mathlib.Core.Logic.{_≢_}
-use Prim.Native.Nat.{ℕ, _+_, _*_, _/_, _%_, _≤_}
+use Prim.Native.Nat.{ℕ, suc, _+_, _*_, _%_, _≤_}
 use native.Mathlib.Omega.{arith}
-use borrow.Author.Tests.{ne-eqb}
+use borrow.Author.Tests.{eq-eqb, ne-eqb}
 use lib.Dec.{eqb}
-use Rattle.graph.specs.Graph.{Graph, mark}
-use Rattle.graph.specs.Count.{C, edgeAdds, adds, nodeAdds, outputAdds, wordAdds}
+use Rattle.graph.specs.Finite.{sum}
+use Rattle.graph.specs.Graph.{Graph, mark, word}
+use Rattle.graph.specs.Count.{C, adds, nodeAdds, outputAdds, wordAdds}
 use Rattle.graph.proofs.Cases.{cond-le}
 use Rattle.graph.proofs.Finite.{sum-le}
 
-pub edgeAdds-le : (u b : ℕ) → b ≤ 1 → edgeAdds u b ≤ 1
-unfolding edgeAdds
-edgeAdds-le u b l = cond-le (eqb u 0) 0 b 1 (omega arith) l
-
--- an edge that names a node adds its bit
-pub edgeAdds-bit : (u b : ℕ) → u ≢ 0 → edgeAdds u b ≡ b
-unfolding edgeAdds
-edgeAdds-bit u b d = rw (ne-eqb u 0 d)
-
 pub adds-le : (x : ℕ) → adds x ≤ 1
 unfolding adds
-adds-le x = edgeAdds-le (x / 2) (x % 2) (omega arith)
+adds-le x = omega arith
 
 pub wordAdds-le : (j x : ℕ) → wordAdds j x ≤ 1
 unfolding wordAdds
@@ -39,3 +30,30 @@ outputAdds-le g j = adds-le _
 pub C-le : (g : Graph) → C g ≤ 3 * g .N + g .O
 unfolding C
 C-le g = omega (arith, sum-le (nodeAdds g) (nodeAdds-le g) (3 * g .N), sum-le (outputAdds g) (outputAdds-le g) (g .O))
+
+module _ (g : Graph) (v : ℕ) where
+  word-first : nodeAdds g (3 * v) ≡ adds (word g (3 * v))
+  unfolding nodeAdds wordAdds
+  word-first = rw (ne-eqb (3 * v % 3) 2 (λ e. omega arith))
+
+  word-second : nodeAdds g (3 * v + 1) ≡ adds (word g (3 * v + 1))
+  unfolding nodeAdds wordAdds
+  word-second = rw (ne-eqb ((3 * v + 1) % 3) 2 (λ e. omega arith))
+
+  word-third : nodeAdds g (3 * v + 2) ≡ wordAdds 2 (word g (3 * v + 2))
+  unfolding nodeAdds wordAdds
+  word-third = rw (eq-eqb ((3 * v + 2) % 3) 2 (omega arith))
+
+  three-more : (f : ℕ → ℕ) → sum (3 * (v + 1)) f ≡ sum (3 * v) f + f (3 * v) + f (3 * v + 1) + f (3 * v + 2)
+  unfolding sum
+  three-more f =
+      let e : 3 * (v + 1) ≡ suc (suc (suc (3 * v))) = omega arith in
+      let a : suc (3 * v) ≡ 3 * v + 1 = omega arith in
+      let b : suc (suc (3 * v)) ≡ 3 * v + 2 = omega arith in
+      rw (e, ← a, ← b)
+
+  -- the sum over the words passed, with those of one more node
+  pub node-next : (c x y z r : ℕ) → c ≡ sum (3 * v) (nodeAdds g) → x ≡ word g (3 * v) → y ≡ word g (3 * v + 1) → z ≡ word g (3 * v + 2)
+      → r ≡ adds x + adds y + wordAdds 2 z → c + r ≡ sum (3 * (v + 1)) (nodeAdds g)
+  node-next c x y z r e p q s t =
+      rw (three-more (nodeAdds g), word-first, word-second, word-third) (omega (arith, e, t, ap adds p, ap adds q, ap (wordAdds 2) s))

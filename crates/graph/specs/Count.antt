@@ -5,13 +5,9 @@ use lib.Dec.{eqb}
 use Rattle.graph.specs.Finite.{sum, count}
 use Rattle.graph.specs.Graph.{Graph, mark, word, output, index, complement, isEdge}
 
--- what an edge with index u and bit b adds to C: it counts if its index is not 0
-unfoldable pub edgeAdds : ℕ → ℕ → ℕ
-edgeAdds u b = cond (eqb u 0) 0 b
-
--- what a literal adds to C
+-- what a literal adds to C: an edge from the constant is one like any other
 unfoldable pub adds : ℕ → ℕ
-adds x = edgeAdds (index x) (complement x)
+adds x = complement x
 
 -- what the word x at place j of a node table adds to C: the mark is no edge, though it is odd
 unfoldable pub wordAdds : ℕ → ℕ → ℕ
@@ -23,7 +19,7 @@ nodeAdds g j = wordAdds j (word g j)
 unfoldable pub outputAdds : Graph → ℕ → ℕ
 outputAdds g j = adds (output g j)
 
--- C (document 01's term): how many counting edges are complemented
+-- C (document 01's term): how many edges are complemented
 unfoldable pub C : Graph → ℕ
 C g = sum (3 * g .N) (nodeAdds g) + sum (g .O) (outputAdds g)
 

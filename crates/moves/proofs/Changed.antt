@@ -1,5 +1,5 @@
 -- What one changed move changes, and what a word adds after all moves.
-use mathlib.Core.Path.{_≡_, refl, ap, _∙_}
+use mathlib.Core.Path.{_≡_, refl, ap}
 use mathlib.Core.List.{[], _∷_}
 use mathlib.Core.Bool.{Bool, true, false, not, cond, _&&_}
 use mathlib.Core.Logic.{_≢_}
@@ -9,14 +9,13 @@ use borrow.Author.Tests.{eq-eqb, ne-eqb}
 use lib.Dec.{eqb}
 use lib.ListN.{getD}
 use Rattle.graph.specs.Admission.{Admitted}
-use Rattle.graph.specs.Count.{edgeAdds, adds, wordAdds, nodeAdds, outputAdds}
+use Rattle.graph.specs.Count.{adds, wordAdds, nodeAdds, outputAdds}
 use Rattle.graph.specs.Finite.{ifLess}
 use Rattle.graph.specs.Graph.{Graph, mark, isEdge, isXor, turn, node, word, output}
 use Rattle.moves.specs.Apply.{Choice, own, seen, apply, at}
 use Rattle.moves.specs.Rows.{firstRow, arity, flag, rows}
 use Rattle.graph.proofs.Cases.{cond-same}
-use Rattle.graph.proofs.Adds.{edgeAdds-bit}
-use Rattle.graph.proofs.Turn.{turn-half, turn-bit}
+use Rattle.graph.proofs.Turn.{turn-bit}
 use Rattle.moves.proofs.Apply.{node-at, out-at, same-mark, turns-edge, outputTurns-at}
 use Rattle.moves.proofs.Compose.{seen-node}
 
@@ -70,14 +69,14 @@ module _ (g : Graph) (d : Choice) where
 
   -- what an edge adds that names u, its bit being b after its own node's move
   abbrev pub plain : ℕ → ℕ → ℕ
-  plain u b = edgeAdds u ((b + seen g d u) % 2)
+  plain u b = (b + seen g d u) % 2
 
   pub plain-node : (v b : ℕ) → v < g .N → plain (node g v) b ≡ (b + flag (isXor g v) (d (node g v)) 3) % 2
-  plain-node v b h = edgeAdds-bit (node g v) ((b + seen g d (node g v)) % 2) (λ z. omega arith) ∙ ap (λ x. (b + x) % 2) (seen-node g d v h)
+  plain-node v b h = ap (λ x. (b + x) % 2) (seen-node g d v h)
 
   adds-turn : (x t b : ℕ) → x + t ≡ b + seen g d (x / 2) → adds (turn t x) ≡ plain (x / 2) b
   unfolding adds
-  adds-turn x t b e = rw (turn-half t x, turn-bit t x, e)
+  adds-turn x t b e = rw (turn-bit t x, e)
 
   module _ (adm : Admitted g) where
     pub node-adds : (j : ℕ) → j < 3 * g .N → nodeAdds (apply g d) j ≡ cond (isEdge g j) (plain (word g j / 2) (word g j + own g d j)) 0

@@ -21,7 +21,7 @@ use Rattle.moves.specs.Cost.{shown}
 use Rattle.moves.specs.Decide.{costBy, costWith, wordAfter, ownCosts, swapped, given, others, costOf, costGiven, pairCost, FirstPair, numbersOf, naming}
 use Rattle.moves.specs.Rows.{flag, movesAt}
 use Rattle.graph.proofs.Cases.{eq-or-ne}
-use Rattle.graph.proofs.Turn.{turn-half, turn-bit}
+use Rattle.graph.proofs.Turn.{turn-bit}
 use Rattle.moves.proofs.Changed.{at-same, at-other, seen-other, seen-none, flag-zero}
 use Rattle.moves.proofs.Compose.{seen-node}
 use Rattle.moves.proofs.Flags.{flag-bit}
@@ -36,7 +36,7 @@ module _ (g : Graph) (d : Choice) (v i t : ℕ) where
       let x : ℕ = word g (3 * v + i) in
       let s : ℕ = seen g d (x / 2) in
       let e : (x + (t + s) % 2) % 2 ≡ (x + t + s) % 2 = omega arith in
-      rw (turn-half ((t + s) % 2) x, turn-bit ((t + s) % 2) x, e)
+      rw (turn-bit ((t + s) % 2) x, e)
 
 module _ (g : Graph) (v : ℕ) where
   at-own : (i t : ℕ) → i < 3 → t ≤ 1 → wordAfter g v i t ≡ getD (ownCosts g v) (2 * i + t) 0

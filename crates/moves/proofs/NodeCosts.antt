@@ -8,12 +8,11 @@ use native.Mathlib.Omega.{arith}
 use lib.ListN.{getD}
 use Rattle.graph.specs.Finite.{ifEqual}
 use Rattle.graph.specs.Graph.{Graph, node, word, isEdge, isXor}
-use Rattle.graph.specs.Count.{edgeAdds, readers}
+use Rattle.graph.specs.Count.{readers}
 use Rattle.choice.specs.Choice.{FirstBelow}
 use Rattle.moves.specs.Rows.{flag, movesAt}
 use Rattle.moves.specs.Cost.{edgeCost, turnedCost, wordCosts, wordCost, ownCost, moveCost, nodeCost, pick, rootCost, shown}
 use Rattle.moves.specs.Decide.{costBy, costWith, Numbers}
-use Rattle.graph.proofs.Adds.{edgeAdds-le}
 use Rattle.graph.proofs.Cases.{cond-le}
 use Rattle.moves.proofs.Flags.{flag-bit}
 use Rattle.moves.proofs.Shown.{all-readers, one-reader}
@@ -69,7 +68,7 @@ module _ (g : Graph) (t : ℕ → Bool) (c : ℕ → ℕ → ℕ) (v : ℕ) wher
 module _ (g : Graph) (t : ℕ → Bool) (c : ℕ → ℕ → ℕ) (v : ℕ) (low : (u s : ℕ) → c u s ≤ 1) where
   edge-le : (u b : ℕ) → b ≤ 1 → edgeCost t c u b ≤ 1
   unfolding edgeCost
-  edge-le u b l = cond-le (t u) (c u b) (edgeAdds u b) 1 (low u b) (edgeAdds-le u b l)
+  edge-le u b l = cond-le (t u) (c u b) b 1 (low u b) l
 
   turned-le : (i f : ℕ) → turnedCost g t c v i f ≤ 1
   unfolding turnedCost

@@ -6,7 +6,7 @@ use mathlib.Core.List.{List, [], _∷_}
 use mathlib.Core.Logic.{_≢_}
 use Prim.Native.Nat.{ℕ, _+_, _-_, _*_, _/_, _%_, _<_, min}
 use lib.Dec.{ltb}
-use Rattle.graph.specs.Count.{edgeAdds, named, outputNamed}
+use Rattle.graph.specs.Count.{named, outputNamed}
 use Rattle.graph.specs.Finite.{sum}
 use Rattle.graph.specs.Graph.{Graph, isEdge, isXor, node, word, output}
 use Rattle.moves.specs.Apply.{Choice, own}
@@ -19,9 +19,9 @@ unfoldable pub inner : Graph → ℕ → Bool
 inner g u = ltb (g .I) u && not (isRoot g u)
 
 -- what an edge that names u costs, its bit being b after its own node's move
--- (t tells the non-roots, and the constant is none)
+-- (t tells the non-roots)
 unfoldable pub edgeCost : (ℕ → Bool) → (ℕ → ℕ → ℕ) → ℕ → ℕ → ℕ
-edgeCost t c u b = cond (t u) (c u b) (edgeAdds u b)
+edgeCost t c u b = cond (t u) (c u b) b
 
 -- word i + 1 of node v, turned f times
 unfoldable pub turnedCost : Graph → (ℕ → Bool) → (ℕ → ℕ → ℕ) → ℕ → ℕ → ℕ → ℕ

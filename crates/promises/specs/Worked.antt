@@ -1,4 +1,4 @@
--- Document 01's worked graphs P1 to P10, as rows: a graph, a call on it, the nodes concerned and the moves that are best there,
+-- Document 01's worked graphs P1 to P10, with P7 as request M-101 has it and two rows of that request, as rows: a graph, a call on it, the nodes concerned and the moves that are best there,
 -- the answer, the graph afterwards, and C before and after.
 use mathlib.Core.Path.{_≡_}
 use mathlib.Core.List.{List, [], _∷_, map}
@@ -41,10 +41,12 @@ worked =
     ∷ row p3 (nodeAt 7) (7 ∷ []) (0 ∷ []) (0 ∷ []) p3 4 4
     ∷ row (graphOf 2 1 1 (3 ∷ 5 ∷ mark ∷ []) (6 ∷ [])) (nodeAt 3) (3 ∷ []) (1 ∷ []) (2 ∷ []) (graphOf 2 1 1 (2 ∷ 4 ∷ mark ∷ []) (6 ∷ [])) 2 0
     ∷ row (graphOf 2 1 1 (3 ∷ 4 ∷ mark ∷ []) (7 ∷ [])) (nodeAt 3) (3 ∷ []) (2 ∷ []) (2 ∷ []) (graphOf 2 1 1 (2 ∷ 4 ∷ mark ∷ []) (6 ∷ [])) 2 0
-    ∷ row (graphOf 2 1 1 (0 ∷ 3 ∷ 5 ∷ []) (6 ∷ [])) (nodeAt 3) (3 ∷ []) (1 ∷ []) (1 ∷ []) (graphOf 2 1 1 (1 ∷ 2 ∷ 4 ∷ []) (7 ∷ [])) 2 1
+    ∷ row (graphOf 2 1 1 (0 ∷ 3 ∷ 5 ∷ []) (6 ∷ [])) (nodeAt 3) (3 ∷ []) (0 ∷ []) (0 ∷ []) (graphOf 2 1 1 (0 ∷ 3 ∷ 5 ∷ []) (6 ∷ [])) 2 2
     ∷ row (graphOf 2 1 1 (2 ∷ 2 ∷ 5 ∷ []) (6 ∷ [])) (treeAt 3 scratch) (3 ∷ []) (0 ∷ []) (0 ∷ []) (graphOf 2 1 1 (2 ∷ 2 ∷ 5 ∷ []) (6 ∷ [])) 1 1
     ∷ row (graphOf 3 1 2 (3 ∷ 5 ∷ 6 ∷ []) (9 ∷ 8 ∷ [])) (nodeAt 4) (4 ∷ []) (1 ∷ []) (1 ∷ []) (graphOf 3 1 2 (2 ∷ 4 ∷ 7 ∷ []) (8 ∷ 9 ∷ [])) 3 2
     ∷ row (graphOf 1 0 1 [] (3 ∷ [])) (settling []) [] [] (1 ∷ 1 ∷ 1 ∷ []) (graphOf 1 0 1 [] (3 ∷ [])) 1 1
+    ∷ row (graphOf 1 1 1 (1 ∷ 2 ∷ mark ∷ []) (4 ∷ [])) (nodeAt 2) (2 ∷ []) (0 ∷ []) (0 ∷ []) (graphOf 1 1 1 (1 ∷ 2 ∷ mark ∷ []) (4 ∷ [])) 1 1
+    ∷ row (graphOf 1 0 1 [] (1 ∷ [])) (settling []) [] [] (1 ∷ 1 ∷ 1 ∷ []) (graphOf 1 0 1 [] (1 ∷ [])) 1 1
     ∷ []
 
 -- what a row says, and what the definitions give

@@ -5,7 +5,7 @@ use Prim.Native.Nat.{ℕ}
 use Rattle.graph.specs.Finite.{tab, sum, count, ifLess, ifEqual, first, firstOf}
 use Rattle.graph.specs.Graph.{turn, isXor, isEdge}
 use Rattle.graph.specs.Turned.{turnedTable, turnedBy}
-use Rattle.graph.specs.Count.{edgeAdds, adds, wordAdds, nodeAdds, outputAdds, C, named, outputNamed, nodeReaders, readers}
+use Rattle.graph.specs.Count.{adds, wordAdds, nodeAdds, outputAdds, C, named, outputNamed, nodeReaders, readers}
 use Rattle.graph.specs.Admission.{roomNumber, tablesNumber, wordNumber, outputNumber, literalNumber, admissionNumber}
 use Rattle.graph.specs.Answer.{guarded}
 use Rattle.graph.specs.Decimal.{decimalIn, decimal}
@@ -51,9 +51,9 @@ abbrev refused6 : List ℕ
 refused6 = 114 ∷ 101 ∷ 102 ∷ 117 ∷ 115 ∷ 101 ∷ 100 ∷ 32 ∷ 54 ∷ 10 ∷ []
 
 pub p1-report : textOf (settledFile p1 (0 ∷ 0 ∷ 0 ∷ []) (0 ∷ []) 8) ≡ text1 ++ (text2 ++ (text3 ++ text4))
-unfolding flatMap tab sum count ifLess ifEqual first firstOf turn isXor isEdge edgeAdds adds wordAdds nodeAdds outputAdds C named outputNamed nodeReaders readers tablesNumber roomNumber wordNumber outputNumber literalNumber admissionNumber guarded decimalIn decimal from choices unlessLess least best rows firstRow arity flag movesAt at put seen own turns outputTurns turnedTable turnedBy apply isRoot last place reader rootIn rootOf members tree moved movedC bestAt rewrite isNode nodeFault wordFault rootFault scratchFault nodeNumber nodeCall namedBy pairNumber pairRewrite pairCall treeNumber treeCall savingOf start after each treeAt nodeAt pairAt pairsAt round settleIn settle settleNumber settleCall be2 be4 payloadOf dueNumber nodeSize third headNumber endNumber fileNumber file.nodeFieldNumber file.outputFieldNumber graphRead loadCall inputsText nodesText outputsText beforeText afterText roundsText nodeText majText xorText spaceText outText refusedText numbered line1 line2 line3 line4 sizesLine countsLine nodeLine outputLine nodeLineAt outputLineAt settledText textOf thenSettle settledFile
+unfolding flatMap tab sum count ifLess ifEqual first firstOf turn isXor isEdge adds wordAdds nodeAdds outputAdds C named outputNamed nodeReaders readers tablesNumber roomNumber wordNumber outputNumber literalNumber admissionNumber guarded decimalIn decimal from choices unlessLess least best rows firstRow arity flag movesAt at put seen own turns outputTurns turnedTable turnedBy apply isRoot last place reader rootIn rootOf members tree moved movedC bestAt rewrite isNode nodeFault wordFault rootFault scratchFault nodeNumber nodeCall namedBy pairNumber pairRewrite pairCall treeNumber treeCall savingOf start after each treeAt nodeAt pairAt pairsAt round settleIn settle settleNumber settleCall be2 be4 payloadOf dueNumber nodeSize third headNumber endNumber fileNumber file.nodeFieldNumber file.outputFieldNumber graphRead loadCall inputsText nodesText outputsText beforeText afterText roundsText nodeText majText xorText spaceText outText refusedText numbered line1 line2 line3 line4 sizesLine countsLine nodeLine outputLine nodeLineAt outputLineAt settledText textOf thenSettle settledFile
 p1-report = refl
 
 pub p1-longer : textOf (settledFile (p1 ++ (0 ∷ [])) (0 ∷ 0 ∷ 0 ∷ []) (0 ∷ []) 8) ≡ refused6
-unfolding flatMap tab sum count ifLess ifEqual first firstOf turn isXor isEdge edgeAdds adds wordAdds nodeAdds outputAdds C named outputNamed nodeReaders readers tablesNumber roomNumber wordNumber outputNumber literalNumber admissionNumber guarded decimalIn decimal from choices unlessLess least best rows firstRow arity flag movesAt at put seen own turns outputTurns turnedTable turnedBy apply isRoot last place reader rootIn rootOf members tree moved movedC bestAt rewrite isNode nodeFault wordFault rootFault scratchFault nodeNumber nodeCall namedBy pairNumber pairRewrite pairCall treeNumber treeCall savingOf start after each treeAt nodeAt pairAt pairsAt round settleIn settle settleNumber settleCall be2 be4 payloadOf dueNumber nodeSize third headNumber endNumber fileNumber file.nodeFieldNumber file.outputFieldNumber graphRead loadCall inputsText nodesText outputsText beforeText afterText roundsText nodeText majText xorText spaceText outText refusedText numbered line1 line2 line3 line4 sizesLine countsLine nodeLine outputLine nodeLineAt outputLineAt settledText textOf thenSettle settledFile
+unfolding flatMap tab sum count ifLess ifEqual first firstOf turn isXor isEdge adds wordAdds nodeAdds outputAdds C named outputNamed nodeReaders readers tablesNumber roomNumber wordNumber outputNumber literalNumber admissionNumber guarded decimalIn decimal from choices unlessLess least best rows firstRow arity flag movesAt at put seen own turns outputTurns turnedTable turnedBy apply isRoot last place reader rootIn rootOf members tree moved movedC bestAt rewrite isNode nodeFault wordFault rootFault scratchFault nodeNumber nodeCall namedBy pairNumber pairRewrite pairCall treeNumber treeCall savingOf start after each treeAt nodeAt pairAt pairsAt round settleIn settle settleNumber settleCall be2 be4 payloadOf dueNumber nodeSize third headNumber endNumber fileNumber file.nodeFieldNumber file.outputFieldNumber graphRead loadCall inputsText nodesText outputsText beforeText afterText roundsText nodeText majText xorText spaceText outText refusedText numbered line1 line2 line3 line4 sizesLine countsLine nodeLine outputLine nodeLineAt outputLineAt settledText textOf thenSettle settledFile
 p1-longer = refl

@@ -7,7 +7,6 @@ use Prim.Native.Nat.{ℕ, _+_, _-_, _*_, _/_, _%_, _≤_, _<_}
 use native.Mathlib.Omega.{arith}
 use borrow.Author.Tests.{eq-eqb, ne-eqb, lt-ltb, le-ltb}
 use lib.Dec.{eqb}
-use Rattle.graph.specs.Count.{edgeAdds}
 use Rattle.graph.specs.Finite.{ifEqual}
 use Rattle.graph.specs.Graph.{Graph, mark, node, word, isEdge, isXor}
 use Rattle.graph.specs.Turned.{turnedBy}
@@ -26,11 +25,11 @@ use Rattle.moves.proofs.NodeCosts.{numbers-low}
 use Rattle.trees.proofs.TreeNumbers.{bits-are}
 
 module _ (i : ℕ) (sc : List ℕ) (u b : ℕ) where
-  pub edge-input : u ≤ i → {r : ℕ} → r ≡ edgeAdds u b → r ≡ edgeCost (innerAt i sc) (costAt i sc) u b
+  pub edge-input : u ≤ i → {r : ℕ} → r ≡ b → r ≡ edgeCost (innerAt i sc) (costAt i sc) u b
   unfolding edgeCost innerAt
   edge-input l s = rw (le-ltb i u l) s
 
-  pub edge-root : (v : ℕ) → i < u → v ≡ u - (i + 1) → field sc v 3 ≡ mark → {r : ℕ} → r ≡ edgeAdds u b → r ≡ edgeCost (innerAt i sc) (costAt i sc) u b
+  pub edge-root : (v : ℕ) → i < u → v ≡ u - (i + 1) → field sc v 3 ≡ mark → {r : ℕ} → r ≡ b → r ≡ edgeCost (innerAt i sc) (costAt i sc) u b
   unfolding edgeCost innerAt
   edge-root v l e m s = rw (lt-ltb i u l, ← e, eq-eqb (field sc v 3) mark m) s
 

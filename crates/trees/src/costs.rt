@@ -13,7 +13,6 @@ ghost use Rattle.state.specs.State.{stands, Ordered};
 ghost use Rattle.trees.specs.Costing.{innerAt, costAt, LeastCost, CostBits, CostedBelow, CostsOnly};
 use crate::fields::read;
 use crate::fields::store;
-use graph::edges::edge_adds;
 use graph::literal;
 use graph::literal::MARK;
 use moves::decide;
@@ -38,11 +37,11 @@ pub fn edge_cost(inputs: u32, nodes: u32, u: u32, b: u32, scratch: &[u32]) -> u3
     ensures { λ r. ⌜ r ≡ edgeCost (innerAt inputs (now (scratch .entry))) (costAt inputs (now (scratch .entry))) u b ⌝ }
 {
     if u <= inputs {
-        return edge_adds(u, b);
+        return b;
     }
     let v = wide(u - (inputs + 1));
     if read(scratch, v, 3) == MARK {
-        return edge_adds(u, b);
+        return b;
     }
     stored_bit(read(scratch, v, 4), b)
 }

@@ -272,7 +272,7 @@ impl Graph {
         Ok(results)
     }
 
-    /// How many edges are complemented. Edges to the constant do not count.
+    /// How many edges are complemented, those from the constant among them.
     pub fn complemented_edges(&self) -> Result<u32, Refusal> {
         lent::complemented_edges(self.size, &self.node_table, &self.output_table)
     }

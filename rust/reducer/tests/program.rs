@@ -93,13 +93,13 @@ fn settling() {
     gives(&run(&["settle", "-"], &p1()), &p1_settled(), FIGURES);
     gives(&run(&["settle", "--to", "tagged"], &p1()), &p1_settled(), FIGURES);
     gives(&run(&["settle", "--to", "aiger"], &p1()), MAJORITY.as_bytes(), FIGURES);
-    // A NOR settles to an OR whose output is complemented: 0 3 5 -> 6 is document 01's P7.
-    let nor = b"aag 3 2 0 1 1\n2\n4\n6\n6 3 5\n";
-    let said = "inputs 2 nodes 1 outputs 1 before 2 after 1 rounds 2\n";
-    let settled = tagged(&[(1, &[2, 1, 1]), (2, &[1, 2, 4]), (4, &[7]), (5, &[])]);
-    gives(&run(&["settle", "--to", "tagged"], nor), &settled, said);
-    let as_text = "aag 6 2 0 1 4\n2\n4\n12\n6 3 5\n8 1 7\n10 2 4\n12 9 11\n";
-    gives(&run(&["settle"], nor), as_text.as_bytes(), said);
+    // An OR, as its ANDs have it, becomes the majority of the constant one and both inputs.
+    let or = b"aag 3 2 0 1 1\n2\n4\n7\n6 3 5\n";
+    let said = "inputs 2 nodes 1 outputs 1 before 3 after 1 rounds 2\n";
+    let settled = tagged(&[(1, &[2, 1, 1]), (2, &[1, 2, 4]), (4, &[6]), (5, &[])]);
+    gives(&run(&["settle", "--to", "tagged"], or), &settled, said);
+    let as_text = "aag 6 2 0 1 4\n2\n4\n13\n6 3 5\n8 1 7\n10 2 4\n12 9 11\n";
+    gives(&run(&["settle"], or), as_text.as_bytes(), said);
 }
 
 #[test]
@@ -123,7 +123,7 @@ fn showing() {
     let due = "format aiger\ninputs 3 nodes 4 outputs 1\nmajorities 4 xors 0\ncomplemented edges 6\ndepth 3\n";
     gives(&run(&["show"], MAJORITY.as_bytes()), due.as_bytes(), "");
     let mixed = tagged(&[(1, &[2, 2, 2]), (3, &[2, 5]), (2, &[1, 6, 4]), (4, &[8]), (4, &[1]), (5, &[])]);
-    let due = "format tagged\ninputs 2 nodes 2 outputs 2\nmajorities 1 xors 1\ncomplemented edges 1\ndepth 2\n";
+    let due = "format tagged\ninputs 2 nodes 2 outputs 2\nmajorities 1 xors 1\ncomplemented edges 3\ndepth 2\n";
     gives(&run(&["show"], &mixed), due.as_bytes(), "");
 }
 

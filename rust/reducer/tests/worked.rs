@@ -26,13 +26,18 @@ fn worked_graphs() {
     worked(p3.clone(), |g| g.node_call(7), p3, (4, 4));
     worked(graph(2, &[3, 5, MARK], &[6]), |g| g.node_call(3), graph(2, &[2, 4, MARK], &[6]), (2, 0));
     worked(graph(2, &[3, 4, MARK], &[7]), |g| g.node_call(3), graph(2, &[2, 4, MARK], &[6]), (2, 0));
-    worked(graph(2, &[0, 3, 5], &[6]), |g| g.node_call(3), graph(2, &[1, 2, 4], &[7]), (2, 1));
+    let p7 = graph(2, &[0, 3, 5], &[6]);
+    worked(p7.clone(), |g| g.node_call(3), p7, (2, 2));
+    let xor_of_one = graph(1, &[1, 2, MARK], &[4]);
+    worked(xor_of_one.clone(), |g| g.node_call(2), xor_of_one, (1, 1));
     let p8 = graph(2, &[2, 2, 5], &[6]);
     worked(p8.clone(), |g| g.tree_call(3), p8, (1, 1));
     worked(graph(3, &[3, 5, 6], &[9, 8]), |g| g.node_call(4), graph(3, &[2, 4, 7], &[8, 9]), (3, 2));
-    let mut p10 = graph(1, &[], &[3]);
-    assert_eq!(p10.settle(), Ok(Settled { rounds: 1, before: 1, after: 1 }));
-    assert_eq!(p10, graph(1, &[], &[3]));
+    for output in [3, 1] {
+        let mut no_nodes = graph(1, &[], &[output]);
+        assert_eq!(no_nodes.settle(), Ok(Settled { rounds: 1, before: 1, after: 1 }));
+        assert_eq!(no_nodes, graph(1, &[], &[output]));
+    }
 }
 
 #[test]

@@ -131,6 +131,7 @@ pub fn graph(random: &mut Random, shape: Shape, inputs: u32, nodes: u32, outputs
             Shape::Tree | Shape::Chain if output == 0 => inputs + nodes,
             Shape::OutputRoots if nodes > 0 => random.between(inputs + 1, inputs + nodes),
             Shape::Unread => random.below(inputs + 1),
+            Shape::Constants if random.one_in(2) => 0,
             _ => random.below(inputs + nodes + 1),
         };
         output_table.push(2 * index + random.bit());

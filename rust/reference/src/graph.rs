@@ -37,13 +37,9 @@ pub fn turned(literal: u32) -> u32 {
     literal ^ 1
 }
 
-/// A word's part of C.
+/// An edge's part of C, the constant's edges among them.
 pub fn adds(literal: u32) -> u32 {
-    if index_of(literal) != 0 && is_odd(literal) {
-        1
-    } else {
-        0
-    }
+    u32::from(is_odd(literal))
 }
 
 impl Graph {

@@ -72,13 +72,10 @@ fn p1_to_p10() {
         0,
     );
     assert_eq!(best(&of(2, &[[3, 4, MARK]], &[7]), &[3]), [2]);
-    goes(
-        of(2, &[[0, 3, 5]], &[6]),
-        Call::Node(3),
-        of(2, &[[1, 2, 4]], &[7]),
-        2,
-        1,
-    );
+    let p7 = of(2, &[[0, 3, 5]], &[6]);
+    goes(p7.clone(), Call::Node(3), p7, 2, 2);
+    let xor_of_one = of(1, &[[1, 2, MARK]], &[4]);
+    goes(xor_of_one.clone(), Call::Node(2), xor_of_one, 1, 1);
     let p8 = of(2, &[[2, 2, 5]], &[6]);
     goes(p8.clone(), Call::Tree(3), p8, 1, 1);
     goes(
@@ -88,16 +85,12 @@ fn p1_to_p10() {
         3,
         2,
     );
-    let mut p10 = of(1, &[], &[3]);
-    assert_eq!(
-        settle(&mut p10, 0),
-        Ok(Settled {
-            rounds: 1,
-            before: 1,
-            after: 1
-        })
-    );
-    assert_eq!(p10, of(1, &[], &[3]));
+    for output in [3, 1] {
+        let mut no_nodes = of(1, &[], &[output]);
+        let settled = Settled { rounds: 1, before: 1, after: 1 };
+        assert_eq!(settle(&mut no_nodes, 0), Ok(settled));
+        assert_eq!(no_nodes, of(1, &[], &[output]));
+    }
 }
 
 #[test]

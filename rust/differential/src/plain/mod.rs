@@ -34,7 +34,7 @@ impl<'a> View<'a> {
 
 /// What a literal adds to C.
 pub fn adds(literal: u32) -> u32 {
-    (literal > 1) as u32 & literal
+    literal & 1
 }
 
 pub fn check_limits(inputs: u32, nodes: u32, outputs: u32) -> Result<(), Number> {

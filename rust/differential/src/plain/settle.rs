@@ -101,9 +101,9 @@ impl Settling<'_> {
         self.kept.get(self.node_of(word)).map_or(word, |node| word ^ node.pending)
     }
 
-    /// What a word costs as it stands and turned: nothing where it is the mark or names the constant.
+    /// What a word costs as it stands and turned: nothing where it is the mark.
     fn word_costs(&self, word: u32) -> [u32; 2] {
-        let counts = (word > 1 && word != MARK) as u32;
+        let counts = (word != MARK) as u32;
         let bit = self.now(word) & 1;
         [counts & bit, counts & (bit ^ 1)]
     }

@@ -53,7 +53,7 @@ Tells of the graph:
     complemented edges 4
     depth 1
 
-Edges to the constant do not count as complemented. The depth is the most nodes on a way from an output down.
+Complemented edges from the constant count like all others. The depth is the most nodes on a way from an output down.
 ";
 
 const FILES: &str = "
