@@ -1,7 +1,7 @@
 -- What a word adds to C is at most 1, and C at most the number of words; the words of one node. Assumes nothing.
 use mathlib.Core.Path.{_≡_, ap}
 use mathlib.Core.Bool.{_&&_}
-use Prim.Native.Nat.{ℕ, suc, _+_, _*_, _%_, _≤_}
+use Prim.Native.Nat.{ℕ, _+_, _*_, _%_, _≤_}
 use native.Mathlib.Omega.{arith}
 use borrow.Author.Tests.{eq-eqb, ne-eqb}
 use lib.Dec.{eqb}
@@ -9,7 +9,7 @@ use Rattle.graph.specs.Finite.{sum}
 use Rattle.graph.specs.Graph.{Graph, mark, word}
 use Rattle.graph.specs.Count.{C, adds, nodeAdds, outputAdds, wordAdds}
 use Rattle.graph.proofs.Cases.{cond-le}
-use Rattle.graph.proofs.Finite.{sum-le}
+use Rattle.graph.proofs.Finite.{sum-le, sum-three}
 
 pub adds-le : (x : ℕ) → adds x ≤ 1
 unfolding adds
@@ -44,16 +44,8 @@ module _ (g : Graph) (v : ℕ) where
   unfolding nodeAdds wordAdds
   word-third = rw (eq-eqb ((3 * v + 2) % 3) 2 (omega arith))
 
-  three-more : (f : ℕ → ℕ) → sum (3 * (v + 1)) f ≡ sum (3 * v) f + f (3 * v) + f (3 * v + 1) + f (3 * v + 2)
-  unfolding sum
-  three-more f =
-      let e : 3 * (v + 1) ≡ suc (suc (suc (3 * v))) = omega arith in
-      let a : suc (3 * v) ≡ 3 * v + 1 = omega arith in
-      let b : suc (suc (3 * v)) ≡ 3 * v + 2 = omega arith in
-      rw (e, ← a, ← b)
-
   -- the sum over the words passed, with those of one more node
   pub node-next : (c x y z r : ℕ) → c ≡ sum (3 * v) (nodeAdds g) → x ≡ word g (3 * v) → y ≡ word g (3 * v + 1) → z ≡ word g (3 * v + 2)
       → r ≡ adds x + adds y + wordAdds 2 z → c + r ≡ sum (3 * (v + 1)) (nodeAdds g)
   node-next c x y z r e p q s t =
-      rw (three-more (nodeAdds g), word-first, word-second, word-third) (omega (arith, e, t, ap adds p, ap adds q, ap (wordAdds 2) s))
+      rw (sum-three v (nodeAdds g), word-first, word-second, word-third) (omega (arith, e, t, ap adds p, ap adds q, ap (wordAdds 2) s))

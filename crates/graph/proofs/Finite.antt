@@ -1,7 +1,7 @@
 -- Finite sums and tables: lengths, entries, and sums that agree but at one or two places. Assumes nothing.
 use mathlib.Core.Path.{_≡_, refl, sym, ap, _∙_}
 use mathlib.Core.Logic.{⊎-elim}
-use Prim.Native.Nat.{ℕ, zero, suc, _+_, _≤_, _<_}
+use Prim.Native.Nat.{ℕ, zero, suc, _+_, _*_, _≤_, _<_}
 use native.Mathlib.Omega.{arith}
 use native.Mathlib.Nat.{not-suc-le-zero, le-of-suc-le-suc, eq-or-lt-of-le}
 use lib.Dec.{eqb}
@@ -55,3 +55,12 @@ sum-le f h (suc n) = omega (arith, sum-le f h n, h n)
 
 pub tab-same : (n : ℕ) (f g : ℕ → ℕ) → ((i : ℕ) → i < n → f i ≡ g i) → tab n f ≡ tab n g
 tab-same n f g h = ext-getD 0 _ _ (length-tab n f ∙ sym (length-tab n g)) (λ i k. let l : i < n = rw length-tab at k in getD-tab n f i l ∙ h i l ∙ sym (getD-tab n g i l))
+
+-- three terms more
+pub sum-three : (v : ℕ) (f : ℕ → ℕ) → sum (3 * (v + 1)) f ≡ sum (3 * v) f + f (3 * v) + f (3 * v + 1) + f (3 * v + 2)
+unfolding sum
+sum-three v f =
+    let e : 3 * (v + 1) ≡ suc (suc (suc (3 * v))) = omega arith in
+    let a : suc (3 * v) ≡ 3 * v + 1 = omega arith in
+    let b : suc (suc (3 * v)) ≡ 3 * v + 2 = omega arith in
+    rw (e, ← a, ← b)

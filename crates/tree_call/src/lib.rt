@@ -4,7 +4,7 @@ ghost use Rattle.graph.specs.Answer.{outcome, ScratchKept};
 ghost use Rattle.graph.specs.Graph.{graphOf};
 ghost use Rattle.moves.specs.Call.{savingAnswer, treeCall};
 
-mod faults;
+pub mod faults;
 mod rewrite;
 
 use graph::faults::refused_by;

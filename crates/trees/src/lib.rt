@@ -1,6 +1,6 @@
 mod costs;
-mod deciding;
-mod fields;
+pub mod deciding;
+pub mod fields;
 mod fill;
 mod links;
 pub mod making;

@@ -1,0 +1,122 @@
+-- What a word adds once the moves that bytes tell are made, from the words as they stand. From the laws on a word after a choice.
+use mathlib.Core.Path.{_≡_, sym, ap, _∙_}
+use mathlib.Core.Bool.{Bool, true, false, and-false}
+use mathlib.Core.List.{List}
+use Prim.Native.Nat.{ℕ, _+_, _-_, _*_, _/_, _%_, _≤_, _<_}
+use native.Mathlib.Numerals.{add-one}
+use native.Mathlib.Omega.{arith}
+use borrow.Author.Tests.{eq-eqb, ne-eqb, lt-ltb, le-ltb}
+use lib.ListN.{length, getD}
+use Rattle.graph.specs.Count.{nodeAdds, outputAdds, C}
+use Rattle.graph.specs.Turned.{turnedBy}
+use Rattle.graph.proofs.Finite.{sum-three}
+use Rattle.graph.specs.Finite.{sum}
+use Rattle.graph.specs.Graph.{Graph, node, word, output, isXor, isEdge}
+use Rattle.moves.specs.Apply.{Choice, seen, own, apply}
+use Rattle.moves.specs.Call.{isNode}
+use Rattle.moves.specs.Rows.{arity, flag}
+use Rattle.moves.proofs.Changed.{seen-none, own-at, node-adds, out-adds}
+use Rattle.moves.proofs.Compose.{seen-node}
+use Rattle.moves.proofs.Moves.{node-row}
+use Rattle.preview.specs.Preview.{choiceIn}
+use Rattle.preview.specs.Telling.{Says, threeAfter}
+
+-- which words of a node are edges
+module _ (g : Graph) (v : ℕ) where
+  pub edge-two : (i : ℕ) → i < 2 → isEdge g (3 * v + i) ≡ true
+  unfolding isEdge
+  edge-two i l = rw (ne-eqb ((3 * v + i) % 3) 2 (λ e. omega arith))
+
+  pub edge-third : (x : Bool) → x ≡ isXor g v → x ≡ false → isEdge g (3 * v + 2) ≡ true
+  unfolding isEdge isXor
+  edge-third x e f = rw (← e, f, and-false)
+
+  pub edge-none : (x : Bool) → x ≡ isXor g v → x ≡ true → isEdge g (3 * v + 2) ≡ false
+  unfolding isEdge isXor
+  edge-none x e f = rw (← e, f, eq-eqb ((3 * v + 2) % 3) 2 (omega arith))
+
+module _ (g : Graph) (bs : List ℕ) where
+  abbrev pub d : Choice
+  d = choiceIn g bs
+
+  pub choice-at : (v : ℕ) → v < g .N → choiceIn g bs (node g v) ≡ getD bs v 0
+  unfolding choiceIn isNode
+  choice-at v l =
+      let e : node g v - (g .I + 1) ≡ v = omega arith in
+      rw (lt-ltb (g .I) (node g v) (omega arith), lt-ltb (node g v) (node g (g .N)) (omega arith), e)
+
+  pub choice-none : (u : ℕ) → isNode g u ≡ false → choiceIn g bs u ≡ 0
+  unfolding choiceIn
+  choice-none u e = rw e
+
+  -- the readers of an input, and of a node
+  pub seen-low : (u : ℕ) → u ≤ g .I → 0 ≡ seen g d u
+  unfolding seen
+  seen-low u l = rw (le-ltb (g .I) u l)
+
+  pub seen-still : (u v m : ℕ) → g .I < u → u < g .I + 1 + g .N → v ≡ u - (g .I + 1) → m ≡ getD bs v 0 → m ≡ 0 → 0 ≡ seen g d u
+  seen-still u v m a b e q z =
+      let n : node g v ≡ u = omega (arith, e) in
+      sym (seen-none g d u (ap (choiceIn g bs) (sym n) ∙ choice-at v (omega (arith, e)) ∙ sym q ∙ z))
+
+  pub seen-turned : (u v m r : ℕ) (x : Bool) → g .I < u → u < g .I + 1 + g .N → v ≡ u - (g .I + 1) → m ≡ getD bs v 0 → x ≡ isXor g v → r ≡ flag x m 3 → r ≡ seen g d u
+  seen-turned u v m r x a b e q k s =
+      let n : g .I + 1 + v ≡ u = omega (arith, e) in
+      s ∙ rw (k, q, ← choice-at v (omega (arith, e))) (sym (seen-node g d v (omega (arith, e)))) ∙ ap (seen g d) n
+
+  module _ (sa : Says g bs) where
+    -- the move of a node has a row of its kind
+    pub move-row : (v m : ℕ) (x : Bool) → v < g .N → m ≡ getD bs v 0 → x ≡ isXor g v → m < arity x
+    move-row v m x l q k = rw (k, q, ← choice-at v l) (node-row g v (choiceIn g bs (node g v)) (sa .permitted v l))
+
+    pub node-in : (u v : ℕ) → g .I < u → u < g .I + 1 + g .N → v ≡ u - (g .I + 1) → v < length bs
+    node-in u v a b e = omega (arith, sa .enough)
+
+    -- word i + 1 of node v that is an edge, and one that is none
+    pub word-after : (v i x f m r : ℕ) (k : Bool) → v < g .N → i < 3 → isEdge g (3 * v + i) ≡ true → x ≡ word g (3 * v + i) → m ≡ getD bs v 0 → k ≡ isXor g v → f ≡ flag k m i
+        → r ≡ (x + f + seen g d (x / 2)) % 2 → r ≡ nodeAdds (apply g d) (3 * v + i)
+    word-after v i x f m r k l h e q p n s t =
+        let o : own g d (3 * v + i) ≡ f = own-at g d v i h ∙ rw (choice-at v l, ← p, ← n) (sym s) in
+        t ∙ rw (node-adds g d (sa .admitted) (3 * v + i) (omega arith), e, o, ← q)
+
+    pub no-word : (v : ℕ) → v < g .N → isEdge g (3 * v + 2) ≡ false → 0 ≡ nodeAdds (apply g d) (3 * v + 2)
+    no-word v l e = rw (node-adds g d (sa .admitted) (3 * v + 2) (omega arith), e)
+
+    pub out-after : (j x r : ℕ) → j < g .O → x ≡ output g j → r ≡ (x + 0 + seen g d (x / 2)) % 2 → r ≡ outputAdds (apply g d) j
+    out-after j x r l q t =
+        let z : (x + 0 + seen g d (x / 2)) % 2 ≡ (x + seen g d (x / 2)) % 2 = omega arith in
+        t ∙ z ∙ rw (out-adds g d (sa .admitted) j l, ← q)
+
+    -- an edge of the graph names an index of it
+    pub word-names : (v i x : ℕ) → v < g .N → i < 3 → isEdge g (3 * v + i) ≡ true → x ≡ word g (3 * v + i) → x / 2 < g .I + 1 + g .N
+    word-names v i x l h e q =
+        let b = sa .admitted .below (3 * v + i) (omega arith) e in
+        omega (arith, b, ap (λ y. y / 2) q)
+
+    pub out-names : (j x : ℕ) → j < g .O → x ≡ output g j → x / 2 < g .I + 1 + g .N
+    out-names j x l q = omega (arith, sa .admitted .output-below j l, ap (λ y. y / 2) q)
+
+  pub two-after : (v a b : ℕ) → 0 ≡ nodeAdds (apply g d) (3 * v + 2) → a ≡ nodeAdds (apply g d) (3 * v + 0) → b ≡ nodeAdds (apply g d) (3 * v + 1) → a + b ≡ threeAfter g bs v
+  unfolding threeAfter
+  two-after v a b z p q =
+      let e : 3 * v + 0 ≡ 3 * v = omega arith in
+      omega (arith, z, p ∙ ap (nodeAdds (apply g d)) e, q)
+
+  pub three-after : (v a b c : ℕ) → a ≡ nodeAdds (apply g d) (3 * v + 0) → b ≡ nodeAdds (apply g d) (3 * v + 1) → c ≡ nodeAdds (apply g d) (3 * v + 2) → a + b + c ≡ threeAfter g bs v
+  unfolding threeAfter
+  three-after v a b c p q s =
+      let e : 3 * v + 0 ≡ 3 * v = omega arith in
+      omega (arith, p ∙ ap (nodeAdds (apply g d)) e, q, s)
+
+  -- the sum over the nodes passed, with one node more
+  pub node-more : (v c r : ℕ) → c ≡ sum (3 * v) (nodeAdds (apply g d)) → r ≡ threeAfter g bs v → c + r ≡ sum (3 * (v + 1)) (nodeAdds (apply g d))
+  unfolding threeAfter
+  node-more v c r e t = rw (sum-three v (nodeAdds (apply g d))) (omega (arith, e, t))
+
+  pub out-more : (j c r : ℕ) → c ≡ sum j (outputAdds (apply g d)) → r ≡ outputAdds (apply g d) j → c + r ≡ sum (j + 1) (outputAdds (apply g d))
+  unfolding sum
+  out-more j c r e t = rw add-one (omega (arith, e, t))
+
+  pub count-is : (a b : ℕ) → a ≡ sum (3 * g .N) (nodeAdds (apply g d)) → b ≡ sum (g .O) (outputAdds (apply g d)) → a + b ≡ C (apply g d)
+  unfolding C apply turnedBy
+  count-is a b p q = omega (arith, p, q)

@@ -1,0 +1,4 @@
+pub mod AfterMoves
+pub mod ToldMoves
+pub mod Refusing
+pub mod SameCall

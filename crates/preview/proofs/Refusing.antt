@@ -1,0 +1,64 @@
+-- Which number refuses a preview, what is known where none does, and what it then answers. From the laws on tests and on the tree
+-- call's numbers.
+use mathlib.Core.Path.{_≡_, refl, ap, _∙_}
+use mathlib.Core.List.{List, [], _∷_}
+use mathlib.Core.Logic.{⊎-elim, _≢_}
+use Prim.Native.Nat.{ℕ, _-_, _*_, _≤_, _<_}
+use native.Mathlib.Omega.{arith}
+use lib.ListN.{length}
+use Rattle.graph.specs.Finite.{ifLess}
+use Rattle.graph.specs.Graph.{Graph}
+use Rattle.graph.specs.Count.{C}
+use Rattle.graph.specs.Admission.{tablesNumber, Admitted}
+use Rattle.graph.specs.Answer.{IsRefusal, accepted, refused}
+use Rattle.graph.proofs.Answers.{room-le, first-le, ifLess-le, refused-is, accepted-is}
+use Rattle.graph.proofs.Cases.{eq-or-ne}
+use Rattle.graph.proofs.Tests.{less, no-less, equal, unequal, off, both}
+use Rattle.moves.specs.Tree.{IsRoot, tree}
+use Rattle.moves.specs.Call.{rewrite, treeNumber}
+use Rattle.trees.specs.Stepping.{treeMoved}
+use Rattle.tree_call.proofs.Refused.{tree-range, accepted-by}
+use Rattle.preview.specs.Preview.{movesTold, previewNumber, previewAnswer, previewBytes}
+
+pub short-bytes : (b n : ℕ) → b < n → _≡_ {A = ℕ} 4 (ifLess b n 4 0)
+short-bytes b n h = less b n 4 0 h refl
+
+pub long-bytes : (b n : ℕ) → n ≤ b → _≡_ {A = ℕ} 0 (ifLess b n 4 0)
+long-bytes b n h = no-less b n 4 0 h refl
+
+module _ (g : Graph) (b s r : ℕ) where
+  tables-le : tablesNumber g ≤ 9
+  unfolding tablesNumber
+  tables-le = omega (arith, room-le (g .I) (g .N) (g .O) (length (g .nodes)) (length (g .outputs)))
+
+  tree-le : treeNumber g s r ≤ 12
+  tree-le =
+      ⊎-elim (λ (e : treeNumber g s r ≡ 0). omega (arith, e)) (λ (e : treeNumber g s r ≢ 0). tree-range g s r (treeNumber g s r) refl e .1) (eq-or-ne (treeNumber g s r) 0)
+
+  preview-le : previewNumber g b s r ≤ 12
+  unfolding previewNumber
+  preview-le = first-le _ _ 12 (omega (arith, tables-le)) (first-le _ _ 12 (ifLess-le b (g .N) 4 0 12 (omega arith) (omega arith)) tree-le)
+
+  -- what `refused_by` asks of the number
+  pub preview-range : (k : ℕ) → k ≡ previewNumber g b s r → k ≢ 0 → IsRefusal k
+  preview-range k e d = (omega (arith, d), omega (arith, e, preview-le))
+
+  -- what an accepted preview may rest on
+  pub accepted-preview : previewNumber g b s r ≡ 0 → (Admitted g) × (IsRoot g r) × (8 * g .N ≤ s) × (g .N ≤ b)
+  unfolding previewNumber
+  accepted-preview e =
+      let t = both _ _ (both _ _ e .1) in
+      let a = accepted-by g s r (t .1) in
+      (a .0, a .1, a .2, off b (g .N) 3 0 (t .0) .0)
+
+-- the preview, refused and not
+pub refused-preview : (g : Graph) (bs : List ℕ) (s r k : ℕ) → k ≡ previewNumber g (length bs) s r → k ≢ 0 → (refused k ≡ previewAnswer g (length bs) s r) × (bs ≡ previewBytes g bs s r)
+unfolding previewAnswer previewBytes
+refused-preview g bs s r k e d =
+    (refused-is k (previewNumber g (length bs) s r) (rewrite g (tree g r) .answer) e (λ z. d (e ∙ z)), unequal (previewNumber g (length bs) s r) 0 (movesTold g r bs) bs (λ z. d (e ∙ z)) refl)
+
+pub told-preview : (g : Graph) (bs bs′ : List ℕ) (s r x : ℕ) → previewNumber g (length bs) s r ≡ 0 → x ≡ C g - C (treeMoved g r) → bs′ ≡ movesTold g r bs
+    → (accepted (x ∷ []) ≡ previewAnswer g (length bs) s r) × (bs′ ≡ previewBytes g bs s r)
+unfolding previewAnswer previewBytes rewrite
+told-preview g bs bs′ s r x e p q =
+    (ap (λ y. accepted (y ∷ [])) p ∙ accepted-is (previewNumber g (length bs) s r) _ e, equal (previewNumber g (length bs) s r) 0 (movesTold g r bs) bs e q)

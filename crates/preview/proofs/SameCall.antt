@@ -1,0 +1,146 @@
+-- The bytes of a preview tell the tree call's choice: made, its moves give the tree call's graph. A preview with bytes enough is refused
+-- as the tree call is. From the laws on lists of moves.
+use mathlib.Core.Path.{_≡_, refl, sym, ap, _∙_, fun-ext}
+use mathlib.Core.Bool.{true, false}
+use mathlib.Core.List.{List, [], _∷_}
+use mathlib.Core.Logic.{⊎-elim, _⊎_, inl, inr, _≢_}
+use Prim.Native.Nat.{ℕ, zero, suc, _+_, _-_, _≤_, _<_}
+use native.Mathlib.Omega.{arith}
+use borrow.Author.Tests.{lt-ltb, ltb-true}
+use lib.Dec.{ltb}
+use lib.ListN.{length, getD}
+use Rattle.graph.specs.Finite.{ifLess, first}
+use Rattle.graph.specs.Graph.{Graph, node}
+use Rattle.graph.specs.Admission.{tablesNumber, literalNumber, admissionNumber}
+use Rattle.graph.proofs.Cases.{eq-or-ne, true-or-false}
+use Rattle.graph.proofs.Finite.{getD-tab}
+use Rattle.graph.proofs.Tests.{less, equal}
+use Rattle.moves.specs.Apply.{Choice, none, at, put, apply}
+use Rattle.graph.specs.Count.{C}
+use Rattle.moves.specs.Tree.{rootOf, members, tree, IsRoot}
+use Rattle.moves.specs.Call.{moved, bestAt, rewrite, isNode, treeNumber, treeCall}
+use Rattle.moves.proofs.Changed.{at-other}
+use Rattle.moves.proofs.Count.{clash}
+use Rattle.moves.proofs.Readers.{both-true}
+use Rattle.moves.proofs.Programme.{members-zero, members-in, members-out}
+use Rattle.trees.specs.Stepping.{treeMoved}
+use Rattle.preview.specs.Preview.{treeMoves, movesTold, choiceIn, previewNumber, previewAnswer, previewBytes, AsTreeCall}
+use Rattle.graph.proofs.Answers.{accepted-is, accepted-outcome}
+use Rattle.preview.proofs.Refusing.{long-bytes, accepted-preview}
+use Rattle.preview.proofs.AfterMoves.{choice-at, choice-none}
+
+-- moves at nodes leave every other index alone
+put-nil : (d : Choice) (ms : List ℕ) → put d [] ms ≡ d
+unfolding put
+put-nil d ms = refl
+
+put-short : (d : Choice) (u : ℕ) (us : List ℕ) → put d (u ∷ us) [] ≡ d
+unfolding put
+put-short d u us = refl
+
+put-one : (d : Choice) (u k : ℕ) (us ms : List ℕ) → put d (u ∷ us) (k ∷ ms) ≡ put (at d u k) us ms
+unfolding put
+put-one d u k us ms = refl
+
+module _ (g : Graph) (r u : ℕ) where
+  put-past : (n : ℕ) (ms : List ℕ) (d : Choice) → ((v : ℕ) → v < n → u ≢ node g v) → put d (members g r n) ms u ≡ d u
+  put-past zero ms d h = rw (members-zero g r, put-nil d ms)
+  put-past (suc n) ms d h = go (eq-or-ne (rootOf g (node g n)) r) ms (λ ms d. put-past n ms d (λ v l. h v (omega arith)))
+    where
+      go : (rootOf g (node g n) ≡ r) ⊎ (rootOf g (node g n) ≢ r) → (ms : List ℕ) → ((ms : List ℕ) (d : Choice) → put d (members g r n) ms u ≡ d u)
+          → put d (members g r (suc n)) ms u ≡ d u
+      go (inr e) ms ih = rw (members-out g r n e) (ih ms d)
+      go (inl e) [] ih = rw (members-in g r n e, put-short d (node g n) (members g r n))
+      go (inl e) (k ∷ ms) ih =
+          rw (members-in g r n e, put-one d (node g n) k (members g r n) ms) (ih ms (at d (node g n) k) ∙ at-other d (node g n) k u (h n (omega arith)))
+
+node-is : (g : Graph) (v : ℕ) → v < g .N → isNode g (node g v) ≡ true
+unfolding isNode
+node-is g v l = rw (lt-ltb (g .I) (node g v) (omega arith), lt-ltb (node g v) (node g (g .N)) (omega arith))
+
+node-of : (g : Graph) (u : ℕ) → isNode g u ≡ true → (u - (g .I + 1) < g .N) × (node g (u - (g .I + 1)) ≡ u)
+unfolding isNode
+node-of g u e =
+    let t = both-true (ltb (g .I) u) (ltb u (node g (g .N))) e in
+    let a = ltb-true (g .I) u (t .0) in
+    let b = ltb-true u (node g (g .N)) (t .1) in
+    (omega (arith, a, b), omega (arith, a, b))
+
+module _ (g : Graph) (r : ℕ) where
+  moves-past : (u : ℕ) → isNode g u ≡ false → treeMoves g r u ≡ 0
+  unfolding treeMoves tree
+  moves-past u e = put-past g r u (g .N) (bestAt g (members g r (g .N))) none (λ v l z. clash (node-is g v l) (rw (← z) e))
+
+  module _ (bs : List ℕ) (enough : g .N ≤ length bs) where
+    told-at : (v : ℕ) → v < g .N → getD (movesTold g r bs) v 0 ≡ treeMoves g r (node g v)
+    unfolding movesTold
+    told-at v l =
+        getD-tab (length bs) (λ j. ifLess j (g .N) (treeMoves g r (node g j)) (getD bs j 0)) v (omega arith)
+        ∙ sym (less v (g .N) (treeMoves g r (node g v)) (getD bs v 0) l refl)
+
+    -- what the bytes tell, index by index
+    choice-told : (u : ℕ) → choiceIn g (movesTold g r bs) u ≡ treeMoves g r u
+    choice-told u =
+        ⊎-elim
+        (λ (e : isNode g u ≡ true).
+        let n = node-of g u e in
+        rw (← n .1) (choice-at g (movesTold g r bs) (u - (g .I + 1)) (n .0) ∙ told-at (u - (g .I + 1)) (n .0)))
+        (λ (e : isNode g u ≡ false). choice-past e ∙ sym (moves-past u e))
+        (true-or-false (isNode g u))
+      where
+        choice-past : isNode g u ≡ false → choiceIn g (movesTold g r bs) u ≡ 0
+        choice-past e = choice-none g (movesTold g r bs) u e
+
+    pub choice-is : choiceIn g (movesTold g r bs) ≡ treeMoves g r
+    choice-is = fun-ext choice-told
+
+    -- the moves in the bytes, made, give the tree call's graph
+    pub graph-told : apply g (choiceIn g (movesTold g r bs)) ≡ moved g (tree g r) (bestAt g (tree g r))
+    unfolding moved treeMoves
+    graph-told = ap (apply g) choice-is
+
+-- the moves of the root's tree told, and C after them
+pub preview-is : (g : Graph) (bs bs′ : List ℕ) (r v b a x : ℕ) → IsRoot g r → v ≡ r - (g .I + 1) → g .N ≤ length bs → bs′ ≡ movesTold g (node g v) bs → b ≡ C g
+    → a ≡ C (apply g (choiceIn g bs′)) → x ≡ b - a → (x ≡ C g - C (treeMoved g r)) × (bs′ ≡ movesTold g r bs)
+preview-is g bs bs′ r v b a x i e l t p q k =
+    let n : node g v ≡ r = omega (arith, e, i .after-inputs) in
+    let m : bs′ ≡ movesTold g r bs = t ∙ ap (λ u. movesTold g u bs) n in
+    let c : a ≡ C (treeMoved g r) = q ∙ ap (λ y. C (apply g (choiceIn g y))) m ∙ ap C (graph-told g r bs l) in
+    (rw (k, p, c), m)
+
+-- a fault that two numbers begin with is told once
+first-again : (t l x : ℕ) → first t (first (first t l) x) ≡ first (first t l) x
+unfolding first
+first-again zero l x = refl
+first-again (suc t) l x = refl
+
+first-none : (x : ℕ) → first 0 x ≡ x
+unfolding first
+first-none x = refl
+
+module _ (g : Graph) (bs : List ℕ) (s r : ℕ) where
+  number-alike : g .N ≤ length bs → previewNumber g (length bs) s r ≡ treeNumber g s r
+  unfolding previewNumber treeNumber admissionNumber
+  number-alike l = rw (← long-bytes (length bs) (g .N) l, first-none _) (first-again (tablesNumber g) (literalNumber g) _)
+
+  tree-accepted : previewNumber g (length bs) s r ≡ 0 → (treeNumber g s r ≡ 0) × (g .N ≤ length bs)
+  tree-accepted e = let l = accepted-preview g (length bs) s r e .3 in (sym (number-alike l) ∙ e, l)
+
+  call-is : treeNumber g s r ≡ 0 → treeCall g s r ≡ rewrite g (tree g r)
+  unfolding treeCall
+  call-is e = sym (accepted-outcome (treeNumber g s r) g (rewrite g (tree g r)) e)
+
+  answered : previewNumber g (length bs) s r ≡ 0 → previewAnswer g (length bs) s r ≡ treeCall g s r .answer
+  unfolding previewAnswer
+  answered e =
+      sym (accepted-is (previewNumber g (length bs) s r) (rewrite g (tree g r) .answer) e) ∙ ap (λ o. o .answer) (sym (call-is (tree-accepted e .0)))
+
+  left : previewNumber g (length bs) s r ≡ 0 → apply g (choiceIn g (previewBytes g bs s r)) ≡ treeCall g s r .graph
+  unfolding previewBytes rewrite
+  left e =
+      let t = tree-accepted e in
+      let b : movesTold g r bs ≡ previewBytes g bs s r = equal (previewNumber g (length bs) s r) 0 (movesTold g r bs) bs e refl in
+      ap (λ x. apply g (choiceIn g x)) (sym b) ∙ graph-told g r bs (t .1) ∙ ap (λ o. o .graph) (sym (call-is (t .0)))
+
+  pub as-tree-call : AsTreeCall g bs s r
+  as-tree-call = record { refused-alike = number-alike; same-answer = answered; same-graph = left }

@@ -1,0 +1,86 @@
+// A tree decided in the state, nothing made, and its moves told.
+ghost use mathlib.Core.Path.{_≡_};
+ghost use mathlib.Core.Bool.{true};
+ghost use Prim.Native.Nat.{_+_, _-_, _*_, _≤_, _<_};
+ghost use lib.ListN.{length};
+ghost use Rattle.graph.specs.Admission.{Admitted};
+ghost use Rattle.graph.specs.Count.{C};
+ghost use Rattle.graph.specs.Graph.{graphOf};
+ghost use Rattle.moves.specs.Tree.{isRoot, IsRoot};
+ghost use Rattle.trees.specs.Stepping.{treeMoved};
+ghost use Rattle.preview.specs.Preview.{movesTold};
+ghost use Rattle.preview.specs.Telling.{Says};
+use crate::after;
+use crate::telling;
+use graph::edges::complemented;
+use moves::words::over;
+use moves::words::wide;
+use trees::deciding::decide_tree;
+use trees::start::fill_scratch;
+
+// The moves of the tree call at node `root`, in the bytes.
+pub fn tell_tree(
+    inputs: u32,
+    nodes: u32,
+    outputs: u32,
+    node_table: &[u32],
+    output_table: &[u32],
+    root: usize,
+    bytes: &mut [u8],
+    scratch: &mut [u32],
+)
+    requires { ⌜ Admitted (graphOf inputs nodes outputs (now «node_table») (now «output_table»)) × (root < nodes) × (isRoot (graphOf inputs nodes outputs (now «node_table») (now «output_table»)) (inputs + 1 + root) ≡ true) × (8 * nodes ≤ length (now scratch)) × (nodes ≤ length (now bytes)) ⌝ }
+    ensures { λ _. ⌜ (now (bytes .exit) ≡ movesTold (graphOf inputs nodes outputs (now («node_table» .entry)) (now («output_table» .entry))) (inputs + 1 + root) (now (bytes .entry))) × Says (graphOf inputs nodes outputs (now («node_table» .entry)) (now («output_table» .entry))) (now (bytes .exit)) ⌝ }
+{
+    fill_scratch(inputs, nodes, outputs, node_table, output_table, scratch);
+    decide_tree(
+        inputs,
+        nodes,
+        outputs,
+        node_table,
+        output_table,
+        root,
+        scratch,
+    );
+    telling::clear(nodes, bytes);
+    telling::tell(
+        inputs,
+        nodes,
+        outputs,
+        node_table,
+        output_table,
+        root,
+        bytes,
+        scratch,
+    );
+}
+
+// What the tree call would save; its moves stand in the bytes.
+pub fn preview_tree(
+    inputs: u32,
+    nodes: u32,
+    outputs: u32,
+    node_table: &[u32],
+    output_table: &[u32],
+    root: u32,
+    bytes: &mut [u8],
+    scratch: &mut [u32],
+) -> u32
+    requires { ⌜ Admitted (graphOf inputs nodes outputs (now «node_table») (now «output_table»)) × IsRoot (graphOf inputs nodes outputs (now «node_table») (now «output_table»)) root × (8 * nodes ≤ length (now scratch)) × (nodes ≤ length (now bytes)) ⌝ }
+    ensures { λ r. ⌜ (r ≡ C (graphOf inputs nodes outputs (now («node_table» .entry)) (now («output_table» .entry))) - C (treeMoved (graphOf inputs nodes outputs (now («node_table» .entry)) (now («output_table» .entry))) root)) × (now (bytes .exit) ≡ movesTold (graphOf inputs nodes outputs (now («node_table» .entry)) (now («output_table» .entry))) root (now (bytes .entry))) ⌝ }
+{
+    let v = wide(root - (inputs + 1));
+    tell_tree(
+        inputs,
+        nodes,
+        outputs,
+        node_table,
+        output_table,
+        v,
+        bytes,
+        scratch,
+    );
+    let before = complemented(inputs, nodes, outputs, node_table, output_table);
+    let after = after::count_after(inputs, nodes, outputs, node_table, output_table, bytes);
+    over(before, after)
+}

@@ -1,0 +1,54 @@
+ghost use mathlib.Core.Path.{_≡_};
+ghost use lib.ListN.{length};
+ghost use Rattle.graph.specs.Answer.{ScratchKept};
+ghost use Rattle.graph.specs.Graph.{graphOf};
+ghost use Rattle.moves.specs.Call.{savingAnswer};
+ghost use Rattle.preview.specs.Preview.{previewAnswer, previewBytes};
+
+mod after;
+mod deciding;
+mod faults;
+mod telling;
+
+use graph::faults::refused_by;
+use moves::Saving;
+
+// The tree call seen first: its saving, and each node's move in its byte. The tables are only read.
+pub fn preview(
+    inputs: u32,
+    nodes: u32,
+    outputs: u32,
+    node_table: &[u32],
+    output_table: &[u32],
+    root: u32,
+    bytes: &mut [u8],
+    scratch: &mut [u32],
+) -> Saving
+    ensures answer { λ r. ⌜ savingAnswer r ≡ previewAnswer (graphOf inputs nodes outputs (now («node_table» .entry)) (now («output_table» .entry))) (length (now (bytes .entry))) (length (now (scratch .entry))) root ⌝ }
+    ensures bytes { λ r. ⌜ now (bytes .exit) ≡ previewBytes (graphOf inputs nodes outputs (now («node_table» .entry)) (now («output_table» .entry))) (now (bytes .entry)) (length (now (scratch .entry))) root ⌝ }
+    ensures scratch { λ r. ⌜ ScratchKept (savingAnswer r) (now (scratch .entry)) (now (scratch .exit)) ⌝ }
+{
+    let number = faults::preview_number(
+        inputs,
+        nodes,
+        outputs,
+        node_table,
+        output_table,
+        root,
+        bytes.len(),
+        scratch.len(),
+    );
+    if number != 0 {
+        return Saving::Refused(refused_by(number));
+    }
+    Saving::Saved(deciding::preview_tree(
+        inputs,
+        nodes,
+        outputs,
+        node_table,
+        output_table,
+        root,
+        bytes,
+        scratch,
+    ))
+}
