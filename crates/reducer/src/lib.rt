@@ -13,6 +13,7 @@ ghost use Rattle.aiger.specs.Import.{importCall};
 ghost use Rattle.aiger.specs.Export.{exportCall};
 ghost use Rattle.evaluation.specs.Evaluation.{evaluateNumber, resultsAfter};
 ghost use Rattle.moves.specs.Call.{nodeCall, pairCall, treeCall};
+ghost use Rattle.preview.specs.Preview.{previewAnswer, previewBytes};
 ghost use Rattle.rounds.specs.Settle.{settleCall};
 ghost use Rattle.answers.specs.Told.{told, toldOne};
 ghost use Rattle.replay.specs.Replay.{decode, replayCall, answersAfter, DemandMet};
@@ -227,6 +228,38 @@ pub extern "C" fn reducer_tree(
         node_table,
         output_table,
         root,
+        scratch,
+    );
+    *saving = answers::told::saving_told(answer, *saving);
+    answers::told::saving_number(answer)
+}
+
+// What the tree call would save, and its moves a byte a node; the tables are only read.
+#[no_mangle]
+pub extern "C" fn reducer_preview(
+    inputs: u32,
+    nodes: u32,
+    outputs: u32,
+    node_table: &[u32],
+    output_table: &[u32],
+    root: u32,
+    moves: &mut [u8],
+    scratch: &mut [u32],
+    saving: &mut u32,
+) -> u32
+    ensures answer { λ r. ⌜ r ≡ previewAnswer (graphOf inputs nodes outputs (now («node_table» .entry)) (now («output_table» .entry))) (length (now (moves .entry))) (length (now (scratch .entry))) root .number ⌝ }
+    ensures moves { λ r. ⌜ now (moves .exit) ≡ previewBytes (graphOf inputs nodes outputs (now («node_table» .entry)) (now («output_table» .entry))) (now (moves .entry)) (length (now (scratch .entry))) root ⌝ }
+    ensures told { λ r. ⌜ now (saving .exit) ≡ toldOne (previewAnswer (graphOf inputs nodes outputs (now («node_table» .entry)) (now («output_table» .entry))) (length (now (moves .entry))) (length (now (scratch .entry))) root) (now (saving .entry)) ⌝ }
+    ensures scratch { λ r. ⌜ ScratchKept (previewAnswer (graphOf inputs nodes outputs (now («node_table» .entry)) (now («output_table» .entry))) (length (now (moves .entry))) (length (now (scratch .entry))) root) (now (scratch .entry)) (now (scratch .exit)) ⌝ }
+{
+    let answer = preview::preview(
+        inputs,
+        nodes,
+        outputs,
+        node_table,
+        output_table,
+        root,
+        moves,
         scratch,
     );
     *saving = answers::told::saving_told(answer, *saving);
