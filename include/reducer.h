@@ -3,8 +3,8 @@
  *
  * Link the static library that `rt staticlib reducer` writes, target/staticlib/libreducer.a. It needs no other library,
  * keeps no state, allocates nothing and may be called from several threads on tables of their own. Proved, for all bytes, words
- * and numbers, is what is said here of answers: the number returned, and what then stands in the tables, results, buffer and
- * answers, at the last pointer and, after a refusal, in scratch. The rest of this page is not part of the proof.
+ * and numbers, is what is said here of answers: the number returned, and what then stands in the tables, results, moves, buffer
+ * and answers, at the last pointer and, after a refusal, in scratch. The rest of this page is not part of the proof.
  *
  * The graph
  *
@@ -18,10 +18,10 @@
  * What a call answers
  *
  *   Every function returns 0 or the number of a refusal, below. What it answers beside that goes through its last pointer.
- *   A refused call has changed nothing: tables, scratch, results, buffer, answers and that last number or array are as they
- *   were. The first fault is returned, in the order of the numbers 3, 4, 5, 7, 8, 9; loading meets its file from front to back,
- *   importing its text line by line, each line being tested for 10, 11, 12, 3, 4, 5 in that order, and a replay its calls and
- *   answers before its file.
+ *   A refused call has changed nothing: tables, scratch, results, moves, buffer, answers and that last number or array are as
+ *   they were. The first fault is returned, in the order of the numbers 3, 4, 5, 7, 8, 9; loading meets its file from front to
+ *   back, importing its text line by line, each line being tested for 10, 11, 12, 3, 4, 5 in that order, and a replay its calls
+ *   and answers before its file.
  *   Scratch holds nothing of use before or after a call.
  *
  * What a caller owes
@@ -90,7 +90,7 @@ enum reducer_number {
     REDUCER_BAD_LITERAL = 5,
     /* bytes after the end field */
     REDUCER_EXTRA_BYTES = 6,
-    /* not a node, not a root (tree call), or no such word of the node */
+    /* not a node, not a root (tree call, preview), or no such word of the node */
     REDUCER_NO_SUCH_NODE = 7,
     /* scratch too short */
     REDUCER_SHORT_SCRATCH = 8,
@@ -201,6 +201,20 @@ uint32_t reducer_tree(uint32_t inputs, uint32_t nodes, uint32_t outputs,
                       uint32_t root,
                       uint32_t *scratch, size_t scratch_length,
                       uint32_t *saving);
+
+/*
+ * Tells what reducer_tree would do at a root, and does none of it: both tables are only read. saving is what reducer_tree would
+ * answer. moves has a byte a node: byte v becomes the move that node I + 1 + v has in that call, and 0 outside the root's tree;
+ * later bytes are left. Needs REDUCER_TREE_SCRATCH(nodes) words of scratch. Refusals: 3, 4 (tables, or fewer bytes than nodes),
+ * 5, 7, 8; a refused call has changed nothing, scratch included.
+ */
+uint32_t reducer_preview(uint32_t inputs, uint32_t nodes, uint32_t outputs,
+                         const uint32_t *node_table, size_t node_table_length,
+                         const uint32_t *output_table, size_t output_table_length,
+                         uint32_t root,
+                         uint8_t *moves, size_t moves_length,
+                         uint32_t *scratch, size_t scratch_length,
+                         uint32_t *saving);
 
 /*
  * Makes rounds of all tree, node and pair calls until one saves nothing. figures are the rounds made, that last one included,
