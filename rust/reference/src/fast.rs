@@ -43,7 +43,13 @@ impl Fast {
         }
     }
 
-    fn make(&mut self, node: u32, number: usize) {
+    /// Whether an index is a root's.
+    pub fn is_root(&self, index: u32) -> bool {
+        self.root[index as usize]
+    }
+
+    /// One move made.
+    pub fn make(&mut self, node: u32, number: usize) {
         let row = &rows(&self.g, node)[number];
         for word in 0..3 {
             if row.words[word] {
@@ -163,7 +169,8 @@ impl Fast {
             .expect("move 0")
     }
 
-    pub fn tree_call(&mut self, root: u32) -> u32 {
+    /// The best moves of a tree made: the tree by falling index with the move of each, and what they save.
+    fn make_tree(&mut self, root: u32) -> (Vec<(u32, usize)>, u32) {
         let tree = self.trees[root as usize].clone();
         for &node in tree.iter().rev() {
             self.fill_costs(node);
@@ -173,13 +180,30 @@ impl Fast {
             places.extend(self.own(node));
         }
         let before = self.count(&places);
+        let mut made = Vec::new();
         for &node in &tree {
             // The nodes above are done and the costs below are those of the words as they were, which a
             // node's own words still are when it is reached.
             let number = self.choose(node);
             self.make(node, number);
+            made.push((node, number));
         }
-        before - self.count(&places)
+        (made, before - self.count(&places))
+    }
+
+    pub fn tree_call(&mut self, root: u32) -> u32 {
+        self.make_tree(root).1
+    }
+
+    /// What the tree call saves, and a byte a node with its move. Each move is made once more, which takes it back.
+    pub fn preview(&mut self, root: u32) -> (u32, Vec<u8>) {
+        let (made, saved) = self.make_tree(root);
+        let mut moves = vec![0; self.g.nodes as usize];
+        for (node, number) in made {
+            self.make(node, number);
+            moves[(node - self.g.inputs - 1) as usize] = number as u8;
+        }
+        (saved, moves)
     }
 
     fn round(&mut self) -> u32 {

@@ -12,6 +12,7 @@ pub mod file;
 pub mod generate;
 pub mod graph;
 pub mod moves;
+pub mod preview;
 pub mod random;
 pub mod report;
 pub mod settling;
@@ -20,5 +21,7 @@ pub mod vectors;
 
 #[cfg(test)]
 mod aiger_tests;
+#[cfg(test)]
+mod preview_tests;
 #[cfg(test)]
 mod tests;

@@ -64,7 +64,8 @@ pub fn all_lists(g: &Graph, nodes: &[u32]) -> Vec<Vec<usize>> {
     all
 }
 
-fn after(g: &Graph, nodes: &[u32], list: &[usize]) -> Graph {
+/// The graph after a list of moves for these nodes.
+pub fn after(g: &Graph, nodes: &[u32], list: &[usize]) -> Graph {
     let mut next = g.clone();
     for (&node, &number) in nodes.iter().zip(list) {
         make(&mut next, node, number);
@@ -146,7 +147,8 @@ pub fn tree(g: &Graph, root: u32) -> Vec<u32> {
         .collect()
 }
 
-fn check_tree_call(g: &Graph, root: u32, scratch: usize) -> Result<(), Number> {
+/// 3, 4, 5, 7, 8 in that order.
+pub fn check_tree_call(g: &Graph, root: u32, scratch: usize) -> Result<(), Number> {
     admit(g)?;
     if !g.is_node(root) || !is_root(g, root) {
         return Err(7);
