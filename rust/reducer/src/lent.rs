@@ -221,6 +221,37 @@ pub fn tree_call(
     answer(number, saving)
 }
 
+/// What [`tree_call`] would save, with each node's move there in the first bytes of `moves`, a byte a node by rising index: 0 outside
+/// the root's tree. Scratch is [`crate::scratch_words`] long.
+pub fn preview(
+    size: Size,
+    node_table: &[u32],
+    output_table: &[u32],
+    root: u32,
+    moves: &mut [u8],
+    scratch: &mut [u32],
+) -> Result<u32, Refusal> {
+    let mut saving = 0u32;
+    let number = unsafe {
+        raw::reducer_preview(
+            size.inputs,
+            size.nodes,
+            size.outputs,
+            node_table.as_ptr(),
+            node_table.len(),
+            output_table.as_ptr(),
+            output_table.len(),
+            root,
+            moves.as_mut_ptr(),
+            moves.len(),
+            scratch.as_mut_ptr(),
+            scratch.len(),
+            &mut saving,
+        )
+    };
+    answer(number, saving)
+}
+
 /// Rounds of tree, node and pair calls until one saves nothing. Scratch is [`crate::scratch_words`] long.
 pub fn settle(
     size: Size,

@@ -48,7 +48,7 @@ pub enum Refusal {
     BadLiteral = 5,
     /// There are bytes after the end field.
     ExtraBytes = 6,
-    /// That is not a node, not a root (tree call), or no such word of the node.
+    /// That is not a node, not a root (tree call, preview), or no such word of the node.
     NoSuchNode = 7,
     /// The scratch is too short.
     ShortScratch = 8,
@@ -129,6 +129,15 @@ pub struct Settled {
     pub after: u32,
 }
 
+/// What a preview tells of a tree call that is not made.
+#[derive(Clone, Debug, PartialEq, Eq, Hash)]
+pub struct Preview {
+    /// What the tree call would save.
+    pub saving: u32,
+    /// A byte a node by rising index: its move in the tree call, and 0 outside the tree.
+    pub moves: Vec<u8>,
+}
+
 /// A call of a list.
 #[derive(Clone, Copy, Debug, PartialEq, Eq, Hash)]
 pub enum Call {
@@ -164,7 +173,7 @@ pub enum ReplayRefusal {
     Refused(Refusal),
 }
 
-/// How many words of scratch the tree call and settling need for so many nodes.
+/// How many words of scratch the tree call, its preview and settling need for so many nodes.
 pub fn scratch_words(nodes: u32) -> usize {
     8 * nodes as usize
 }
@@ -291,6 +300,14 @@ impl Graph {
     pub fn tree_call(&mut self, root: u32) -> Result<u32, Refusal> {
         let mut scratch = self.scratch();
         lent::tree_call(self.size, &mut self.node_table, &mut self.output_table, root, &mut scratch)
+    }
+
+    /// Tells what [`Graph::tree_call`] would save and which moves it would make.
+    pub fn preview(&self, root: u32) -> Result<Preview, Refusal> {
+        let mut scratch = self.scratch();
+        let mut moves = vec![0; self.size.nodes.min(MOST_NODES) as usize];
+        let saving = lent::preview(self.size, &self.node_table, &self.output_table, root, &mut moves, &mut scratch)?;
+        Ok(Preview { saving, moves })
     }
 
     /// Makes rounds of tree, node and pair calls until one saves nothing.

@@ -117,6 +117,22 @@ extern "C" {
         saving: *mut u32,
     ) -> u32;
 
+    pub fn reducer_preview(
+        inputs: u32,
+        nodes: u32,
+        outputs: u32,
+        node_table: *const u32,
+        node_table_length: usize,
+        output_table: *const u32,
+        output_table_length: usize,
+        root: u32,
+        moves: *mut u8,
+        moves_length: usize,
+        scratch: *mut u32,
+        scratch_length: usize,
+        saving: *mut u32,
+    ) -> u32;
+
     pub fn reducer_settle(
         inputs: u32,
         nodes: u32,

@@ -1,6 +1,6 @@
-//! Document 01's worked graphs and edges of the limits, and texts of document 02's M-100, through the safe interface.
+//! Document 01's worked graphs and edges of the limits, and texts and previews of document 02, through the safe interface.
 
-use reducer::{lent, Call, Graph, Refusal, ReplayRefusal, Settled, Size, MARK};
+use reducer::{lent, Call, Graph, Preview, Refusal, ReplayRefusal, Settled, Size, MARK};
 
 fn graph(inputs: u32, node_table: &[u32], output_table: &[u32]) -> Graph {
     let size = Size { inputs, nodes: node_table.len() as u32 / 3, outputs: output_table.len() as u32 };
@@ -73,6 +73,54 @@ fn settling_p1() {
     let mut g = graph(3, &[3, 5, 7], &[9]);
     assert_eq!(g.settle(), Ok(Settled { rounds: 2, before: 4, after: 0 }));
     assert_eq!(g, graph(3, &[2, 4, 6], &[8]));
+}
+
+fn told(g: &Graph, root: u32) -> (u32, Vec<u8>) {
+    let Preview { saving, moves } = g.preview(root).unwrap();
+    (saving, moves)
+}
+
+#[test]
+fn previews() {
+    let p2 = graph(5, &[3, 5, 6, 13, 8, 11], &[14]);
+    assert_eq!(told(&p2, 7), (2, vec![1, 0]));
+    assert_eq!(told(&graph(5, &[3, 5, 6, 12, 9, 10], &[15]), 7), (2, vec![1, 1]));
+    assert_eq!(told(&graph(2, &[2, 2, 5], &[6]), 3), (0, vec![0]));
+    // The one choice that leaves no complemented edge: an edge that two moves turn ends as it was.
+    let xors = graph(2, &[3, 4, MARK, 7, 5, MARK, 8, 5, MARK, 10, 5, MARK], &[13]);
+    assert_eq!(told(&xors, 6), (6, vec![2, 3, 1, 3]));
+    // Node 4 is a root that node 6 reads; node 5 is of node 6's tree.
+    let two_trees = graph(3, &[3, 5, 7, 3, 5, MARK, 10, 8, 4], &[9, 12]);
+    assert_eq!(told(&two_trees, 4), (3, vec![1, 0, 0]));
+    assert_eq!(told(&two_trees, 6), (2, vec![0, 1, 0]));
+    assert_eq!(two_trees.preview(5), Err(Refusal::NoSuchNode));
+    assert_eq!(two_trees.preview(3), Err(Refusal::NoSuchNode));
+    assert_eq!(graph(3, &[8, 7, 7], &[]).preview(4), Err(Refusal::BadLiteral));
+    assert_eq!(graph(0, &vec![0; 300_003], &[]).preview(1), Err(Refusal::OverLimit));
+}
+
+/// Each fault is put right in turn, and the next is told; bytes and scratch stay until none is left.
+#[test]
+fn previews_of_lent_slices() {
+    let (mut node_table, mut output_table) = (vec![3, 5, 12, 13, 8, 11, 77], vec![14]);
+    let size = |outputs: u32| Size { inputs: 5, nodes: 2, outputs };
+    let (mut moves, mut scratch) = ([77; 4], [77; 17]);
+    let mut told = |node_table: &[u32], output_table: &[u32], size, root, bytes: usize, words: usize| {
+        let saving = lent::preview(size, node_table, output_table, root, &mut moves[..bytes], &mut scratch[..words]);
+        (saving, moves, scratch == [77; 17])
+    };
+    let kept = |refusal| (Err(refusal), [77; 4], true);
+    assert_eq!(told(&node_table, &output_table, size(4_097), 6, 1, 15), kept(Refusal::OverLimit));
+    assert_eq!(told(&node_table, &output_table, size(2), 6, 2, 15), kept(Refusal::ShortSlice));
+    output_table.push(88);
+    assert_eq!(told(&node_table, &output_table, size(1), 6, 1, 15), kept(Refusal::ShortSlice));
+    assert_eq!(told(&node_table, &output_table, size(1), 6, 2, 15), kept(Refusal::BadLiteral));
+    node_table[2] = 6;
+    assert_eq!(told(&node_table, &output_table, size(1), 5, 2, 15), kept(Refusal::NoSuchNode));
+    assert_eq!(told(&node_table, &output_table, size(1), 6, 2, 15), kept(Refusal::NoSuchNode));
+    assert_eq!(told(&node_table, &output_table, size(1), 7, 2, 15), kept(Refusal::ShortScratch));
+    assert_eq!(told(&node_table, &output_table, size(1), 7, 4, 16).1, [1, 0, 77, 77]);
+    assert_eq!(told(&node_table, &output_table, size(1), 7, 2, 17).0, Ok(2));
 }
 
 #[test]
