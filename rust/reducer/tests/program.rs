@@ -127,6 +127,130 @@ fn showing() {
     gives(&run(&["show"], &mixed), due.as_bytes(), "");
 }
 
+fn p2() -> Vec<u8> {
+    tagged(&[(1, &[5, 2, 1]), (2, &[3, 5, 6]), (2, &[13, 8, 11]), (4, &[14]), (5, &[])])
+}
+
+const P2_FIGURES: &str = "root 7 before 4 after 2 saving 2\n";
+const P2_TREE: &str = "tree nodes 2 majorities 2 xors 0\n\
+                       node 6 majority move 1: words 1, 2 and 3 and every reader turn\n\
+                       node 7 majority move 0: nothing turns\n";
+
+/// Node 4 is a root that node 6 reads; node 5 is of node 6's tree.
+fn two_trees() -> Vec<u8> {
+    tagged(&[(1, &[3, 3, 2]), (2, &[3, 5, 7]), (3, &[3, 5]), (2, &[10, 8, 4]), (4, &[9]), (4, &[12]), (5, &[])])
+}
+
+#[test]
+fn previewing() {
+    gives(&run(&["preview", "-", "7"], &p2()), format!("{P2_FIGURES}{P2_TREE}").as_bytes(), "");
+    let due = "root 4 before 6 after 3 saving 3\ntree nodes 1 majorities 1 xors 0\n\
+               node 4 majority move 1: words 1, 2 and 3 and every reader turn\n";
+    gives(&run(&["preview", "-", "4"], &two_trees()), due.as_bytes(), "");
+    let due = "root 6 before 6 after 4 saving 2\ntree nodes 2 majorities 1 xors 1\n\
+               node 5 xor move 1: words 1 and 2 turn\nnode 6 majority move 0: nothing turns\n";
+    gives(&run(&["preview", "-", "6"], &two_trees()), due.as_bytes(), "");
+    let xors =
+        tagged(&[(1, &[2, 4, 1]), (3, &[3, 4]), (3, &[7, 5]), (3, &[8, 5]), (3, &[10, 5]), (4, &[13]), (5, &[])]);
+    let due = "root 6 before 6 after 0 saving 6\ntree nodes 4 majorities 0 xors 4\n\
+               node 3 xor move 2: word 1 and every reader turn\nnode 4 xor move 3: word 2 and every reader turn\n\
+               node 5 xor move 1: words 1 and 2 turn\nnode 6 xor move 3: word 2 and every reader turn\n";
+    gives(&run(&["preview", "-", "6"], &xors), due.as_bytes(), "");
+    let or = b"aag 3 2 0 1 1\n2\n4\n7\n6 3 5\nc\nan OR\n";
+    let due = "root 3 before 3 after 1 saving 2\ntree nodes 1 majorities 1 xors 0\n\
+               node 3 majority move 1: words 1, 2 and 3 and every reader turn\n";
+    gives(&run(&["preview", "-", "3"], or), due.as_bytes(), "");
+}
+
+#[test]
+fn previewing_moves_alone() {
+    let folder = folder("previewing_moves_alone");
+    fs::write(folder.join("in"), p2()).unwrap();
+    gives(&run_in(&folder, &["preview", "in", "7", "--moves"], b""), b"6 1\n7 0\n", P2_FIGURES);
+    gives(&run_in(&folder, &["preview", "--moves", "in", "-o", "moves", "7"], b""), b"", P2_FIGURES);
+    assert_eq!(fs::read(folder.join("moves")).unwrap(), b"6 1\n7 0\n");
+    gives(&run_in(&folder, &["preview", "in", "7", "-o", "told"], b""), b"", "");
+    assert_eq!(fs::read(folder.join("told")).unwrap(), format!("{P2_FIGURES}{P2_TREE}").as_bytes());
+    assert_eq!(fs::read(folder.join("in")).unwrap(), p2());
+    gives(&run(&["preview", "-", "6", "--moves"], &two_trees()), b"5 1\n6 0\n", "root 6 before 6 after 4 saving 2\n");
+    holds(&folder, &["in", "moves", "told"]);
+}
+
+#[test]
+fn previewing_without_a_root() {
+    gives(&run(&["preview"], &p2()), b"roots 1\nroot 7 nodes 2 majorities 2 xors 0\n", "");
+    let due = "roots 2\nroot 4 nodes 1 majorities 1 xors 0\nroot 6 nodes 2 majorities 1 xors 1\n";
+    gives(&run(&["preview", "-"], &two_trees()), due.as_bytes(), "");
+    gives(&run(&["preview"], b"aag 1 1 0 1 0\n2\n3\n"), b"roots 0\n", "");
+}
+
+#[test]
+fn previews_refused() {
+    let refused = |input: &[u8], root: &str, why: &str| {
+        let no_such = "panjerov: standard input: refused 7: there is no such node, root or word";
+        for words in [&["preview", "-", root][..], &["preview", "-", root, "--moves"]] {
+            stops(&run(words, input), 1, &format!("{no_such}; {root} is no root: {why}\n"));
+        }
+    };
+    refused(&two_trees(), "5", "it is in the tree of root 6");
+    refused(&p2(), "6", "it is in the tree of root 7");
+    for not in ["0", "3", "7", "4294967295"] {
+        refused(&two_trees(), not, "nodes are 4 to 6");
+    }
+    refused(b"aag 1 1 0 1 0\n2\n3\n", "2", "there are no nodes");
+    let long = "panjerov: standard input: refused 6: there are bytes after the end field\n";
+    stops(&run(&["preview", "-", "4"], &[p1(), vec![0]].concat()), 1, long);
+    for not in ["x", "4294967296", "+7", "7.0", ""] {
+        let said = format!("ROOT is the index of a node, a number below 2 to the 32nd, and not {not}");
+        let told = format!("panjerov: {said}; `panjerov preview --help` tells what preview takes\n");
+        stops(&run(&["preview", "-", not], &p2()), 2, &told);
+    }
+    let told = "panjerov: --moves wants FILE and ROOT; `panjerov preview --help` tells what preview takes\n";
+    stops(&run(&["preview", "-", "--moves"], &p2()), 2, told);
+}
+
+/// What the help shows is what is told.
+#[test]
+fn help_of_preview() {
+    let help = run(&["preview", "--help"], b"");
+    for shown in [format!("{P2_FIGURES}{P2_TREE}"), text(&run(&["preview"], &p2()).stdout).into()] {
+        let lines: String = shown.split_inclusive('\n').map(|line| format!("    {line}")).collect();
+        assert!(text(&help.stdout).contains(&format!("\n\n{lines}")), "{lines}");
+    }
+    assert!(text(&run(&["--help"], b"").stdout).contains("\n    preview  "));
+}
+
+/// The moves that are told, made one by one, are the library's tree call.
+#[test]
+fn previewed_moves_are_the_tree_call_s() {
+    let given = include_bytes!("../../../examples/multiplier4.aag");
+    let graph = reducer::Graph::import(given).unwrap();
+    let listed = run(&["preview"], given);
+    let roots = text(&listed.stdout).lines().skip(1).map(|line| line.split(' ').nth(1).unwrap());
+    let mut several = 0;
+    for root in roots {
+        let output = run(&["preview", "-", root, "--moves"], given);
+        let mut moved = graph.clone();
+        let index = |word: &u32| word / 2;
+        for line in text(&output.stdout).lines() {
+            let (node, number) = line.split_once(' ').unwrap();
+            let node: u32 = node.parse().unwrap();
+            // An AIGER text gives majorities alone.
+            let turn = u32::from(number.parse::<u32>().unwrap() == 1);
+            let own = 3 * (node - graph.size.inputs - 1) as usize;
+            moved.node_table[own..own + 3].iter_mut().for_each(|word| *word ^= turn);
+            let readers = moved.node_table.iter_mut().chain(&mut moved.output_table);
+            readers.filter(|word| index(word) == node).for_each(|word| *word ^= turn);
+        }
+        let mut called = graph.clone();
+        let saved = called.tree_call(root.parse().unwrap()).unwrap();
+        assert_eq!(moved, called);
+        assert!(said(&output).ends_with(&format!(" saving {saved}\n")));
+        several += u32::from(saved > 0);
+    }
+    assert!(several >= 10, "{several}");
+}
+
 #[test]
 fn files_of_names() {
     let folder = folder("files_of_names");
@@ -185,7 +309,7 @@ fn nothing_half_written() {
 
 #[test]
 fn standard_output_that_is_full() {
-    for words in ["settle", "show", "--help"] {
+    for words in ["settle", "show", "preview", "--help"] {
         let full = fs::OpenOptions::new().write(true).open("/dev/full").unwrap();
         let folder = folder(&format!("full_{words}"));
         fs::write(folder.join("in"), p1()).unwrap();
@@ -256,9 +380,15 @@ fn usage() {
         assert_eq!(output.stdout, b"");
         assert!(text(&output.stderr).starts_with("panjerov: ") && text(&output.stderr).contains("--help"), "{words:?}");
     }
-    for words in
-        [&["--help"][..], &["-h"], &["settle", "--help"], &["import", "-h"], &["export", "--help"], &["show", "--help"]]
-    {
+    for words in [
+        &["--help"][..],
+        &["-h"],
+        &["settle", "--help"],
+        &["import", "-h"],
+        &["export", "--help"],
+        &["show", "--help"],
+        &["preview", "a", "7", "--help"],
+    ] {
         let output = run(words, b"");
         let begin =
             if words.len() == 1 { "usage: panjerov COMMAND" } else { &format!("usage: panjerov {} ", words[0]) };

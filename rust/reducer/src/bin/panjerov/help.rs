@@ -11,6 +11,7 @@ Reduces inversions in majority and XOR graphs. The commands:
     import   gives the graph as a tagged file
     export   gives the graph as ASCII AIGER text
     show     tells sizes, kinds, complemented edges and depth
+    preview  tells what the best moves of a tree would save, and makes none
 
 `panjerov COMMAND --help` tells more of a command.
 ";
@@ -56,12 +57,36 @@ Tells of the graph:
 Complemented edges from the constant count like all others. The depth is the most nodes on a way from an output down.
 ";
 
+const PREVIEW: &str = "\
+usage: panjerov preview [FILE [ROOT [--moves]]] [-o FILE]
+
+Tells what the best moves of the tree of ROOT, a node's index, would save, and makes none of them:
+
+    root 7 before 4 after 2 saving 2
+    tree nodes 2 majorities 2 xors 0
+    node 6 majority move 1: words 1, 2 and 3 and every reader turn
+    node 7 majority move 0: nothing turns
+
+The first line has the complemented edges of the whole graph before and after; then there is a line for each node of
+the tree by rising index. An edge that two moves turn ends as it was. A node is a root unless it has just one reader
+and that is a node; its tree is the root with every other node that leads to it through no root. A ROOT that is none
+is refused.
+
+With --moves each line is a node's index and its move, for all nodes of the tree, and the first line above goes to
+standard error.
+
+Without ROOT all roots are told, with the sizes of their trees:
+
+    roots 1
+    root 7 nodes 2 majorities 2 xors 0
+";
+
 const FILES: &str = "
 FILE is a tagged file or ASCII AIGER text, which is seen from its first bytes; without FILE, or where it is -,
 standard input is read. What is given goes to standard output, or with -o to a file, which is replaced only once
 all of it is there, and may be FILE itself. Work of more than a second says so on standard error.
 
-The exit status is 0; 1 where the graph is refused or a file cannot be read or written, and then no file is made or
+The exit status is 0; 1 where something is refused or a file cannot be read or written, and then no file is made or
 changed; 2 where the command line is not understood.
 ";
 
@@ -75,6 +100,7 @@ pub fn of(command: Command) -> String {
         Command::Import => IMPORT,
         Command::Export => EXPORT,
         Command::Show => SHOW,
+        Command::Preview => PREVIEW,
     };
     format!("{own}{FILES}")
 }

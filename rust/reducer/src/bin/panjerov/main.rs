@@ -1,11 +1,13 @@
-//! The program `panjerov`: settles graphs, shows them, and makes tagged files of AIGER texts and back.
+//! The program `panjerov`: settles graphs, shows them, previews their trees, and makes tagged files of AIGER texts and back.
 
 mod faults;
 mod files;
 mod formats;
 mod help;
+mod preview;
 mod progress;
 mod show;
+mod trees;
 mod words;
 
 use std::io::{self, Write};
@@ -41,6 +43,12 @@ fn work(asked: &Work) -> Result<(), String> {
         Command::Import => formats::bytes_of(&graph, Format::Tagged)?,
         Command::Export => formats::bytes_of(&graph, Format::Aiger)?,
         Command::Show => show::text_of(&graph, got)?.into_bytes(),
+        Command::Preview => {
+            let told = preview::of(&graph, asked.root, asked.only_moves);
+            let told = told.map_err(|why| format!("{}: {why}", input.name))?;
+            figures = told.figures;
+            told.text.into_bytes()
+        }
     };
     files::write(asked.output.as_deref(), &given)?;
     drop(working);

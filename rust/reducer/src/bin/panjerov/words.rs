@@ -12,6 +12,7 @@ pub enum Command {
     Import,
     Export,
     Show,
+    Preview,
 }
 
 impl Command {
@@ -21,6 +22,7 @@ impl Command {
             "import" => Some(Command::Import),
             "export" => Some(Command::Export),
             "show" => Some(Command::Show),
+            "preview" => Some(Command::Preview),
             _ => None,
         }
     }
@@ -31,6 +33,7 @@ impl Command {
             Command::Import => "import",
             Command::Export => "export",
             Command::Show => "show",
+            Command::Preview => "preview",
         }
     }
 
@@ -41,6 +44,7 @@ impl Command {
             Command::Import => "importing",
             Command::Export => "exporting",
             Command::Show => "looking at",
+            Command::Preview => "previewing",
         }
     }
 }
@@ -53,6 +57,10 @@ pub struct Work {
     pub output: Option<PathBuf>,
     /// What settling gives; none is what it got.
     pub to: Option<Format>,
+    /// Whose tree is previewed; none is a list of the roots.
+    pub root: Option<u32>,
+    /// Whether a preview gives its moves alone.
+    pub only_moves: bool,
 }
 
 #[derive(Debug, PartialEq, Eq)]
@@ -100,21 +108,43 @@ fn put<T>(place: &mut Option<T>, value: T, what: &str) -> Result<(), String> {
     }
 }
 
+fn root_named(word: &str) -> Result<u32, String> {
+    let digits = word.bytes().all(|byte| byte.is_ascii_digit());
+    match word.parse() {
+        Ok(root) if digits => Ok(root),
+        _ => Err(format!("ROOT is the index of a node, a number below 2 to the 32nd, and not {word}")),
+    }
+}
+
+/// Puts a word that is no option: FILE, and after it the ROOT of a preview.
+fn put_plain(work: &mut Work, input: &mut Option<OsString>, word: OsString) -> Result<(), String> {
+    if work.command == Command::Preview && input.is_some() {
+        let root = root_named(&word.to_string_lossy())?;
+        return put(&mut work.root, root, "ROOT");
+    }
+    put(input, word, "FILE")
+}
+
 fn asked_of(command: Command, mut words: impl Iterator<Item = OsString>) -> Result<Asked, String> {
-    let (mut input, mut output, mut to) = (None, None, None);
+    let mut work = Work { command, input: None, output: None, to: None, root: None, only_moves: false };
+    let (mut input, mut output) = (None, None);
     let mut only_files = false;
     while let Some(word) = words.next() {
         let text = word.to_string_lossy().into_owned();
         match text.as_str() {
-            _ if only_files || text == "-" || !text.starts_with('-') => put(&mut input, word, "FILE")?,
+            _ if only_files || text == "-" || !text.starts_with('-') => put_plain(&mut work, &mut input, word)?,
             "--help" | "-h" => return Ok(Asked::Help(help::of(command))),
             "-o" => put(&mut output, words.next().ok_or("-o wants a file after it")?, "-o")?,
-            "--to" if command == Command::Settle => put(&mut to, format_named(words.next())?, "--to")?,
+            "--to" if command == Command::Settle => put(&mut work.to, format_named(words.next())?, "--to")?,
+            "--moves" if command == Command::Preview => work.only_moves = true,
             "--" => only_files = true,
             _ => return Err(format!("there is no option {text}")),
         }
     }
-    Ok(Asked::Work(Work { command, input: input.and_then(file), output: output.and_then(file), to }))
+    if work.only_moves && work.root.is_none() {
+        return Err("--moves wants FILE and ROOT".into());
+    }
+    Ok(Asked::Work(Work { input: input.and_then(file), output: output.and_then(file), ..work }))
 }
 
 #[cfg(test)]
@@ -126,7 +156,18 @@ mod tests {
     }
 
     fn work(command: Command, input: Option<&str>, output: Option<&str>, to: Option<Format>) -> Result<Asked, String> {
-        Ok(Asked::Work(Work { command, input: input.map(PathBuf::from), output: output.map(PathBuf::from), to }))
+        let (input, output) = (input.map(PathBuf::from), output.map(PathBuf::from));
+        Ok(Asked::Work(Work { command, input, output, to, root: None, only_moves: false }))
+    }
+
+    fn preview(
+        input: Option<&str>,
+        output: Option<&str>,
+        root: Option<u32>,
+        only_moves: bool,
+    ) -> Result<Asked, String> {
+        let (input, output) = (input.map(PathBuf::from), output.map(PathBuf::from));
+        Ok(Asked::Work(Work { command: Command::Preview, input, output, to: None, root, only_moves }))
     }
 
     #[test]
@@ -139,6 +180,16 @@ mod tests {
         assert_eq!(of(&["show", "--", "-o"]), work(Command::Show, Some("-o"), None, None));
         let settled = work(Command::Settle, Some("a"), None, Some(Format::Aiger));
         assert_eq!(of(&["settle", "--to", "aiger", "a"]), settled);
+    }
+
+    #[test]
+    fn a_file_and_a_root() {
+        assert_eq!(of(&["preview"]), preview(None, None, None, false));
+        assert_eq!(of(&["preview", "7"]), preview(Some("7"), None, None, false));
+        assert_eq!(of(&["preview", "a", "7"]), preview(Some("a"), None, Some(7), false));
+        assert_eq!(of(&["preview", "-", "007", "--moves"]), preview(None, None, Some(7), true));
+        assert_eq!(of(&["preview", "--moves", "a", "-o", "b", "0"]), preview(Some("a"), Some("b"), Some(0), true));
+        assert_eq!(of(&["preview", "--", "-a", "4294967295"]), preview(Some("-a"), None, Some(u32::MAX), false));
     }
 
     #[test]
@@ -156,6 +207,19 @@ mod tests {
             &["import", "--to", "tagged"],
             &["show", "--verbose"],
             &["show", "-x"],
+            &["show", "a", "7"],
+            &["show", "--moves"],
+            &["preview", "a", "b"],
+            &["preview", "a", ""],
+            &["preview", "a", "-"],
+            &["preview", "a", "+7"],
+            &["preview", "a", "-7"],
+            &["preview", "a", "7.0"],
+            &["preview", "a", "4294967296"],
+            &["preview", "a", "7", "7"],
+            &["preview", "--moves"],
+            &["preview", "a", "--moves"],
+            &["preview", "a", "7", "--to", "aiger"],
         ] {
             assert!(of(words).is_err(), "{words:?}");
         }

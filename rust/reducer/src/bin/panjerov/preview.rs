@@ -1,0 +1,83 @@
+//! What `panjerov preview` tells.
+
+use crate::trees::{Kinds, Trees};
+use reducer::{Graph, Refusal, Size};
+
+/// What is given, and the line beside it, if there is one.
+pub struct Told {
+    pub text: String,
+    pub figures: Option<String>,
+}
+
+/// What a move turns, by kind and number.
+fn turns(xor: bool, number: u8) -> &'static str {
+    match (xor, number) {
+        (_, 0) => "nothing turns",
+        (false, _) => "words 1, 2 and 3 and every reader turn",
+        (true, 1) => "words 1 and 2 turn",
+        (true, 2) => "word 1 and every reader turn",
+        (true, _) => "word 2 and every reader turn",
+    }
+}
+
+fn roots_of(graph: &Graph) -> String {
+    let roots = Trees::of(graph).roots();
+    let lines = roots.iter().map(|(root, kinds)| format!("root {root} {}\n", kinds.told()));
+    format!("roots {}\n{}", roots.len(), lines.collect::<String>())
+}
+
+/// Why an index is no root.
+fn no_root(graph: &Graph, index: u32) -> String {
+    let Size { inputs, nodes, .. } = graph.size;
+    match Trees::of(graph).root_of(index) {
+        Some(root) => format!("{index} is no root: it is in the tree of root {root}"),
+        None if nodes == 0 => format!("{index} is no root: there are no nodes"),
+        None => format!("{index} is no root: nodes are {} to {}", inputs + 1, inputs + nodes),
+    }
+}
+
+fn refused(graph: &Graph, index: u32, refusal: Refusal) -> String {
+    match refusal {
+        Refusal::NoSuchNode => format!("{refusal}; {}", no_root(graph, index)),
+        _ => refusal.to_string(),
+    }
+}
+
+/// A line a node of the tree, in words or as numbers alone.
+fn lines(trees: &Trees, moved: &[(u32, u8)], only_moves: bool) -> String {
+    let line = |&(node, number): &(u32, u8)| {
+        let xor = trees.is_xor(node);
+        let kind = if xor { "xor" } else { "majority" };
+        match only_moves {
+            true => format!("{node} {number}\n"),
+            false => format!("node {node} {kind} move {number}: {}\n", turns(xor, number)),
+        }
+    };
+    moved.iter().map(line).collect()
+}
+
+fn tree_of(graph: &Graph, root: u32, only_moves: bool) -> Result<Told, Refusal> {
+    let told = graph.preview(root)?;
+    let before = graph.complemented_edges()?;
+    let figures = format!("root {root} before {before} after {} saving {}", before - told.saving, told.saving);
+    let trees = Trees::of(graph);
+    let mut kinds = Kinds::default();
+    let mut moved = Vec::new();
+    for node in trees.tree(root) {
+        kinds.add(trees.is_xor(node));
+        moved.push((node, told.moves[(node - graph.size.inputs - 1) as usize]));
+    }
+    let lines = lines(&trees, &moved, only_moves);
+    Ok(match only_moves {
+        true => Told { text: lines, figures: Some(figures) },
+        false => Told { text: format!("{figures}\ntree {}\n{lines}", kinds.told()), figures: None },
+    })
+}
+
+/// The preview of a root's tree, or of none the roots.
+pub fn of(graph: &Graph, root: Option<u32>, only_moves: bool) -> Result<Told, String> {
+    match root {
+        Some(root) => tree_of(graph, root, only_moves).map_err(|refusal| refused(graph, root, refusal)),
+        None => Ok(Told { text: roots_of(graph), figures: None }),
+    }
+}

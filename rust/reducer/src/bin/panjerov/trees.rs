@@ -1,0 +1,144 @@
+//! The trees of a graph.
+
+use reducer::{Graph, Size, MARK};
+
+/// Which tree each node is in, of a graph that the library has admitted.
+pub struct Trees<'a> {
+    graph: &'a Graph,
+    /// By node from 0: the index of its tree's root.
+    roots: Vec<u32>,
+}
+
+/// How many nodes of each kind a tree has.
+#[derive(Clone, Copy, Debug, Default, PartialEq, Eq)]
+pub struct Kinds {
+    pub majorities: u32,
+    pub xors: u32,
+}
+
+impl Trees<'_> {
+    pub fn of(graph: &Graph) -> Trees<'_> {
+        let Size { inputs, nodes, outputs } = graph.size;
+        let node_of = |literal: u32| (literal / 2).wrapping_sub(inputs + 1) as usize;
+        // By node: its readers, an output counting twice, and the last node that reads it. The mark names none.
+        let mut read = vec![(0, 0); nodes as usize];
+        for (at, &literal) in graph.node_table[..3 * nodes as usize].iter().enumerate() {
+            if let Some((readers, last)) = read.get_mut(node_of(literal)) {
+                *readers += 1;
+                *last = at / 3;
+            }
+        }
+        for &literal in &graph.output_table[..outputs as usize] {
+            if let Some((readers, _)) = read.get_mut(node_of(literal)) {
+                *readers += 2;
+            }
+        }
+        let mut roots = vec![0; nodes as usize];
+        for at in (0..nodes as usize).rev() {
+            let (readers, reader) = read[at];
+            roots[at] = if readers == 1 { roots[reader] } else { inputs + 1 + at as u32 };
+        }
+        Trees { graph, roots }
+    }
+
+    pub fn is_xor(&self, node: u32) -> bool {
+        self.graph.node_table[3 * (node - self.graph.size.inputs) as usize - 1] == MARK
+    }
+
+    /// The root of a node's tree; none where the index is no node's.
+    pub fn root_of(&self, index: u32) -> Option<u32> {
+        let at = index.checked_sub(self.graph.size.inputs + 1)?;
+        self.roots.get(at as usize).copied()
+    }
+
+    fn nodes(&self) -> impl Iterator<Item = (u32, u32)> + '_ {
+        (self.graph.size.inputs + 1..).zip(self.roots.iter().copied())
+    }
+
+    /// The nodes of a root's tree by rising index.
+    pub fn tree(&self, root: u32) -> impl Iterator<Item = u32> + '_ {
+        self.nodes().filter(move |&(_, other)| other == root).map(|(node, _)| node)
+    }
+
+    /// All roots by rising index, with what their trees have.
+    pub fn roots(&self) -> Vec<(u32, Kinds)> {
+        let mut kinds = vec![Kinds::default(); self.roots.len()];
+        let first = self.graph.size.inputs + 1;
+        for (node, root) in self.nodes() {
+            kinds[(root - first) as usize].add(self.is_xor(node));
+        }
+        let is_root = |&(node, root): &(u32, u32)| node == root;
+        self.nodes().filter(is_root).map(|(node, _)| (node, kinds[(node - first) as usize])).collect()
+    }
+}
+
+impl Kinds {
+    pub fn add(&mut self, xor: bool) {
+        if xor {
+            self.xors += 1;
+        } else {
+            self.majorities += 1;
+        }
+    }
+
+    pub fn told(self) -> String {
+        let Kinds { majorities, xors } = self;
+        format!("nodes {} majorities {majorities} xors {xors}", majorities + xors)
+    }
+}
+
+#[cfg(test)]
+mod tests {
+    use super::*;
+    use reducer::Refusal;
+
+    fn graph(inputs: u32, node_table: &[u32], output_table: &[u32]) -> Graph {
+        let size = Size { inputs, nodes: node_table.len() as u32 / 3, outputs: output_table.len() as u32 };
+        Graph { size, node_table: node_table.to_vec(), output_table: output_table.to_vec() }
+    }
+
+    fn roots_of(graph: &Graph) -> Vec<u32> {
+        let trees = Trees::of(graph);
+        (graph.size.inputs + 1..=graph.size.inputs + graph.size.nodes).filter_map(|node| trees.root_of(node)).collect()
+    }
+
+    #[test]
+    fn trees() {
+        assert_eq!(roots_of(&graph(2, &[], &[2])), []);
+        // A chain; the first is named twice by one node; read by an output; read by nothing.
+        assert_eq!(roots_of(&graph(2, &[2, 4, 0, 6, 4, MARK, 8, 2, 4], &[10])), [5, 5, 5]);
+        assert_eq!(roots_of(&graph(2, &[2, 4, 0, 6, 6, MARK], &[9])), [3, 4]);
+        assert_eq!(roots_of(&graph(2, &[2, 4, 0, 6, 4, MARK], &[6, 9])), [3, 4]);
+        assert_eq!(roots_of(&graph(2, &[2, 4, 0, 2, 4, MARK], &[])), [3, 4]);
+        let two = graph(3, &[3, 5, 7, 3, 5, MARK, 10, 8, 4], &[9, 12]);
+        assert_eq!(roots_of(&two), [4, 6, 6]);
+        let trees = Trees::of(&two);
+        assert_eq!((trees.root_of(3), trees.root_of(7), trees.root_of(u32::MAX)), (None, None, None));
+        assert_eq!(trees.tree(6).collect::<Vec<u32>>(), [5, 6]);
+        let kinds = |majorities, xors| Kinds { majorities, xors };
+        assert_eq!(trees.roots(), [(4, kinds(1, 0)), (6, kinds(1, 1))]);
+    }
+
+    /// The library takes just these roots, and moves no node of another tree.
+    #[test]
+    fn roots_are_the_library_s() {
+        for name in ["comparator4", "divider4", "multiplier4", "ripple_adder4"] {
+            let path = format!("{}/../../examples/{name}.aag", env!("CARGO_MANIFEST_DIR"));
+            let graph = Graph::import(&std::fs::read(path).unwrap()).unwrap();
+            let trees = Trees::of(&graph);
+            let mut taken = 0;
+            for (node, root) in trees.nodes() {
+                match graph.preview(node) {
+                    Ok(told) => {
+                        assert_eq!(root, node, "{name}");
+                        let mut moved = trees.nodes().zip(told.moves).filter(|&(_, number)| number != 0);
+                        assert!(moved.all(|((_, of), _)| of == node), "{name}");
+                        taken += 1;
+                    }
+                    Err(refusal) => assert_eq!((refusal, root != node), (Refusal::NoSuchNode, true), "{name}"),
+                }
+            }
+            assert_eq!(trees.roots().len(), taken, "{name}");
+        }
+    }
+}
