@@ -25,7 +25,7 @@ from pathlib import Path
 from typing import Iterable, List, NamedTuple, Sequence, Tuple, Type
 
 __all__ = [
-    "Graph", "Refused", "Settled", "Told", "load", "import_aiger", "field", "replay",
+    "Graph", "Preview", "Refused", "Settled", "Told", "load", "import_aiger", "field", "replay",
     "NODE", "PAIR", "TREE", "SETTLE", "MARK", "MOST_INPUTS", "MOST_NODES", "MOST_OUTPUTS",
 ]
 
@@ -69,6 +69,13 @@ class Settled(NamedTuple):
     rounds: int
     before: int
     after: int
+
+
+class Preview(NamedTuple):
+    """What a tree call would save, and a byte a node by rising index: its move there, and 0 outside the tree."""
+
+    saving: int
+    moves: bytes
 
 
 class Told(NamedTuple):
@@ -128,6 +135,7 @@ _count = _function("reducer_count", _GRAPH + [ctypes.c_void_p])
 _node = _function("reducer_node", _GRAPH + [_U32, ctypes.c_void_p])
 _pair = _function("reducer_pair", _GRAPH + [_U32, _U32, ctypes.c_void_p])
 _tree = _function("reducer_tree", _GRAPH + [_U32] + _WORDS + [ctypes.c_void_p])
+_preview = _function("reducer_preview", _GRAPH + [_U32] + _WORDS * 2 + [ctypes.c_void_p])
 _settle = _function("reducer_settle", _GRAPH + _WORDS + [ctypes.c_void_p])
 _replay = _function("reducer_replay", _WORDS * 6 + [ctypes.c_void_p])
 
@@ -340,6 +348,14 @@ class Graph:
         _accept(_tree(*lent, _number(root, 32, "root"), _array(_U32, room), room, ctypes.byref(saving)))
         self._take(lent)
         return saving.value
+
+    def preview(self, root: int) -> Preview:
+        """What tree_call would save and which moves it would make; the graph stays as it is."""
+        lent, saving = self._lent(), _U32()
+        moves, room = _array(ctypes.c_uint8, lent[1]), 8 * lent[1]
+        number = _number(root, 32, "root")
+        _accept(_preview(*lent, number, moves, lent[1], _array(_U32, room), room, ctypes.byref(saving)))
+        return Preview(saving.value, bytes(moves[: lent[1]]))
 
     def settle(self) -> Settled:
         """Makes rounds of tree, node and pair calls until one saves nothing."""

@@ -40,6 +40,22 @@ def random_graph(generator: random.Random) -> Graph:
     return Graph(inputs, nodes, [generator.randrange(end) for _ in range(generator.randrange(5))])
 
 
+MAJORITY_ROWS = [(0, 0, 0, 0), (1, 1, 1, 1)]
+XOR_ROWS = [(0, 0, 0, 0), (1, 1, 0, 0), (1, 0, 0, 1), (0, 1, 0, 1)]
+
+
+def made(graph: Graph, moves: bytes) -> Graph:
+    """The graph after a move at each node: its own words are turned, and every word that names it."""
+    rows = [(XOR_ROWS if third == MARK else MAJORITY_ROWS)[move] for third, move in zip(graph.nodes[2::3], moves)]
+    readers = [0] * (graph.inputs + 1) + [row[3] for row in rows]
+
+    def turned(word: int) -> int:
+        return word if word == MARK else word ^ readers[word // 2]
+
+    nodes = [turned(word) ^ rows[at // 3][at % 3] for at, word in enumerate(graph.nodes)]
+    return Graph(graph.inputs, nodes, [turned(word) for word in graph.outputs])
+
+
 class Good(unittest.TestCase):
     def test_file_and_back(self) -> None:
         file = p1().write()
@@ -63,6 +79,38 @@ class Good(unittest.TestCase):
         graph = Graph(5, [3, 5, 6, 13, 8, 11], [14])
         self.assertEqual(graph.tree_call(7), 2)
         self.assertEqual(graph, Graph(5, [2, 4, 7, 12, 8, 11], [14]))
+
+    def test_previews(self) -> None:
+        graph = Graph(5, [3, 5, 6, 13, 8, 11], [14])
+        told = graph.preview(7)
+        self.assertEqual((told.saving, list(told.moves)), (2, [1, 0]))
+        self.assertEqual(graph, Graph(5, [3, 5, 6, 13, 8, 11], [14]))
+        self.assertEqual(Graph(2, [2, 2, 5], [6]).preview(3), (0, b"\0"))
+        xors = Graph(2, [3, 4, MARK, 7, 5, MARK, 8, 5, MARK, 10, 5, MARK], [13])
+        self.assertEqual(xors.preview(6), (6, bytes([2, 3, 1, 3])))
+        two_trees = Graph(3, [3, 5, 7, 3, 5, MARK, 10, 8, 4], [9, 12])
+        self.assertEqual(two_trees.preview(4), (3, bytes([1, 0, 0])))
+        self.assertEqual(two_trees.preview(6), (2, bytes([0, 1, 0])))
+
+    def test_previews_are_what_tree_calls_do(self) -> None:
+        generator = random.Random(5)
+        accepted = 0
+        for _ in range(1000):
+            graph = random_graph(generator)
+            root = generator.randrange(graph.inputs + 1, graph.inputs + 2 + len(graph.nodes) // 3)
+            before, after = repr(graph), Graph(graph.inputs, graph.nodes, graph.outputs)
+            try:
+                told = graph.preview(root)
+            except Refused as refused:
+                with self.assertRaises(Refused) as caught:
+                    after.tree_call(root)
+                self.assertEqual((refused.number, caught.exception.number), (7, 7))
+                continue
+            self.assertEqual(repr(graph), before)
+            self.assertEqual(after.tree_call(root), told.saving)
+            self.assertEqual(made(graph, told.moves), after)
+            accepted += 1
+        self.assertGreater(accepted, 500)
 
     def test_settling(self) -> None:
         graph = p1()
@@ -145,6 +193,10 @@ class Good(unittest.TestCase):
         graph = Graph(4096, nodes, [2 * 104096 + 1] * 4096)
         words = [word * 0x9E3779B97F4A7C15 % 2**64 for word in range(4096)]
         before = graph.evaluate(words)
+        told, previewed = graph.preview(104096), Graph(4096, nodes, graph.outputs)
+        self.assertEqual(graph, previewed)
+        self.assertEqual(previewed.tree_call(104096), told.saving)
+        self.assertEqual(made(graph, told.moves), previewed)
         settled = graph.settle()
         self.assertLess(settled.after, settled.before)
         self.assertEqual(graph.complemented_edges(), settled.after)
@@ -181,6 +233,11 @@ class Bad(unittest.TestCase):
         self.refused(7, p1(), "pair_call", 4, 0)
         self.refused(7, p1(), "tree_call", 2**32 - 1)
         self.refused(7, Graph(1, [2, 2, MARK, 4, 2, 2], [6]), "tree_call", 2)
+        for root in [0, 3, 5, 2**32 - 1]:
+            self.refused(7, p1(), "preview", root)
+        self.refused(7, Graph(5, [3, 5, 6, 13, 8, 11], [14]), "preview", 6)
+        self.refused(5, Graph(3, [2, 4, 8], [8]), "preview", 3)
+        self.refused(3, Graph(0, [0] * 300003, []), "preview", 0)
         self.refused(4, p1(), "evaluate", [1, 2])
         self.refused(3, Graph(4097, [], []), "settle")
         self.refused(3, Graph(0, [0] * 300003, []), "write")
@@ -292,10 +349,16 @@ class Bad(unittest.TestCase):
         ]:
             with self.assertRaises(error):
                 Graph(inputs, nodes, outputs)
-        for call, arguments in [("node_call", [4.0]), ("pair_call", [4, "1"]), ("evaluate", ["abc"]), ("tree_call", [None])]:
+        for call, arguments in [
+            ("node_call", [4.0]),
+            ("pair_call", [4, "1"]),
+            ("evaluate", ["abc"]),
+            ("tree_call", [None]),
+            ("preview", ["4"]),
+        ]:
             with self.assertRaises(TypeError):
                 getattr(p1(), call)(*arguments)
-        for call, arguments in [("node_call", [-1]), ("pair_call", [4, 2**32]), ("evaluate", [[0, 0, 2**64]])]:
+        for call, arguments in [("node_call", [-1]), ("pair_call", [4, 2**32]), ("evaluate", [[0, 0, 2**64]]), ("preview", [-1])]:
             with self.assertRaises(ValueError):
                 getattr(p1(), call)(*arguments)
         for bad in ["text", None, 3, [1, 2]]:
