@@ -1,50 +1,54 @@
 //! The tree call, and settling in linear time a round. Words stay where they are; a node's readers are turned by one pending bit, which a last
 //! sweep writes out. Readers, roots and trees are found once, since no move changes the wiring.
 
+use std::ops::Deref;
+
 use super::calls::{is_node, readers_of, Tables};
 use super::decide::{best_pair, flags, least_of, Costs, Numbers};
 use super::{admit, complemented, Number, View};
 use reducer::{Settled, MARK};
 
 #[derive(Clone, Copy, Default)]
-struct Kept {
-    readers: u32,
+pub(super) struct Kept {
+    pub(super) readers: u32,
     /// How many of them are complemented now.
-    odd: u32,
+    pub(super) odd: u32,
     /// Whether all readers are turned relative to what the tables hold.
     pending: u32,
     /// The place of the only reading word, or the mark at a root.
-    place: u32,
+    pub(super) place: u32,
     /// How much its cost, shown 0 and 1, exceeds the other: two bits.
-    costs: u32,
+    pub(super) costs: u32,
     /// The next node of its tree by rising index, and by falling index; at a root, the tree's lowest.
     above: u32,
-    below: u32,
-    lowest: u32,
+    pub(super) below: u32,
+    pub(super) lowest: u32,
 }
 
-struct Settling<'a> {
+/// Tables that are written, or only read, and what is kept of each node.
+pub(super) struct State<Words, Outs> {
     inputs: u32,
     /// Three words a node.
-    words: &'a mut [[u32; 3]],
-    outs: &'a mut [u32],
-    kept: Vec<Kept>,
-    count: u32,
+    pub(super) words: Words,
+    pub(super) outs: Outs,
+    pub(super) kept: Vec<Kept>,
+    pub(super) count: u32,
 }
 
-impl Settling<'_> {
-    fn new<'a>(t: &'a mut Tables) -> Settling<'a> {
-        let count = complemented(&t.view());
-        let kept = vec![Kept::default(); t.nodes as usize];
-        let (words, _) = t.node_table[..3 * kept.len()].as_chunks_mut();
-        let mut s = Settling { inputs: t.inputs, words, outs: &mut t.output_table[..t.outputs as usize], kept, count };
+type Settling<'a> = State<&'a mut [[u32; 3]], &'a mut [u32]>;
+
+impl<Words: Deref<Target = [[u32; 3]]>, Outs: Deref<Target = [u32]>> State<Words, Outs> {
+    /// With everything found; count is C.
+    pub(super) fn new(inputs: u32, words: Words, outs: Outs, count: u32) -> Self {
+        let kept = vec![Kept::default(); words.len()];
+        let mut s = State { inputs, words, outs, kept, count };
         s.find_readers();
         s.find_trees();
         s
     }
 
     /// Where the node that a word names is kept: beyond the end for the mark, the constant and the inputs.
-    fn node_of(&self, word: u32) -> usize {
+    pub(super) fn node_of(&self, word: u32) -> usize {
         (word / 2).wrapping_sub(self.inputs + 1) as usize
     }
 
@@ -92,7 +96,7 @@ impl Settling<'_> {
         }
     }
 
-    fn is_xor(&self, v: usize) -> bool {
+    pub(super) fn is_xor(&self, v: usize) -> bool {
         self.words[v][2] == MARK
     }
 
@@ -124,8 +128,32 @@ impl Settling<'_> {
         }
     }
 
-    fn tree_costs(&self, v: usize) -> Costs {
+    pub(super) fn tree_costs(&self, v: usize) -> Costs {
         self.words[v].map(|word| self.edge_costs(word))
+    }
+
+    fn store_costs(&mut self, v: usize) {
+        let costs = self.tree_costs(v);
+        let least = |readers| least_of(self.is_xor(v), &costs, readers).cost;
+        let (a, b) = (least([0, 1]), least([1, 0]));
+        self.kept[v].costs = a.saturating_sub(b) | b.saturating_sub(a) << 1;
+    }
+
+    /// The costs of a tree's nodes by rising index, all but the root's.
+    pub(super) fn store_tree_costs(&mut self, root: usize) {
+        let mut v = self.kept[root].lowest as usize;
+        while v != root {
+            self.store_costs(v);
+            v = self.kept[v].above as usize;
+        }
+    }
+}
+
+impl<'a> Settling<'a> {
+    fn of(t: &'a mut Tables) -> Settling<'a> {
+        let count = complemented(&t.view());
+        let (words, _) = t.node_table[..3 * t.nodes as usize].as_chunks_mut();
+        State::new(t.inputs, words, &mut t.output_table[..t.outputs as usize], count)
     }
 
     fn turn_word(&mut self, v: usize, k: usize) {
@@ -155,20 +183,10 @@ impl Settling<'_> {
         }
     }
 
-    fn store_costs(&mut self, v: usize) {
-        let costs = self.tree_costs(v);
-        let least = |readers| least_of(self.is_xor(v), &costs, readers).cost;
-        let (a, b) = (least([0, 1]), least([1, 0]));
-        self.kept[v].costs = a.saturating_sub(b) | b.saturating_sub(a) << 1;
-    }
-
     fn tree_step(&mut self, root: usize) {
+        self.store_tree_costs(root);
         let lowest = self.kept[root].lowest as usize;
-        let mut v = lowest;
-        while v != root {
-            self.store_costs(v);
-            v = self.kept[v].above as usize;
-        }
+        let mut v = root;
         loop {
             let own = self.own_numbers(v);
             let number = Numbers { costs: self.tree_costs(v), ..own }.best().number;
@@ -239,7 +257,7 @@ pub fn settle(t: &mut Tables, scratch: usize) -> Result<Settled, Number> {
     if scratch < 8 * t.nodes as usize {
         return Err(8);
     }
-    let mut s = Settling::new(t);
+    let mut s = Settling::of(t);
     let before = s.count;
     let mut rounds = 0;
     loop {
@@ -256,7 +274,7 @@ pub fn settle(t: &mut Tables, scratch: usize) -> Result<Settled, Number> {
 }
 
 /// A root is found by a scan, before scratch is looked at.
-fn is_root(g: &View, root: u32) -> bool {
+pub(super) fn is_root(g: &View, root: u32) -> bool {
     readers_of(g, root).0 != 1 || g.outs().iter().any(|&word| word / 2 == root)
 }
 
@@ -270,7 +288,7 @@ pub fn tree_call(t: &mut Tables, root: u32, scratch: usize) -> Result<u32, Numbe
         return Err(8);
     }
     let v = (root - g.inputs - 1) as usize;
-    let mut s = Settling::new(t);
+    let mut s = Settling::of(t);
     let before = s.count;
     s.tree_step(v);
     let saved = before - s.count;
