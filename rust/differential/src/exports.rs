@@ -37,7 +37,7 @@ fn check_room(g: &Graph, scratch: usize, room: usize) -> Result<Result<usize, u3
     Ok(number)
 }
 
-fn owned(g: &Graph) -> reducer::Graph {
+pub fn owned(g: &Graph) -> reducer::Graph {
     let size = reducer::Size { inputs: g.inputs, nodes: g.nodes, outputs: g.outputs };
     reducer::Graph { size, node_table: g.node_table.clone(), output_table: g.output_table.clone() }
 }

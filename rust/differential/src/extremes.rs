@@ -138,8 +138,14 @@ fn check_meaning(before: &Graph, (answer, after): &Outcome) -> Result<(), String
     Ok(())
 }
 
+impl Extreme {
+    pub fn graph(&self, seed: u64) -> Graph {
+        (self.build)(&mut Random::new(seed))
+    }
+}
+
 pub fn check(extreme: &Extreme, seed: u64) -> Result<(), String> {
-    let start = (extreme.build)(&mut Random::new(seed));
+    let start = extreme.graph(seed);
     let scratch = 8 * start.nodes as usize;
     let mut g = start.clone();
     let got = (raw::step(&mut g, Call::Settle, scratch)?, g);

@@ -2,6 +2,7 @@
 //! where a call is refused.
 
 use crate::cases::Case;
+use crate::previews;
 use crate::raw;
 use reference::calls::{self, Call};
 use reference::graph::{complemented_edges, Graph};
@@ -62,7 +63,21 @@ fn check_calls(g: &Graph, call: Call) -> Result<u64, String> {
         same(&format!("the tables after {what}"), &got, &due)?;
         done += 1;
     }
-    Ok(done)
+    match call {
+        Call::Tree(root) => Ok(done + check_previews(g, root)?),
+        _ => Ok(done),
+    }
+}
+
+/// Previews of what may be no graph, with a byte and a word of scratch too few, just enough, and more.
+fn check_previews(g: &Graph, root: u32) -> Result<u64, String> {
+    let nodes = g.nodes as usize;
+    for bytes in [nodes.saturating_sub(1), nodes, nodes + 1] {
+        for scratch in [(8 * nodes).saturating_sub(1), 8 * nodes, 8 * nodes + 1] {
+            previews::check_one(g, root, bytes, scratch)?;
+        }
+    }
+    Ok(9)
 }
 
 fn check_evaluation(g: &Graph, random: &mut Random) -> Result<u64, String> {
@@ -217,7 +232,27 @@ fn check_limit(g: &Graph) -> Result<u64, String> {
     same(&format!("writing {what}"), &raw::write(g, &mut buffer)?.map(|_| ()), &admitted)?;
     let mut text = vec![0; 30 + 5 * 4_096 + 84 * 100_000 + 7 * 4_096];
     same(&format!("exporting {what}"), &raw::export(g, 100_000, &mut text)?.map(|_| ()), &admitted)?;
-    Ok(4)
+    Ok(4 + check_previews_at_limits(&what, g, admitted)?)
+}
+
+/// No word names a node, and no move saves anything.
+fn check_previews_at_limits(what: &str, g: &Graph, admitted: Result<(), u32>) -> Result<u64, String> {
+    let last = g.inputs.wrapping_add(g.nodes);
+    for bytes in [100_000, 99_999] {
+        let due = match admitted {
+            Err(number) => Err(number),
+            Ok(()) if bytes < g.nodes as usize => Err(4),
+            Ok(()) if g.nodes == 0 => Err(7),
+            Ok(()) => Ok(0),
+        };
+        let (mut lent, mut moves) = (g.clone(), vec![0xee; bytes]);
+        let what = format!("the preview of {what} with {bytes} bytes");
+        same(&what, &raw::preview(&mut lent, last, &mut moves, 800_000)?, &due)?;
+        let told = if due.is_ok() { g.nodes as usize } else { 0 };
+        let kept = moves[..told].iter().all(|&byte| byte == 0) && moves[told..].iter().all(|&byte| byte == 0xee);
+        same(&format!("the bytes and tables after {what}"), &(kept && lent == *g), &true)?;
+    }
+    Ok(2)
 }
 
 /// Each word of the graph set to the last literal allowed, the first not allowed, and the mark.

@@ -11,6 +11,8 @@ pub mod files;
 pub mod lengths;
 pub mod lists;
 pub mod plain;
+pub mod preview_faults;
+pub mod previews;
 pub mod raw;
 pub mod replays;
 pub mod shrink;

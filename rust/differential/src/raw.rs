@@ -221,6 +221,36 @@ pub fn tree(g: &mut Graph, root: u32, scratch: &mut [u32]) -> Answered<u32> {
     answered(number, saving, CANARY)
 }
 
+/// With so many words of scratch, which a refused call must leave. The tables are only read; the graph is one that may change, so that
+/// the caller can see whether it did.
+pub fn preview(g: &mut Graph, root: u32, moves: &mut [u8], scratch: usize) -> Answered<u32> {
+    let mut saving = CANARY;
+    let mut lent = vec![CANARY; scratch];
+    let number = unsafe {
+        raw::reducer_preview(
+            g.inputs,
+            g.nodes,
+            g.outputs,
+            g.node_table.as_mut_ptr(),
+            g.node_table.len(),
+            g.output_table.as_mut_ptr(),
+            g.output_table.len(),
+            root,
+            moves.as_mut_ptr(),
+            moves.len(),
+            lent.as_mut_ptr(),
+            lent.len(),
+            &mut saving,
+        )
+    };
+    match answered(number, saving, CANARY)? {
+        Err(number) if lent.iter().any(|&word| word != CANARY) => {
+            Err(format!("refused by {number}, and yet scratch is changed"))
+        }
+        answer => Ok(answer),
+    }
+}
+
 pub fn settle(g: &mut Graph, scratch: &mut [u32]) -> Answered<Settled> {
     let canary = [CANARY; 3];
     let mut figures = canary;

@@ -8,15 +8,18 @@ use std::time::Instant;
 use differential::cases::{Case, Step};
 use differential::extremes::{self, EXTREMES};
 use differential::shrink::hold;
-use differential::{exports, faults, files, lengths, lists, raw, replays, stored, text_limits, texts};
+use differential::{
+    exports, faults, files, lengths, lists, preview_faults, previews, raw, replays, stored, text_limits, texts,
+};
 use reference::calls::Call;
 use reference::generate::{graph, Shape};
+use reference::graph::Graph;
 use reference::random::Random;
 
 /// What one kind of test does with a seed: how many cases it tried, or what failed.
 type Kind = (&'static str, u64, fn(u64) -> Result<u64, String>);
 
-const KINDS: [Kind; 20] = [
+const KINDS: [Kind; 25] = [
     ("stored cases of single calls and evaluation", 1, stored),
     ("the plain implementation, lists of calls", 30_000, plain_lists),
     ("lists of calls on small graphs", 80_000, small_lists),
@@ -37,6 +40,11 @@ const KINDS: [Kind; 20] = [
     ("exports, and imports of them", 10_000, exported),
     ("exports where literals grow by a digit", 60, exported_around_tens),
     ("exports at the limits", 1, exported_at_limits),
+    ("previews, and tree calls on copies", 40_000, previewed),
+    ("previews with every choice of faults of known numbers", 1, faulty_previews),
+    ("previews of trees of hundreds of nodes", 300, previewed_deep),
+    ("previews on thousands of nodes", 20, previewed_large),
+    ("previews at the limits", EXTREMES.len() as u64, previewed_at_limits),
 ];
 
 fn stored(_: u64) -> Result<u64, String> {
@@ -80,12 +88,17 @@ fn settled(seed: u64) -> Result<u64, String> {
     Ok(1)
 }
 
+/// The largest that the limits allow, and smaller ones.
+fn large_graph(random: &mut Random, seed: u64) -> Graph {
+    let shape = TALL[(seed % 4) as usize];
+    let nodes = if seed < 4 { 100_000 } else { random.between(2_000, 20_000) };
+    graph(random, shape, 4_096, nodes, 4_096)
+}
+
 fn large(seed: u64) -> Result<u64, String> {
     let mut random = Random::new(seed);
-    let shape = TALL[(seed % 4) as usize];
-    // The largest that the limits allow, and smaller ones.
-    let nodes = if seed < 4 { 100_000 } else { random.between(2_000, 20_000) };
-    let graph = graph(&mut random, shape, 4_096, nodes, 4_096);
+    let graph = large_graph(&mut random, seed);
+    let nodes = graph.nodes;
     let node = |random: &mut Random| random.between(4_097, 4_096 + nodes);
     let mut calls = vec![Call::Node(node(&mut random)), Call::Pair(node(&mut random), 1)];
     calls.extend((0..6).map(|_| Call::Tree(node(&mut random))));
@@ -166,6 +179,32 @@ fn exported_at_limits(_: u64) -> Result<u64, String> {
     let graphs = exports::at_limits();
     graphs.iter().try_for_each(exports::check_large)?;
     Ok(graphs.len() as u64)
+}
+
+fn previewed(seed: u64) -> Result<u64, String> {
+    let case = previews::random_case(seed);
+    let count = previews::previews_of(&case);
+    hold(seed, case, &previews::check_preview)?;
+    Ok(count)
+}
+
+fn faulty_previews(_: u64) -> Result<u64, String> {
+    preview_faults::check_faults()
+}
+
+fn previewed_deep(seed: u64) -> Result<u64, String> {
+    previews::check_large(&previews::deep(seed), seed).map_err(|wrong| format!("seed {seed}: {wrong}"))
+}
+
+fn previewed_large(seed: u64) -> Result<u64, String> {
+    previews::check_large(&large_graph(&mut Random::new(seed), seed), seed)
+        .map_err(|wrong| format!("seed {seed}: {wrong}"))
+}
+
+fn previewed_at_limits(seed: u64) -> Result<u64, String> {
+    let Some(extreme) = EXTREMES.get(seed as usize) else { return Ok(0) };
+    let checked = previews::check_large(&extreme.graph(seed), seed);
+    checked.map_err(|wrong| format!("seed {seed}: {}: {wrong}", extreme.name))
 }
 
 fn run(kind: &Kind, only: Option<u64>) -> Result<u64, String> {

@@ -1,0 +1,74 @@
+//! A preview with every choice of some faults. Its number is known without any implementation: the first in the order 3, 4, 5, 7, 8.
+
+use crate::lists::differ;
+use crate::previews::check_one;
+use reference::graph::{Graph, MARK};
+
+/// A preview in the making.
+#[derive(Clone)]
+struct Asked {
+    g: Graph,
+    root: u32,
+    bytes: usize,
+    scratch: usize,
+}
+
+/// A number, and what brings it about.
+type Fault = (u32, fn(&mut Asked));
+
+/// Faults of one thing each: no two of a list can be had together.
+static FAULTS: [&[Fault]; 10] = [
+    &[(3, |asked| asked.g.inputs = 4_097)],
+    &[(3, |asked| asked.g.nodes = 100_001), (3, |asked| asked.g.nodes = u32::MAX)],
+    &[(3, |asked| asked.g.outputs = 4_097)],
+    &[(4, |asked| asked.g.node_table.truncate(8)), (4, |asked| asked.g.node_table.clear())],
+    &[(4, |asked| asked.g.output_table.truncate(1))],
+    &[(4, |asked| asked.bytes = 2), (4, |asked| asked.bytes = 0)],
+    // A node that names itself, and marks where they may not be.
+    &[(5, |asked| asked.g.node_table[0] = 6), (5, |asked| asked.g.node_table[1] = MARK)],
+    &[(5, |asked| asked.g.output_table[0] = 12), (5, |asked| asked.g.output_table[0] = MARK)],
+    // An input, no index, and a node that another reads.
+    &[
+        (7, |asked| asked.root = 2),
+        (7, |asked| asked.root = 6),
+        (7, |asked| asked.root = MARK),
+        (7, |asked| asked.root = 3),
+    ],
+    &[(8, |asked| asked.scratch = 23), (8, |asked| asked.scratch = 0)],
+];
+
+/// All three nodes are the tree of node 5, whose best moves save 2.
+fn without_faults() -> Asked {
+    let node_table = vec![3, 5, 2, 7, 4, MARK, 2, 5, 8];
+    let g = Graph { inputs: 2, nodes: 3, outputs: 2, node_table, output_table: vec![11, 5] };
+    Asked { g, root: 5, bytes: 3, scratch: 24 }
+}
+
+/// These faults, which are made last to first, since a table must have the word that is changed in it.
+fn check(faults: &[&Fault]) -> Result<(), String> {
+    let mut asked = without_faults();
+    faults.iter().rev().for_each(|(_, make)| make(&mut asked));
+    let numbers: Vec<u32> = faults.iter().map(|fault| fault.0).collect();
+    let due = numbers.iter().min().map_or(Ok(2), |&number| Err(number));
+    let Asked { g, root, bytes, scratch } = asked;
+    let told = check_one(&g, root, bytes, scratch).map_err(|wrong| format!("faults {numbers:?}: {wrong}"))?;
+    differ(&format!("a preview with faults {numbers:?}"), &told.answer, &due)
+}
+
+/// These faults with each choice of one or none of every list: how many choices.
+fn check_with(faults: &mut Vec<&'static Fault>, lists: &'static [&[Fault]]) -> Result<u64, String> {
+    let Some((list, rest)) = lists.split_first() else {
+        return check(faults).map(|_| 1);
+    };
+    let mut done = check_with(faults, rest)?;
+    for fault in *list {
+        faults.push(fault);
+        done += check_with(faults, rest)?;
+        faults.pop();
+    }
+    Ok(done)
+}
+
+pub fn check_faults() -> Result<u64, String> {
+    check_with(&mut Vec::new(), &FAULTS)
+}

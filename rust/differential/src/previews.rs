@@ -1,0 +1,183 @@
+//! Previews, held to the other implementations, and to the tree call on a copy of the graph.
+
+use crate::cases::{random_graph, Case, Step};
+use crate::exports::owned;
+use crate::lists::{differ, tables};
+use crate::plain;
+use crate::raw;
+use reference::calls::{Answer, Call};
+use reference::fast::Fast;
+use reference::generate::{graph, Shape};
+use reference::graph::{Graph, MARK};
+use reference::moves;
+use reference::preview;
+use reference::random::Random;
+
+/// What the bytes hold before a preview.
+const CANARY: u8 = 0xee;
+
+/// A tree call at each node and at two indices that are none, the scratch a word too short at times.
+pub fn random_case(seed: u64) -> Case {
+    let mut random = Random::new(seed);
+    let graph = random_graph(&mut random, 6, 9, 4);
+    let none = [random.below(graph.inputs + 1), [graph.inputs + graph.nodes + 1, MARK][random.below(2) as usize]];
+    let mut steps = Vec::new();
+    for root in graph.node_indices().chain(none) {
+        let spare = if random.one_in(12) { -1 } else { random.below(3) as i64 };
+        steps.push(Step { call: Call::Tree(root), spare });
+    }
+    Case { graph, steps, seed }
+}
+
+/// What a preview answers, and the bytes after it.
+pub struct Told {
+    pub answer: Result<u32, u32>,
+    pub bytes: Vec<u8>,
+}
+
+/// One preview by all three, with so many bytes and words of scratch.
+pub fn check_one(g: &Graph, root: u32, bytes: usize, scratch: usize) -> Result<Told, String> {
+    let what = format!("the preview at {root} with {bytes} bytes and scratch {scratch}");
+    let mut due = vec![CANARY; bytes];
+    let (mut got, mut plainly, mut lent) = (due.clone(), due.clone(), g.clone());
+    let answer = preview::preview(g, root, scratch, &mut due);
+    differ(&what, &raw::preview(&mut lent, root, &mut got, scratch)?, &answer)?;
+    differ(&format!("the bytes after {what}"), &got, &due)?;
+    differ(&format!("the tables after {what}"), &lent, g)?;
+    let plain = plain::preview::preview(&tables(&mut lent).view(), root, &mut plainly, scratch);
+    differ(&format!("plain: {what}"), &plain, &answer)?;
+    differ(&format!("plain: the bytes after {what}"), &plainly, &due)?;
+    Ok(Told { answer, bytes: got })
+}
+
+/// That the tree call on a copy answers the same, and ends where the moves lead, made one by one.
+fn check_call(g: &Graph, root: u32, scratch: usize, answer: Result<u32, u32>, told: &[u8]) -> Result<(), String> {
+    let mut called = g.clone();
+    let due = raw::step(&mut called, Call::Tree(root), scratch)?;
+    differ(&format!("the preview at {root}"), &answer.map_or_else(Answer::Refused, Answer::Saving), &due)?;
+    let mut moved = g.clone();
+    if answer.is_ok() {
+        for (node, &number) in g.node_indices().zip(told) {
+            moves::make(&mut moved, node, number as usize);
+        }
+    }
+    differ(&format!("the graph after the moves previewed at {root}"), &moved, &called)
+}
+
+/// A small graph: bytes that are enough, that have a tail, and that are too few; the owned call, and the tree call.
+pub fn check_preview(case: &Case) -> Result<(), String> {
+    let g = &case.graph;
+    let nodes = g.nodes as usize;
+    for step in &case.steps {
+        let Call::Tree(root) = step.call else { continue };
+        let scratch = step.scratch(g);
+        for bytes in [nodes.saturating_sub(1), nodes / 2].into_iter().filter(|&bytes| bytes < nodes) {
+            differ(&format!("{bytes} bytes"), &check_one(g, root, bytes, scratch)?.answer, &Err(4))?;
+        }
+        let Told { answer, bytes } = check_one(g, root, nodes + (case.seed % 3) as usize, scratch)?;
+        differ("the later bytes", &bytes[nodes..].iter().all(|&byte| byte == CANARY), &true)?;
+        check_call(g, root, scratch, answer, &bytes[..nodes])?;
+        if step.spare >= 0 {
+            let due = answer.map(|saving| reducer::Preview { saving, moves: bytes[..nodes].to_vec() });
+            let got = owned(g).preview(root).map_err(reducer::Refusal::number);
+            differ(&format!("an owned graph's preview at {root}"), &got, &due)?;
+        }
+    }
+    Ok(())
+}
+
+/// How many previews `check_preview` makes through the C interface as it stands.
+pub fn previews_of(case: &Case) -> u64 {
+    let rooms = match case.graph.nodes {
+        0 => 1,
+        _ => 3,
+    };
+    rooms * case.steps.len() as u64
+}
+
+/// A tree as high as it has nodes: each names the one before it once, and else inputs and the constant.
+fn chain(random: &mut Random, nodes: u32) -> Graph {
+    let inputs = 12;
+    let mut node_table = Vec::new();
+    for node in inputs + 1..=inputs + nodes {
+        let mut words = [0; 3].map(|_| random.below(2 * inputs + 2));
+        if random.one_in(2) {
+            words[2] = MARK;
+        }
+        words[random.below(2) as usize] = 2 * (node - 1) + random.bit();
+        node_table.extend(words);
+    }
+    let output_table = vec![2 * (inputs + nodes) + random.bit()];
+    Graph { inputs, nodes, outputs: 1, node_table, output_table }
+}
+
+/// A graph of hundreds of nodes, its last node the root of a large tree.
+pub fn deep(seed: u64) -> Graph {
+    let mut random = Random::new(seed);
+    let nodes = random.between(100, 500);
+    match seed % 2 {
+        0 => chain(&mut random, nodes),
+        _ => graph(&mut random, Shape::Tree, 12, nodes, 3),
+    }
+}
+
+/// What a preview of a graph that is too large to be shown answers, where all that it must leave is left.
+fn check_kept(g: &Graph, root: u32) -> Result<Told, String> {
+    let nodes = g.nodes as usize;
+    let (mut lent, mut bytes) = (g.clone(), vec![CANARY; nodes + 1]);
+    let answer = raw::preview(&mut lent, root, &mut bytes, 8 * nodes)?;
+    let kept = if answer.is_ok() { &bytes[nodes..] } else { &bytes };
+    if lent != *g || kept.iter().any(|&byte| byte != CANARY) {
+        return Err(format!("the preview at {root} has changed what it must leave"));
+    }
+    Ok(Told { answer, bytes })
+}
+
+fn check_plain(g: &Graph, root: u32, due: &Told) -> Result<(), String> {
+    let mut bytes = vec![CANARY; due.bytes.len()];
+    let answer = plain::preview::preview(&tables(&mut g.clone()).view(), root, &mut bytes, 8 * g.nodes as usize);
+    differ(&format!("plain: the preview at {root}"), &answer, &due.answer)?;
+    if bytes != due.bytes {
+        return Err(format!("plain: the bytes after the preview at {root}"));
+    }
+    Ok(())
+}
+
+/// The same, held to the fast form of the reference, and the tree call to where the moves lead.
+fn check_by_fast(g: &Graph, fast: &mut Fast, root: u32) -> Result<(), String> {
+    let got = check_kept(g, root)?;
+    let mut called = g.clone();
+    let due = raw::step(&mut called, Call::Tree(root), 8 * g.nodes as usize)?;
+    differ(&format!("the preview at {root}"), &got.answer.map_or_else(Answer::Refused, Answer::Saving), &due)?;
+    if !fast.is_root(root) {
+        differ(&format!("the preview at {root}, which is no root"), &got.answer, &Err(7))?;
+        return check_plain(g, root, &got);
+    }
+    let (saving, told) = fast.preview(root);
+    differ(&format!("the preview at {root}, held to the reference"), &got.answer, &Ok(saving))?;
+    if got.bytes[..told.len()] != told {
+        return Err(format!("the moves previewed at {root}"));
+    }
+    check_plain(g, root, &got)?;
+    let make = |fast: &mut Fast| g.node_indices().zip(&told).for_each(|(node, &number)| fast.make(node, number.into()));
+    make(fast);
+    if fast.g != called {
+        return Err(format!("the graph after the moves previewed at {root}"));
+    }
+    // Made once more, each move is taken back.
+    make(fast);
+    Ok(())
+}
+
+/// At the last node, where large trees have their root, at the first, and at some between: how many.
+pub fn check_large(g: &Graph, seed: u64) -> Result<u64, String> {
+    let mut random = Random::new(seed);
+    let (first, last) = (g.inputs + 1, g.inputs + g.nodes);
+    let mut indices = vec![first, last];
+    indices.extend((0..4).map(|_| random.between(first, last)));
+    let mut fast = Fast::new(g.clone());
+    for &root in &indices {
+        check_by_fast(g, &mut fast, root)?;
+    }
+    Ok(indices.len() as u64)
+}
