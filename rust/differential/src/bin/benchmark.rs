@@ -96,6 +96,7 @@ fn batch(shape: Shape, nodes: u32) -> Vec<Sample> {
 struct Lent {
     buffer: Vec<u8>,
     words: Vec<u64>,
+    moves: Vec<u8>,
     scratch: Vec<u32>,
     long_scratch: Vec<u64>,
     results: Vec<u64>,
@@ -107,6 +108,7 @@ impl Lent {
             // Enough for a file too.
             buffer: vec![0; text_bytes(size)],
             words: (0..size.inputs as u64).map(|k| (k + 1).wrapping_mul(0x9e37_79b9_7f4a_7c15)).collect(),
+            moves: vec![0; size.nodes as usize],
             scratch: vec![0; scratch_words(size.nodes)],
             long_scratch: vec![0; size.nodes as usize],
             results: vec![0; size.outputs as usize],
@@ -161,6 +163,12 @@ mod proved {
         s.roots.iter().map(call).sum()
     }
 
+    pub fn preview(s: &mut Sample, l: &mut Lent) -> u64 {
+        let (size, nodes, outputs) = (s.size(), &s.g.node_table, &s.g.output_table);
+        let call = |&v: &u32| lent::preview(size, nodes, outputs, v, &mut l.moves, &mut l.scratch).unwrap() as u64;
+        s.roots.iter().map(call).sum()
+    }
+
     pub fn settle(s: &mut Sample, l: &mut Lent) -> u64 {
         lent::settle(s.size(), &mut s.g.node_table, &mut s.g.output_table, &mut l.scratch).unwrap().rounds.into()
     }
@@ -170,7 +178,7 @@ mod proved {
 mod plain {
     use super::{Lent, Sample};
     use differential::lists::tables;
-    use differential::plain::{aiger, calls, evaluate, file, settle, sweeps};
+    use differential::plain::{aiger, calls, evaluate, file, preview, settle, sweeps};
 
     pub fn load(s: &mut Sample, _: &mut Lent) -> u64 {
         file::load(&s.file, &mut s.g.node_table, &mut s.g.output_table).unwrap().1.into()
@@ -213,6 +221,12 @@ mod plain {
         s.roots.iter().map(|&v| sweeps::tree_call(&mut t, v, l.scratch.len()).unwrap() as u64).sum()
     }
 
+    pub fn preview(s: &mut Sample, l: &mut Lent) -> u64 {
+        let t = tables(&mut s.g);
+        let call = |&v: &u32| preview::preview(&t.view(), v, &mut l.moves, l.scratch.len()).unwrap() as u64;
+        s.roots.iter().map(call).sum()
+    }
+
     pub fn settle(s: &mut Sample, l: &mut Lent) -> u64 {
         settle::settle(&mut tables(&mut s.g), l.scratch.len()).unwrap().rounds.into()
     }
@@ -228,9 +242,11 @@ struct Call {
     plain: Made,
 }
 
+const TREE: &str = "tree";
+const PREVIEW: &str = "preview";
 const SETTLE: &str = "settle";
 
-const CALLS: [Call; 10] = [
+const CALLS: [Call; 11] = [
     Call { name: "load", times: 1, proved: proved::load, plain: plain::load },
     Call { name: "write", times: 1, proved: proved::write, plain: plain::write },
     // Of as many ANDs as there are nodes, and to three or four for each node.
@@ -240,8 +256,10 @@ const CALLS: [Call; 10] = [
     Call { name: "node", times: SPREAD, proved: proved::node, plain: plain::node },
     Call { name: "pair", times: SPREAD, proved: proved::pair, plain: plain::pair },
     // Beside the same programme in plain Rust, and beside one that sweeps all nodes.
-    Call { name: "tree", times: SPREAD, proved: proved::tree, plain: plain::tree },
+    Call { name: TREE, times: SPREAD, proved: proved::tree, plain: plain::tree },
     Call { name: "tree, by sweeps", times: SPREAD, proved: proved::tree, plain: plain::tree_by_sweeps },
+    // At the roots of the tree call, so that its rows are to be read beside those of "tree".
+    Call { name: PREVIEW, times: SPREAD, proved: proved::preview, plain: plain::preview },
     Call { name: SETTLE, times: 1, proved: proved::settle, plain: plain::settle },
 ];
 
@@ -279,7 +297,7 @@ impl Side {
     fn same(&self, other: &Side) -> bool {
         let graphs = self.samples.iter().zip(&other.samples).all(|(ours, theirs)| ours.g == theirs.g);
         let lent = self.lent.buffer == other.lent.buffer && self.lent.results == other.lent.results;
-        graphs && lent && self.answers == other.answers
+        graphs && lent && self.lent.moves == other.lent.moves && self.answers == other.answers
     }
 }
 
@@ -371,6 +389,30 @@ fn growth(shape: &str, figures: &[Figure]) -> String {
     format!("{shape}: proved {proved:.2}, plain {plain:.2}")
 }
 
+/// The figures of a call on a shape, by size.
+struct Row {
+    call: &'static str,
+    shape: &'static str,
+    figures: [Figure; SIZES.len()],
+}
+
+/// For each shape that both were timed on, preview's times over the tree call's, by size. The tree call is made on what the one at the
+/// root before has left.
+fn preview_over_tree(rows: &[Row]) -> Vec<String> {
+    let of = |call: &'static str| rows.iter().filter(move |row| row.call == call);
+    let both =
+        of(PREVIEW).flat_map(|told| of(TREE).filter(|made| made.shape == told.shape).map(move |made| (told, made)));
+    let ratios = |told: &Row, made: &Row, time: fn(&Figure) -> f64| {
+        let ratio = |at: usize| format!("{:.2}", time(&told.figures[at]) / time(&made.figures[at]));
+        (0..SIZES.len()).map(ratio).collect::<Vec<String>>().join(", ")
+    };
+    let line = |(told, made): (&Row, &Row)| {
+        let (proved, plain) = (ratios(told, made, |figure| figure.proved), ratios(told, made, |figure| figure.plain));
+        format!("{}: proved {proved}; plain {plain}", told.shape)
+    };
+    both.map(line).collect()
+}
+
 /// Settling as it would be without a state between calls: each call scans the tables. Roots never change.
 mod by_calls {
     use super::{Lent, Sample};
@@ -430,21 +472,26 @@ const BEFORE: &str = "before";
 const HEAD: &str = "| call | graph | nodes | proved, µs | plain, µs | proved, ns a node | plain, ns a node | \
     rounds | proved, ns a node and round | ratio |";
 
-/// Times the calls named on the command line, or all; `before` is settling without a state between calls.
+/// Times the calls named on the command line, or all; `before` is settling without a state between calls. `tree preview` times
+/// just these two, and says the ratio.
 fn main() {
     println!("{HEAD}\n|---|---|---|---|---|---|---|---|---|---|");
     let wanted: Vec<String> = std::env::args().skip(1).collect();
-    let mut grown = Vec::new();
+    let mut rows = Vec::new();
     let chosen = |name: &str| wanted.is_empty() || wanted.iter().any(|word| word == name);
     for call in CALLS.iter().filter(|call| chosen(call.name)) {
         for (name, shape) in SHAPES {
             let figures = time(call, shape);
             figures.iter().for_each(|figure| figure.print(call, name));
-            if call.name == SETTLE {
-                grown.push(growth(name, &figures));
-            }
+            rows.push(Row { call: call.name, shape: name, figures });
         }
     }
+    let over = preview_over_tree(&rows);
+    if !over.is_empty() {
+        println!("\nPreview over tree, at {SIZES:?} nodes:\n{}", over.join("\n"));
+    }
+    let settled = rows.iter().filter(|row| row.call == SETTLE);
+    let grown: Vec<String> = settled.map(|row| growth(row.shape, &row.figures)).collect();
     if !grown.is_empty() {
         let (small, large) = (SIZES[0], SIZES[SIZES.len() - 1]);
         println!("\nSettling, ns a node and round at {large} nodes over that at {small}: {}.", grown.join("; "));
