@@ -1,5 +1,6 @@
 pub mod Flags
 pub mod Moves
+pub mod NodeOf
 pub mod Apply
 pub mod Compose
 pub mod Values

@@ -105,6 +105,14 @@ pub fn wide(x: u32) -> usize
     x as usize
 }
 
+// Which node index u is, counted from 0: past every node where u is no node's. One test of the result then tells.
+pub fn node_of(inputs: u32, u: u32) -> u32
+    requires { ⌜ inputs ≤ 4096 ⌝ }
+    ensures { λ r. ⌜ (inputs < u → r ≡ u - (inputs + 1)) × (u ≤ inputs → 4294000000 ≤ r) ⌝ }
+{
+    std::num::wrapping_sub_u32(u, inputs + 1)
+}
+
 pub fn narrow(x: usize) -> u32
     requires { ⌜ x < 1000000 ⌝ }
     ensures { λ r. ⌜ r ≡ x ⌝ }

@@ -15,10 +15,7 @@ pub fn pending_of(inputs: u32, nodes: u32, u: u32, scratch: &[u32]) -> u32
     requires { ⌜ Pendings inputs nodes (now scratch) ⌝ }
     ensures { λ r. ⌜ (r ≡ pendingAt inputs nodes (now (scratch .entry)) u) × (r ≤ 1) ⌝ }
 {
-    if u <= inputs {
-        return 0;
-    }
-    let v = u - (inputs + 1);
+    let v = words::node_of(inputs, u);
     if nodes <= v {
         return 0;
     }

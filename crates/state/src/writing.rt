@@ -1,4 +1,4 @@
-// What is pending, written out: one sweep of each table, which stores only where something turns.
+// What is pending, written out: one sweep of each table.
 ghost use mathlib.Core.Path.{_≡_};
 ghost use Prim.Native.Nat.{_≤_, _<_};
 ghost use lib.ListN.{length};
@@ -15,9 +15,6 @@ pub fn write_word(inputs: u32, nodes: u32, words: &mut [u32], j: usize, scratch:
 {
     let u = table::index_at(words, j);
     let t = now::pending_of(inputs, nodes, u, scratch);
-    if t == 0 {
-        return;
-    }
     table::turn_word(words, j, t);
 }
 

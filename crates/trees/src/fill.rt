@@ -9,6 +9,7 @@ use crate::fields::store;
 use graph::literal::MARK;
 use graph::table::word_at;
 use moves::words::narrow;
+use moves::words::node_of;
 use moves::words::wide;
 
 pub fn clear(nodes: usize, scratch: &mut [u32])
@@ -28,11 +29,7 @@ pub fn note(inputs: usize, nodes: usize, x: u32, p: u32, f: usize, scratch: &mut
     requires { ⌜ Counting inputs nodes f (now scratch) 999999 ⌝ }
     ensures { λ _. ⌜ Noted inputs nodes f x p (now (scratch .entry)) (now (scratch .exit)) ⌝ }
 {
-    let u = wide(x / 2);
-    if u <= inputs {
-        return;
-    }
-    let v = u - (inputs + 1);
+    let v = wide(node_of(narrow(inputs), x / 2));
     if nodes <= v {
         return;
     }

@@ -1,11 +1,11 @@
--- `write_word` turns a word as often as is due, and stores nothing where that is never. From the laws of turned tables.
-use mathlib.Core.Path.{_≡_, ap, sym, _∙_}
+-- `write_word` turns a word as often as is due. From the laws of turned tables.
+use mathlib.Core.Path.{_≡_, ap, _∙_}
 use Prim.Native.Nat.{_/_, _<_}
 use native.Mathlib.Omega.{arith}
 use lib.ListN.{getD}
 use Rattle.graph.specs.Turned.{turnedTable, only}
 use Rattle.state.specs.State.{pendingAt, dueIn}
-use Rattle.state.proofs.Pending.{pending-names, none-turned}
+use Rattle.state.proofs.Pending.{pending-names}
 use borrow.Author.Needs.{needs}
 use Rattle.state.proofs.writing.write_word.Statement.{statement}
 use Rattle.state.proofs.writing.write_word.Tie as tie
@@ -17,12 +17,9 @@ is-due : (c : tie.After-pending-of)
     → c .pending-of .result ≡ dueIn (start c .args .inputs) (start c .args .nodes) (start c .args .scratch .now) (start c .args .words .now) (start c .args .j)
 is-due c = let a = start c .args in c .pending-of .ensures .0 ∙ ap (λ u. pendingAt (a .inputs) (a .nodes) (a .scratch .now) u) (c .before .index-at .ensures)
 
-returns : tie.Need-returns
-returns c = let a = start (c .before) .args in none-turned (a .words .now) (a .j) _ (sym (is-due (c .before)) ∙ c .if1 .taken)
-
 turn-word-requires : tie.Need-turn-word-requires
 turn-word-requires c κs =
-    let q = c .before .before in
+    let q = c .before in
     let s = start q in
     let a = s .args in (
       omega (arith, q .pending-of .ensures .1),
@@ -32,9 +29,9 @@ turn-word-requires c κs =
           omega (arith, pending-names (a .inputs) (a .nodes) (a .scratch .now) (getD (a .words .now) (a .j) 0 / 2) w, s .pre .0 .few-inputs, s .pre .0 .few-nodes),
     )
 
-returns-2 : tie.Need-returns-2
-returns-2 c =
-    let q = c .before .before .before .before .before in
+returns : tie.Need-returns
+returns c =
+    let q = c .before .before .before .before in
     let a = start q .args in
     c .before .before .turn-word .ensures ∙ ap (λ t. turnedTable (a .words .now) (only (a .j) t)) (is-due q)
 
@@ -44,8 +41,6 @@ write-word-spec =
     (tie.spec
     (λ c κs. search needs)
     (λ c κs. search needs)
-    (λ c. search needs)
-    returns
     turn-word-requires
     (λ c. search needs)
-    returns-2)
+    returns)
