@@ -6,6 +6,7 @@ pub mod Alike
 pub mod Turned
 pub mod Tests
 pub mod Steps
+pub mod Difference
 pub mod Answers
 pub mod Edge
 pub mod Adds

@@ -4,5 +4,6 @@ pub mod Turned
 pub mod Value
 pub mod Count
 pub mod Admission
+pub mod Difference
 pub mod Answer
 pub mod Decimal

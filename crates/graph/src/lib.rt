@@ -9,6 +9,7 @@ pub mod decimal;
 pub mod edges;
 pub mod faults;
 pub mod literal;
+pub mod signed;
 pub mod table;
 
 // Why a call is refused: the causes of document 01's table, in its order, then those of document 02.
