@@ -22,3 +22,4 @@ pub mod Tally
 pub mod Step
 pub mod NodeBest
 pub mod NodeCosts
+pub mod Pair

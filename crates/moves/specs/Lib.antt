@@ -4,3 +4,5 @@ pub mod Tree
 pub mod Call
 pub mod Cost
 pub mod Decide
+pub mod Pair
+pub mod Trial

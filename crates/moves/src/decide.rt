@@ -1,13 +1,15 @@
 // Deciding from numbers: what the words of a node add, its readers, and how many of these are complemented.
 ghost use mathlib.Core.Path.{_≡_};
 ghost use mathlib.Core.Bool.{true, false};
-ghost use Prim.Native.Nat.{ℕ, _+_, _≤_, _<_};
+ghost use Prim.Native.Nat.{ℕ, _+_, _*_, _≤_, _<_};
 ghost use lib.ListN.{getD};
 ghost use Rattle.choice.specs.Choice.{FirstBelow};
 ghost use Rattle.graph.specs.Finite.{ifEqual};
 ghost use Rattle.moves.specs.Rows.{arity};
 ghost use Rattle.moves.specs.Decide.{costBy, costWith, Weighed, Numbers, MovesOf, LeastBelow, given, Counted, pairCost, FirstPair, Answered};
+ghost use Rattle.moves.specs.Pair.{pairSaving, savingNumbered, GreatestBelow, Won};
 use crate::rows;
+use graph::signed;
 
 // x where f is 0, else y.
 pub fn either(f: u32, x: u32, y: u32) -> u32
@@ -203,5 +205,87 @@ pub fn first_pair(named: NodeNumbers, node: NodeNumbers, which: [u32; 3]) -> Pai
     PairMoves {
         named: first.number,
         node: either(f, still.number, turned.number),
+    }
+}
+
+// What they save: what no moves leave, less what these leave.
+pub fn pair_saving(named: NodeNumbers, node: NodeNumbers, which: [u32; 3], a: u32, k: u32) -> i64
+    requires { ⌜ Counted named × Counted node × ((i : ℕ) → getD which i 0 ≤ 1) × (a < named .moves) × (k < node .moves) ⌝ }
+    ensures { λ r. ⌜ r ≡ pairSaving named node which a k ⌝ }
+{
+    let before = pair_cost(named, node, which, 0, 0);
+    let after = pair_cost(named, node, which, a, k);
+    signed::less(before as u64, after as u64)
+}
+
+// A combination of moves on a pair by its number, the named node's move counting first, and what it saves.
+pub struct Combination {
+    pub number: u32,
+    pub saving: i64,
+}
+
+// What combination c saves.
+pub fn saving_numbered(named: NodeNumbers, node: NodeNumbers, which: [u32; 3], c: u32) -> i64
+    requires { ⌜ Counted named × Counted node × ((i : ℕ) → getD which i 0 ≤ 1) × (c < named .moves * node .moves) ⌝ }
+    ensures { λ r. ⌜ r ≡ savingNumbered named node which c ⌝ }
+{
+    let moves = node.moves;
+    pair_saving(named, node, which, c / moves, c % moves)
+}
+
+// Combination c where it saves more than the best below it.
+pub fn if_more(
+    named: NodeNumbers,
+    node: NodeNumbers,
+    which: [u32; 3],
+    best: Combination,
+    c: u32,
+) -> Combination
+    requires { ⌜ Counted named × Counted node × ((i : ℕ) → getD which i 0 ≤ 1) × (c < named .moves * node .moves) × GreatestBelow named node which c best ⌝ }
+    ensures { λ r. ⌜ GreatestBelow named node which (c + 1) r ⌝ }
+{
+    let saving = saving_numbered(named, node, which, c);
+    let least = best.saving;
+    if least < saving {
+        return Combination { number: c, saving };
+    }
+    best
+}
+
+// The first combination that saves most.
+pub fn best_numbered(named: NodeNumbers, node: NodeNumbers, which: [u32; 3]) -> Combination
+    requires { ⌜ Counted named × Counted node × ((i : ℕ) → getD which i 0 ≤ 1) ⌝ }
+    ensures { λ r. ⌜ GreatestBelow named node which (named .moves * node .moves) r ⌝ }
+{
+    let all = named.moves * node.moves;
+    let saving = saving_numbered(named, node, which, 0);
+    let mut best = Combination { number: 0, saving };
+    let mut c: u32 = 1;
+    while c < all {
+        best = if_more(named, node, which, best, c);
+        c += 1;
+    }
+    best
+}
+
+// Both moves of a pair, and what they save.
+pub struct BestPair {
+    pub named: u32,
+    pub node: u32,
+    pub saving: u32,
+}
+
+// The first pair of moves that saves most, each worked out from the numbers as they stand.
+pub fn best_pair(named: NodeNumbers, node: NodeNumbers, which: [u32; 3]) -> BestPair
+    requires { ⌜ Counted named × Counted node × ((i : ℕ) → getD which i 0 ≤ 1) ⌝ }
+    ensures { λ r. ⌜ Won named node which r ⌝ }
+{
+    let best = best_numbered(named, node, which);
+    let moves = node.moves;
+    let saving = best.saving;
+    BestPair {
+        named: best.number / moves,
+        node: best.number % moves,
+        saving: signed::count_of(saving),
     }
 }

@@ -9,3 +9,9 @@ pub enum Saving {
     Saved(u32),
     Refused(graph::Refusal),
 }
+
+// What a trial answers: what two moves would save, or why it is refused.
+pub enum Trial {
+    Gain(i64),
+    Refused(graph::Refusal),
+}

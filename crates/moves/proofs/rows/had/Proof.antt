@@ -1,0 +1,14 @@
+-- `had` meets its contract. From the laws on tests.
+use mathlib.Core.Path.{refl}
+use Rattle.graph.proofs.Tests.{less, no-less}
+use Rattle.moves.proofs.rows.had.Statement.{statement}
+use Rattle.moves.proofs.rows.had.Tie as tie
+
+returns : tie.Need-returns
+returns c = less _ _ _ _ (c .if1 .taken) refl
+
+returns-2 : tie.Need-returns-2
+returns-2 c = no-less _ _ _ _ (c .if1 .left) refl
+
+pub had-spec : {M : Type 1} → statement M
+had-spec = tie.close (tie.spec returns returns-2)
