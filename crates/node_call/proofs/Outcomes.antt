@@ -1,26 +1,41 @@
 -- A decision from numbers, written, is the rewriting that the calls define. From the laws of best moves by numbers.
-use mathlib.Core.Path.{_≡_, sym, _∙_, fun-ext}
+use mathlib.Core.Path.{_≡_, refl, sym, ap, _∙_, fun-ext}
 use mathlib.Core.List.{List, [], _∷_}
 use mathlib.Core.Logic.{⊎-elim, _≢_}
-use Prim.Native.Nat.{ℕ, _+_, _-_, _≤_, _<_}
+use Prim.Native.Nat.{ℕ, zero, suc, _+_, _-_, _≤_, _<_}
 use native.Mathlib.Omega.{arith}
 use Rattle.graph.specs.Admission.{Admitted}
 use borrow.Author.Tests.{lt-ltb, le-ltb}
+use lib.IntN.{ℤ, pos, natAbs}
 use lib.ListN.{getD}
 use Rattle.graph.specs.Answer.{accepted, Outcome, outcome}
 use Rattle.graph.specs.Count.{C}
+use Rattle.graph.specs.Difference.{difference}
+use Rattle.graph.specs.Finite.{ifLess}
 use Rattle.graph.specs.Graph.{Graph, node}
 use Rattle.graph.proofs.Cases.{eq-or-ne}
+use Rattle.graph.proofs.Difference.{at-least}
 use Rattle.choice.specs.Choice.{FirstBelow}
 use Rattle.moves.specs.Apply.{Choice, none, at, put, apply}
-use Rattle.moves.specs.Call.{moved, rewrite, isNode, namedBy, pairRewrite}
+use Rattle.moves.specs.Call.{moved, movedC, rewrite, isNode, namedBy, pairRewrite}
 use Rattle.moves.specs.Decide.{costOf, pairCost, FirstPair, numbersOf, naming, Counted}
+use Rattle.moves.specs.Pair.{pairSaving, FirstGreatest}
 use Rattle.moves.specs.Rows.{movesAt}
+use Rattle.moves.specs.Trial.{triedUnless, trialSaving}
 use Rattle.moves.specs.declared.decide.NodeNumbers.{NodeNumbers}
 use Rattle.moves.proofs.Changed.{at-same, at-other}
 use Rattle.moves.proofs.Deciding.{numbers-low, naming-le}
 use Rattle.moves.proofs.NodeBest.{node-cost, node-best, zero-is, pair-cost-is, pair-best, zeros-are}
+use Rattle.moves.proofs.Pair.{least-of-greatest, pair-saving, had-saving, had-fits}
+use Rattle.moves.proofs.Moves.{moves-some}
 use Rattle.node_call.proofs.Refusing.{AcceptedWord, named-below}
+
+-- the numbers are such as can be
+pub counted : (g : Graph) (v : ℕ) (n : NodeNumbers) → Admitted g → n ≡ numbersOf g v → Counted n
+counted g v n adm e = rw e (numbers-low g v adm)
+
+pub naming-bits : (g : Graph) (v u : ℕ) (w : List ℕ) → w ≡ naming g v u → (i : ℕ) → getD w i 0 ≤ 1
+naming-bits g v u w e i = rw e (naming-le g v u i)
 
 at-twice : (d : Choice) (u k : ℕ) → at (at d u k) u k ≡ at d u k
 at-twice d u k =
@@ -52,38 +67,66 @@ module _ (g : Graph) (adm : Admitted g) (v : ℕ) (h : v < g .N) (n : NodeNumber
   node-outcome k s q t = rw (← node-best g adm v h m by-numbers, saving-is, t, q, at-twice none (node g v) m)
 
 module _ (g : Graph) (adm : Admitted g) (p v : ℕ) (l : p < v) (h : v < g .N) (a n : NodeNumbers) (w : List ℕ) (f : a ≡ numbersOf g p) (e : n ≡ numbersOf g v) (i : w ≡ naming g v (node g p))
-    (k m : ℕ) (b : FirstPair (pairCost a n w) (a .moves) (n .moves) k m) where
+    (k m : ℕ) (b : FirstGreatest (pairSaving a n w) (a .moves) (n .moves) k m) where
   pub both-fit : (k < movesAt g (node g p)) × (m < movesAt g (node g v))
   unfolding numbersOf
   both-fit = (rw f at (b .below), rw e at (b .fits))
 
-  pub both-no-more : pairCost a n w k m ≤ pairCost a n w 0 0
-  both-no-more = b .low 0 0 (omega (arith, b .below)) (omega (arith, b .fits))
+  least-pair : FirstPair (pairCost a n w) (a .moves) (n .moves) k m
+  least-pair = least-of-greatest a n w (a .moves) (n .moves) k m b
 
   both-by-numbers : FirstPair (pairCost (numbersOf g p) (numbersOf g v) (naming g v (node g p))) (movesAt g (node g p)) (movesAt g (node g v)) k m
   unfolding numbersOf
-  both-by-numbers = rw (f, e, i) at b
+  both-by-numbers = rw (f, e, i) at least-pair
 
   both-saving : C g - C (apply g (at (at none (node g p) k) (node g v) m)) ≡ pairCost a n w 0 0 - pairCost a n w k m
   both-saving = rw (f, e, i) (omega (arith, zeros-are g adm p v l h, pair-cost-is g adm p v l h 0 0, pair-cost-is g adm p v l h k m))
 
-  pub pair-outcome : (t : Graph) (s : ℕ) → t ≡ apply g (at (at none (node g p) k) (node g v) m) → s ≡ pairCost a n w 0 0 - pairCost a n w k m
+  saved-is : (s : ℕ) → pos s ≡ pairSaving a n w k m → s ≡ pairCost a n w 0 0 - pairCost a n w k m
+  unfolding pairSaving
+  saved-is s r =
+      let low = least-pair .low 0 0 (omega (arith, b .below)) (omega (arith, b .fits)) in
+      ap natAbs (r ∙ at-least (pairCost a n w 0 0) (pairCost a n w k m) (pairCost a n w 0 0 - pairCost a n w k m) (omega (arith, low)))
+
+  pub pair-outcome : (t : Graph) (s : ℕ) → t ≡ apply g (at (at none (node g p) k) (node g v) m) → pos s ≡ pairSaving a n w k m
       → outcome (accepted (s ∷ [])) t ≡ rewrite g (node g p ∷ node g v ∷ [])
   unfolding rewrite moved put
-  pair-outcome t s q r = rw (← pair-best g adm p v l h k m both-by-numbers, both-saving, r, q)
+  pair-outcome t s q r = rw (← pair-best g adm p v l h k m both-by-numbers, both-saving, saved-is s r, q)
 
--- the numbers are such as can be
-pub counted : (g : Graph) (v : ℕ) (n : NodeNumbers) → Admitted g → n ≡ numbersOf g v → Counted n
-counted g v n adm e = rw e (numbers-low g v adm)
+-- a trial from the numbers of both nodes, a move that a kind lacks being as move 0
+module _ (g : Graph) (adm : Admitted g) (p v : ℕ) (l : p < v) (h : v < g .N) (a n : NodeNumbers) (w : List ℕ) (f : a ≡ numbersOf g p) (e : n ≡ numbersOf g v) (i : w ≡ naming g v (node g p))
+    (k m x y : ℕ) (d : x ≡ ifLess k (a .moves) k 0) (u : y ≡ ifLess m (n .moves) m 0) where
+  pub tried-fit : (x < a .moves) × (y < n .moves)
+  tried-fit =
+      let j = counted g p a adm f in
+      let o = counted g v n adm e in
+      rw (d, u) (had-fits k (a .moves) (moves-some (a .xor) (a .moves) (j .has)), had-fits m (n .moves) (moves-some (n .xor) (n .moves) (o .has)))
 
-pub naming-bits : (g : Graph) (v u : ℕ) (w : List ℕ) → w ≡ naming g v u → (i : ℕ) → getD w i 0 ≤ 1
-naming-bits g v u w e i = rw e (naming-le g v u i)
+  pub tried-saving : pairSaving a n w x y ≡ difference (C g) (movedC g (node g p ∷ node g v ∷ []) (k ∷ m ∷ []))
+  tried-saving = rw (d, u) (had-saving a n w (counted g p a adm f) (counted g v n adm e) k m ∙ by-numbers)
+    where
+      by-numbers : pairSaving a n w k m ≡ difference (C g) (movedC g (node g p ∷ node g v ∷ []) (k ∷ m ∷ []))
+      by-numbers = rw (f, e, i) (pair-saving g adm p v l h k m)
 
 -- the word of a pair names a node, or none
 module _ (g : Graph) (u k n : ℕ) (e : n ≡ namedBy g u k) where
   pub no-node : n ≤ g .I → outcome (accepted (0 ∷ [])) g ≡ pairRewrite g u k
   unfolding pairRewrite isNode
   no-node h = rw (← e, le-ltb (g .I) n h)
+
+  pub no-gain : (a m : ℕ) → n ≤ g .I → pos 0 ≡ trialSaving g u k a m
+  unfolding trialSaving isNode
+  no-gain a m h = rw (← e, le-ltb (g .I) n h)
+
+  pub a-gain : AcceptedWord g u k → g .I < n → (a m : ℕ) (z : ℤ)
+      → z ≡ difference (C g) (movedC g ((g .I + 1 + (n - (g .I + 1))) ∷ (g .I + 1 + (u - (g .I + 1))) ∷ []) (a ∷ m ∷ [])) → z ≡ trialSaving g u k a m
+  unfolding trialSaving isNode
+  a-gain w h a m z q =
+      let d = w .at-node in
+      let p : g .I + 1 + (n - (g .I + 1)) ≡ n = omega arith in
+      let v : g .I + 1 + (u - (g .I + 1)) ≡ u = omega (arith, d .after) in
+      let b : n < node g (g .N) = omega (arith, d .before, named-below g u k w) in
+      q ∙ rw (p, v, ← e, lt-ltb (g .I) n h, lt-ltb n (node g (g .N)) b)
 
   pub a-node : AcceptedWord g u k → g .I < n → (o : Outcome) → o ≡ rewrite g ((g .I + 1 + (n - (g .I + 1))) ∷ (g .I + 1 + (u - (g .I + 1))) ∷ []) → o ≡ pairRewrite g u k
   unfolding pairRewrite isNode
@@ -93,3 +136,14 @@ module _ (g : Graph) (u k n : ℕ) (e : n ≡ namedBy g u k) where
       let v : g .I + 1 + (u - (g .I + 1)) ≡ u = omega (arith, a .after) in
       let b : n < node g (g .N) = omega (arith, a .before, named-below g u k w) in
       q ∙ rw (p, v, ← e, lt-ltb (g .I) n h, lt-ltb n (node g (g .N)) b)
+
+-- a trial that is refused, and one that is not
+pub refused-trial : (k m : ℕ) (z : ℤ) → k ≡ m → (m ≡ 0 → ⊥) → record { number = k; gains = [] } ≡ triedUnless m z
+unfolding triedUnless
+refused-trial k zero z e n = absurd (n refl)
+refused-trial k (suc m) z e n = ap (λ (i : ℕ). record { number = i; gains = [] }) e
+
+pub accepted-trial : (m : ℕ) (z y : ℤ) → y ≡ z → m ≡ 0 → record { number = 0; gains = y ∷ [] } ≡ triedUnless m z
+unfolding triedUnless
+accepted-trial zero z y q e = ap (λ (x : ℤ). record { number = 0; gains = x ∷ [] }) q
+accepted-trial (suc m) z y q e = absurd (omega arith)

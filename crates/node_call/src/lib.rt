@@ -2,12 +2,15 @@ ghost use mathlib.Core.Path.{_≡_};
 ghost use Rattle.graph.specs.Answer.{outcome};
 ghost use Rattle.graph.specs.Graph.{graphOf};
 ghost use Rattle.moves.specs.Call.{savingAnswer, nodeCall, pairCall};
+ghost use Rattle.moves.specs.Trial.{trialAnswer, trialCall};
 
 mod faults;
 mod rewrite;
+mod trying;
 mod write;
 
 use moves::Saving;
+use moves::Trial;
 
 // The node call: the move of a node with the least C, the lowest number among equals.
 pub fn node_call(
@@ -53,5 +56,36 @@ pub fn pair_call(
         output_table,
         node,
         word,
+    ))
+}
+
+// A trial: what a move at the node that a word names and a move at the node itself would save. Nothing is changed.
+pub fn trial(
+    inputs: u32,
+    nodes: u32,
+    outputs: u32,
+    node_table: &[u32],
+    output_table: &[u32],
+    node: u32,
+    word: u32,
+    named_move: u32,
+    node_move: u32,
+) -> Trial
+    ensures { λ r. ⌜ trialAnswer r ≡ trialCall (graphOf inputs nodes outputs (now («node_table» .entry)) (now («output_table» .entry))) node word «named_move» «node_move» ⌝ }
+{
+    let number = faults::pair_number(inputs, nodes, outputs, node_table, output_table, node, word);
+    if number != 0 {
+        return Trial::Refused(graph::faults::refused_by(number));
+    }
+    Trial::Gain(trying::named_saving(
+        inputs,
+        nodes,
+        outputs,
+        node_table,
+        output_table,
+        node,
+        word,
+        named_move,
+        node_move,
     ))
 }

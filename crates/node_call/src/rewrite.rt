@@ -50,13 +50,11 @@ pub fn rewrite_pair(
     let named = reading::numbers_of(inputs, nodes, outputs, node_table, output_table, p);
     let node = reading::numbers_of(inputs, nodes, outputs, node_table, output_table, v);
     let which = words::which_name(node_table, v as usize, inputs + 1 + p);
-    let best = decide::first_pair(named, node, which);
+    let best = decide::best_pair(named, node, which);
     let k = best.named;
     let m = best.node;
-    let before = decide::pair_cost(named, node, which, 0, 0);
-    let after = decide::pair_cost(named, node, which, k, m);
     write::make_moves(inputs, nodes, outputs, node_table, output_table, p, k, v, m);
-    before - after
+    best.saving
 }
 
 // The index that a word of a node names.

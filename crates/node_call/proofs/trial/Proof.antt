@@ -1,0 +1,43 @@
+-- `trial` meets its contract. From the laws on faults and outcomes.
+use borrow.Author.Needs.{needs}
+use mathlib.Core.Path.{sym, _∙_}
+use Rattle.graph.specs.Graph.{Graph, graphOf}
+use Rattle.graph.proofs.Difference.{read-as}
+use Rattle.moves.specs.Call.{pairNumber}
+use Rattle.moves.specs.Trial.{trialCall, trialSaving}
+use Rattle.node_call.proofs.Refusing.{pair-range}
+use Rattle.node_call.proofs.Outcomes.{refused-trial, accepted-trial}
+use Rattle.node_call.proofs.trial.Statement.{statement}
+use Rattle.node_call.proofs.trial.Tie as tie
+
+abbrev graph : tie.Start → Graph
+graph s = let a = s .args in graphOf (a .inputs) (a .nodes) (a .outputs) (a .node-table .now) (a .output-table .now)
+
+refused-by-requires : tie.Need-refused-by-requires
+refused-by-requires c κs =
+    let s = c .before .before .before .before in
+    pair-range (graph s) (s .args .node) (s .args .word) _ (c .before .pair-number .ensures) (c .if1 .taken)
+
+returns : tie.Need-returns
+unfolding trialCall
+returns c =
+    let n = c .before .before in
+    let e = n .pair-number .ensures in
+    refused-trial _ _ _ (c .refused-by .ensures ∙ e) (λ z. c .before .if1 .taken (e ∙ z))
+
+named-saving-requires : tie.Need-named-saving-requires
+named-saving-requires c κs = sym (c .before .pair-number .ensures) ∙ c .if1 .left
+
+returns-2 : tie.Need-returns-2
+unfolding trialCall
+returns-2 c =
+    let n = c .before .before in
+    let s = n .before .before .before in
+    let a = s .args in
+    accepted-trial (pairNumber (graph s) (a .node) (a .word)) (trialSaving (graph s) (a .node) (a .word) (a .named-move) (a .node-move)) _
+    (read-as _ (c .named-saving .ok) ∙ c .named-saving .ensures) (sym (n .pair-number .ensures) ∙ c .before .if1 .left)
+
+pub trial-spec : {M : Type 1} → statement M
+trial-spec =
+    tie.close
+    (tie.spec (λ c κs. search needs) refused-by-requires returns named-saving-requires returns-2)

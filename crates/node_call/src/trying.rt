@@ -1,0 +1,62 @@
+// What two moves on a pair would save, from the words as they stand.
+ghost use mathlib.Core.Path.{_≡_};
+ghost use mathlib.Core.List.{[], _∷_};
+ghost use Prim.Native.Nat.{_+_, _<_};
+ghost use Rattle.graph.specs.Admission.{Admitted};
+ghost use Rattle.graph.specs.Count.{C};
+ghost use Rattle.graph.specs.Difference.{difference};
+ghost use Rattle.graph.specs.Graph.{graphOf};
+ghost use Rattle.moves.specs.Call.{movedC, pairNumber};
+ghost use Rattle.moves.specs.Trial.{trialSaving};
+use crate::rewrite;
+use moves::decide;
+use moves::reading;
+use moves::rows;
+use moves::words;
+
+// Move a at node p and move k at node v above it, both counted from 0.
+pub fn pair_saving(
+    inputs: u32,
+    nodes: u32,
+    outputs: u32,
+    node_table: &[u32],
+    output_table: &[u32],
+    p: u32,
+    v: u32,
+    a: u32,
+    k: u32,
+) -> i64
+    requires { ⌜ Admitted (graphOf inputs nodes outputs (now «node_table») (now «output_table»)) × (p < v) × (v < nodes) ⌝ }
+    ensures { λ r. ⌜ r ≡ difference (C (graphOf inputs nodes outputs (now («node_table» .entry)) (now («output_table» .entry)))) (movedC (graphOf inputs nodes outputs (now («node_table» .entry)) (now («output_table» .entry))) ((inputs + 1 + p) ∷ (inputs + 1 + v) ∷ []) (a ∷ k ∷ [])) ⌝ }
+{
+    let named = reading::numbers_of(inputs, nodes, outputs, node_table, output_table, p);
+    let node = reading::numbers_of(inputs, nodes, outputs, node_table, output_table, v);
+    let which = words::which_name(node_table, v as usize, inputs + 1 + p);
+    let first = rows::had(named.moves, a);
+    let second = rows::had(node.moves, k);
+    decide::pair_saving(named, node, which, first, second)
+}
+
+// Move a at the node that a word of a node names, if it names one, and move k at the node.
+pub fn named_saving(
+    inputs: u32,
+    nodes: u32,
+    outputs: u32,
+    node_table: &[u32],
+    output_table: &[u32],
+    node: u32,
+    word: u32,
+    a: u32,
+    k: u32,
+) -> i64
+    requires { ⌜ pairNumber (graphOf inputs nodes outputs (now «node_table») (now «output_table»)) node word ≡ 0 ⌝ }
+    ensures { λ r. ⌜ r ≡ trialSaving (graphOf inputs nodes outputs (now («node_table» .entry)) (now («output_table» .entry))) node word a k ⌝ }
+{
+    let named = rewrite::named_by(inputs, node_table, node, word);
+    if named <= inputs {
+        return 0;
+    }
+    let p = named - (inputs + 1);
+    let v = node - (inputs + 1);
+    pair_saving(inputs, nodes, outputs, node_table, output_table, p, v, a, k)
+}
