@@ -1,12 +1,17 @@
 -- Equal answers leave the same at a lent place.
-use mathlib.Core.Path.{_≡_, ap}
+use mathlib.Core.Path.{_≡_, ap, _∙_}
 use mathlib.Core.List.{List}
 use Prim.Native.Nat.{ℕ}
+use lib.IntN.{ℤ}
 use Rattle.graph.specs.Answer.{Answer}
-use Rattle.answers.specs.Told.{told, toldOne}
+use Rattle.moves.specs.Trial.{Tried}
+use Rattle.answers.specs.Told.{told, toldOne, toldGain}
 
 pub same-one : {a b : Answer} (before : ℕ) → a ≡ b → toldOne a before ≡ toldOne b before
 same-one before e = ap (λ a. toldOne a before) e
 
 pub same-told : {a b : Answer} (before : List ℕ) → a ≡ b → told a before ≡ told b before
 same-told before e = ap (λ a. told a before) e
+
+pub same-gain : {a b : Tried} {x y : ℤ} → a ≡ b → x ≡ y → toldGain a x ≡ toldGain b y
+same-gain {a} {b} {x} {y} e f = ap (λ (t : Tried). toldGain t x) e ∙ ap (toldGain b) f

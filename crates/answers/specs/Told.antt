@@ -1,8 +1,10 @@
 -- What an answer leaves at a place that its caller lends.
 use Prim.Native.Nat.{ℕ}
+use lib.IntN.{ℤ}
 use mathlib.Core.List.{List, [], _∷_}
 use lib.ListN.{getD}
 use Rattle.graph.specs.Answer.{Answer}
+use Rattle.moves.specs.Trial.{Tried}
 
 -- numbers at that place afterwards: the values answered, or what was there where none are, as by a refused call
 abbrev pub toldBy : List ℕ → List ℕ → List ℕ
@@ -15,3 +17,7 @@ told a before = toldBy (a .values) before
 -- the same of one number
 abbrev pub toldOne : Answer → ℕ → ℕ
 toldOne a before = getD (a .values) 0 before
+
+-- the same of a trial's signed number
+abbrev pub toldGain : Tried → ℤ → ℤ
+toldGain a before = getD (a .gains) 0 before

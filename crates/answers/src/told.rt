@@ -6,8 +6,9 @@ ghost use Rattle.tagged_file.specs.Load.{loadedAnswer};
 ghost use Rattle.tagged_file.specs.Write.{writtenAnswer};
 ghost use Rattle.evaluation.specs.Evaluation.{evaluatedAnswer};
 ghost use Rattle.moves.specs.Call.{savingAnswer};
+ghost use Rattle.moves.specs.Trial.{trialAnswer};
 ghost use Rattle.settling.specs.Settle.{settledAnswer};
-ghost use Rattle.answers.specs.Told.{told, toldOne};
+ghost use Rattle.answers.specs.Told.{told, toldOne, toldGain};
 
 // The payload of a field starts after the 3 bytes of its head.
 pub fn field_told(number: u32, length: usize, before: [usize; 2]) -> [usize; 2]
@@ -101,6 +102,24 @@ pub fn saving_told(answer: moves::Saving, before: u32) -> u32
     match answer {
         moves::Saving::Saved(saving) => saving,
         moves::Saving::Refused(_) => before,
+    }
+}
+
+pub fn trial_number(answer: moves::Trial) -> u32
+    ensures { λ r. ⌜ r ≡ trialAnswer answer .number ⌝ }
+{
+    match answer {
+        moves::Trial::Gain(_) => 0,
+        moves::Trial::Refused(refusal) => graph::faults::number_of(refusal),
+    }
+}
+
+pub fn trial_told(answer: moves::Trial, before: i64) -> i64
+    ensures { λ r. ⌜ r ≡ toldGain (trialAnswer answer) before ⌝ }
+{
+    match answer {
+        moves::Trial::Gain(gain) => gain,
+        moves::Trial::Refused(_) => before,
     }
 }
 

@@ -14,8 +14,9 @@ ghost use Rattle.aiger.specs.Export.{exportCall};
 ghost use Rattle.evaluation.specs.Evaluation.{evaluateNumber, resultsAfter};
 ghost use Rattle.moves.specs.Call.{nodeCall, pairCall, treeCall};
 ghost use Rattle.preview.specs.Preview.{previewAnswer, previewBytes};
+ghost use Rattle.moves.specs.Trial.{trialCall};
 ghost use Rattle.rounds.specs.Settle.{settleCall};
-ghost use Rattle.answers.specs.Told.{told, toldOne};
+ghost use Rattle.answers.specs.Told.{told, toldOne, toldGain};
 ghost use Rattle.replay.specs.Replay.{decode, replayCall, answersAfter, DemandMet};
 ghost use Rattle.reducer.specs.Interface.{fieldAnswer};
 
@@ -202,6 +203,40 @@ pub extern "C" fn reducer_pair(
     let answer = node_call::pair_call(inputs, nodes, outputs, node_table, output_table, node, word);
     *saving = answers::told::saving_told(answer, *saving);
     answers::told::saving_number(answer)
+}
+
+// What a move at the node that a word names and a move at the node itself would save; nothing is changed.
+#[no_mangle]
+pub extern "C" fn reducer_trial(
+    inputs: u32,
+    nodes: u32,
+    outputs: u32,
+    node_table: &[u32],
+    output_table: &[u32],
+    node: u32,
+    word: u32,
+    named_move: u32,
+    node_move: u32,
+    gain: &mut i64,
+) -> u32
+    ensures answer { λ r. ⌜ r ≡ trialCall (graphOf inputs nodes outputs (now («node_table» .entry)) (now («output_table» .entry))) node word «named_move» «node_move» .number ⌝ }
+    ensures told { λ r. ⌜ now (gain .exit) ≡ toldGain (trialCall (graphOf inputs nodes outputs (now («node_table» .entry)) (now («output_table» .entry))) node word «named_move» «node_move») (now (gain .entry)) ⌝ }
+{
+    let answer = node_call::trial(
+        inputs,
+        nodes,
+        outputs,
+        node_table,
+        output_table,
+        node,
+        word,
+        named_move,
+        node_move,
+    );
+    let before = *gain;
+    let after = answers::told::trial_told(answer, before);
+    *gain = after;
+    answers::told::trial_number(answer)
 }
 
 // The best moves of the tree of a root.

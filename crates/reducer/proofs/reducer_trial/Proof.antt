@@ -1,0 +1,18 @@
+-- `reducer_trial` meets its contract. From those of `trial` and of its answer's number and value.
+use mathlib.Core.Path.{ap, _∙_}
+use borrow.Author.Needs.{needs}
+use Rattle.graph.proofs.Difference.{read-as}
+use Rattle.moves.specs.Trial.{Tried}
+use Rattle.answers.proofs.Same.{same-gain}
+use Rattle.reducer.proofs.reducer_trial.Statement.{statement}
+use Rattle.reducer.proofs.reducer_trial.Tie as tie
+
+returns : tie.Need-returns
+returns c =
+    let told = c .before in
+    let e = told .before .before .trial .ensures in
+    (c .trial-number .ensures ∙ ap (λ (t : Tried). t .number) e, read-as _ (told .trial-told .ok) ∙ told .trial-told .ensures ∙ same-gain e (read-as _ (told .before .before2 .given)))
+
+pub reducer-trial-spec : {M : Type 1} → statement M
+reducer-trial-spec =
+    tie.close (tie.spec (λ c κs. search needs) (λ c κs. search needs) (λ c κs. search needs) returns)
