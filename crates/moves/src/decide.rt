@@ -179,9 +179,9 @@ pub fn pair_cost(named: NodeNumbers, node: NodeNumbers, which: [u32; 3], a: u32,
     let first = move_cost(named.xor, x, named.readers, named.odd, a);
     let f = rows::flag_of(named.xor, a, 3);
     let y = node.costs;
-    let z = given_costs(y, which, f);
-    let second = move_cost(node.xor, z, node.readers, node.odd, k);
-    first + second + (z[1] + z[3] + z[5])
+    let turned = given_costs(y, which, f);
+    let second = move_cost(node.xor, turned, node.readers, node.odd, k);
+    first + second + (turned[1] + turned[3] + turned[5])
 }
 
 // The first of the least pairs of moves, by the named node's and then by the node's: the node's answer depends only on whether
@@ -208,7 +208,7 @@ pub fn first_pair(named: NodeNumbers, node: NodeNumbers, which: [u32; 3]) -> Pai
     }
 }
 
-// What they save: what no moves leave, less what these leave.
+// What move a at the named node and move k at the node save: what no moves leave, less what these leave.
 pub fn pair_saving(named: NodeNumbers, node: NodeNumbers, which: [u32; 3], a: u32, k: u32) -> i64
     requires { ⌜ Counted named × Counted node × ((i : ℕ) → getD which i 0 ≤ 1) × (a < named .moves) × (k < node .moves) ⌝ }
     ensures { λ r. ⌜ r ≡ pairSaving named node which a k ⌝ }
@@ -245,8 +245,8 @@ pub fn if_more(
     ensures { λ r. ⌜ GreatestBelow named node which (c + 1) r ⌝ }
 {
     let saving = saving_numbered(named, node, which, c);
-    let least = best.saving;
-    if least < saving {
+    let most = best.saving;
+    if most < saving {
         return Combination { number: c, saving };
     }
     best
