@@ -192,6 +192,18 @@ uint32_t reducer_pair(uint32_t inputs, uint32_t nodes, uint32_t outputs,
                       uint32_t *saving);
 
 /*
+ * What two moves would save, with nothing changed: named_move at the node that word 1, 2 or 3 of a node names, and node_move at
+ * the node. gain is the number of complemented edges before less that after, below 0 where there would be more; 0 for a word that
+ * names no node. A move that a node's kind lacks turns nothing. Refusals: 3, 4, 5, 7.
+ */
+uint32_t reducer_trial(uint32_t inputs, uint32_t nodes, uint32_t outputs,
+                       const uint32_t *node_table, size_t node_table_length,
+                       const uint32_t *output_table, size_t output_table_length,
+                       uint32_t node, uint32_t word,
+                       uint32_t named_move, uint32_t node_move,
+                       int64_t *gain);
+
+/*
  * Makes the best moves of the tree of a root: a node with other than one reader, or with one that is an output. Refusals: 3,
  * 4, 5, 7, 8.
  */

@@ -134,6 +134,7 @@ _evaluate = _function("reducer_evaluate", _GRAPH + _WORDS * 3)
 _count = _function("reducer_count", _GRAPH + [ctypes.c_void_p])
 _node = _function("reducer_node", _GRAPH + [_U32, ctypes.c_void_p])
 _pair = _function("reducer_pair", _GRAPH + [_U32, _U32, ctypes.c_void_p])
+_trial = _function("reducer_trial", _GRAPH + [_U32] * 4 + [ctypes.c_void_p])
 _tree = _function("reducer_tree", _GRAPH + [_U32] + _WORDS + [ctypes.c_void_p])
 _preview = _function("reducer_preview", _GRAPH + [_U32] + _WORDS * 2 + [ctypes.c_void_p])
 _settle = _function("reducer_settle", _GRAPH + _WORDS + [ctypes.c_void_p])
@@ -340,6 +341,13 @@ class Graph:
         _accept(_pair(*lent, _number(node, 32, "node"), _number(word, 32, "word"), ctypes.byref(saving)))
         self._take(lent)
         return saving.value
+
+    def trial(self, node: int, word: int, named_move: int, node_move: int) -> int:
+        """What a move at the node that a word (1 to 3) names and one at the node would save; less than 0 where they lose."""
+        numbers = [("node", node), ("word", word), ("named_move", named_move), ("node_move", node_move)]
+        gain = ctypes.c_int64()
+        _accept(_trial(*self._lent(), *(_number(value, 32, what) for what, value in numbers), ctypes.byref(gain)))
+        return gain.value
 
     def tree_call(self, root: int) -> int:
         """Makes the best moves of the tree of a root; what they save."""

@@ -111,6 +111,14 @@ class Good(unittest.TestCase):
             self.assertEqual(made(graph, told.moves), after)
             accepted += 1
         self.assertGreater(accepted, 500)
+    def test_trials(self) -> None:
+        graph = Graph(5, [3, 5, 6, 12, 9, 10], [15])
+        moves = [(0, 0), (0, 1), (1, 0), (1, 1), (0, 2), (2**32 - 1, 1)]
+        self.assertEqual([graph.trial(7, 1, *both) for both in moves], [0, 0, 0, 2, 0, 0])
+        self.assertEqual(graph, Graph(5, [3, 5, 6, 12, 9, 10], [15]))
+        graph = Graph(2, [2, 4, 0, 6, 2, MARK], [8])
+        self.assertEqual([graph.trial(4, 1, 1, move) for move in range(4)], [-4, -4, -4, -6])
+        self.assertEqual(graph.trial(4, 2, 1, 1), 0)
 
     def test_settling(self) -> None:
         graph = p1()
@@ -231,6 +239,8 @@ class Bad(unittest.TestCase):
         self.refused(7, p1(), "node_call", 3)
         self.refused(7, p1(), "pair_call", 4, 4)
         self.refused(7, p1(), "pair_call", 4, 0)
+        self.refused(7, p1(), "trial", 4, 4, 0, 0)
+        self.refused(7, p1(), "trial", 3, 1, 0, 0)
         self.refused(7, p1(), "tree_call", 2**32 - 1)
         self.refused(7, Graph(1, [2, 2, MARK, 4, 2, 2], [6]), "tree_call", 2)
         for root in [0, 3, 5, 2**32 - 1]:
@@ -358,7 +368,8 @@ class Bad(unittest.TestCase):
         ]:
             with self.assertRaises(TypeError):
                 getattr(p1(), call)(*arguments)
-        for call, arguments in [("node_call", [-1]), ("pair_call", [4, 2**32]), ("evaluate", [[0, 0, 2**64]]), ("preview", [-1])]:
+        wrong = [("node_call", [-1]), ("pair_call", [4, 2**32]), ("trial", [4, 1, 0, 2**32]), ("evaluate", [[0, 0, 2**64]]), ("preview", [-1])]
+        for call, arguments in wrong:
             with self.assertRaises(ValueError):
                 getattr(p1(), call)(*arguments)
         for bad in ["text", None, 3, [1, 2]]:

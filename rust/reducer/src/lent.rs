@@ -194,6 +194,34 @@ pub fn pair_call(
     answer(number, saving)
 }
 
+/// What two moves would save: one at the node that a word (1 to 3) of a node names, one at the node; below 0 where they lose.
+pub fn trial(
+    size: Size,
+    node_table: &[u32],
+    output_table: &[u32],
+    pair: (u32, u32),
+    moves: (u32, u32),
+) -> Result<i64, Refusal> {
+    let mut gain = 0i64;
+    let number = unsafe {
+        raw::reducer_trial(
+            size.inputs,
+            size.nodes,
+            size.outputs,
+            node_table.as_ptr(),
+            node_table.len(),
+            output_table.as_ptr(),
+            output_table.len(),
+            pair.0,
+            pair.1,
+            moves.0,
+            moves.1,
+            &mut gain,
+        )
+    };
+    answer(number, gain)
+}
+
 /// The best moves of the tree of a root; what they save. Scratch is [`crate::scratch_words`] long.
 pub fn tree_call(
     size: Size,

@@ -296,6 +296,12 @@ impl Graph {
         lent::pair_call(self.size, &mut self.node_table, &mut self.output_table, node, word)
     }
 
+    /// What `named_move` at the node that a word (1 to 3) of a node names and `node_move` at the node would save: below 0 where
+    /// they lose, 0 where the word names no node. A move that a node's kind lacks turns nothing. Nothing is changed.
+    pub fn trial(&self, node: u32, word: u32, named_move: u32, node_move: u32) -> Result<i64, Refusal> {
+        lent::trial(self.size, &self.node_table, &self.output_table, (node, word), (named_move, node_move))
+    }
+
     /// Makes the best moves of the tree of a root; what they save.
     pub fn tree_call(&mut self, root: u32) -> Result<u32, Refusal> {
         let mut scratch = self.scratch();

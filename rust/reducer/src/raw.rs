@@ -103,6 +103,21 @@ extern "C" {
         saving: *mut u32,
     ) -> u32;
 
+    pub fn reducer_trial(
+        inputs: u32,
+        nodes: u32,
+        outputs: u32,
+        node_table: *const u32,
+        node_table_length: usize,
+        output_table: *const u32,
+        output_table_length: usize,
+        node: u32,
+        word: u32,
+        named_move: u32,
+        node_move: u32,
+        gain: *mut i64,
+    ) -> u32;
+
     pub fn reducer_tree(
         inputs: u32,
         nodes: u32,

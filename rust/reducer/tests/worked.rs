@@ -41,6 +41,24 @@ fn worked_graphs() {
 }
 
 #[test]
+fn worked_trials() {
+    let trials = |g: &Graph, node: u32, word: u32, kinds: (u32, u32)| -> Vec<i64> {
+        let moves = (0..kinds.0).flat_map(|a| (0..kinds.1).map(move |k| (a, k)));
+        moves.map(|(a, k)| g.trial(node, word, a, k).unwrap()).collect()
+    };
+    let p3 = graph(5, &[3, 5, 6, 12, 9, 10], &[15]);
+    assert_eq!(trials(&p3, 7, 1, (2, 2)), [0, 0, 0, 2]);
+    assert_eq!(trials(&graph(2, &[3, 5, 0, 7, 7, 3], &[9]), 4, 1, (2, 2)), [0, 4, 3, 3]);
+    assert_eq!(trials(&graph(2, &[2, 4, 0, 6, 2, MARK], &[8]), 4, 1, (2, 4)), [0, -2, -2, -2, -4, -4, -4, -6]);
+    // A word that names no node, and moves that a majority lacks.
+    assert_eq!(trials(&p3, 7, 2, (2, 2)), [0; 4]);
+    assert_eq!(p3.trial(7, 1, 4, u32::MAX), Ok(0));
+    assert_eq!(p3.trial(7, 4, 0, 0), Err(Refusal::NoSuchNode));
+    assert_eq!(p3.trial(5, 1, 0, 0), Err(Refusal::NoSuchNode));
+    assert_eq!(graph(3, &[8, 7, 7], &[]).trial(9, 1, 0, 0), Err(Refusal::BadLiteral));
+}
+
+#[test]
 fn edges_of_the_limits() {
     assert_eq!(graph(3, &[7, 7, 7], &[]).complemented_edges(), Ok(3));
     assert_eq!(graph(3, &[8, 7, 7], &[]).complemented_edges(), Err(Refusal::BadLiteral));

@@ -120,6 +120,31 @@ pub fn pair_call(g: &mut Graph, node: u32, word: u32) -> Result<u32, Number> {
     Ok(make_best(g, &[named, node], &list))
 }
 
+/// What two moves on a pair would save: both made on a copy, and C counted again. A move that the kind lacks is none.
+pub fn trial(
+    g: &Graph,
+    node: u32,
+    word: u32,
+    named_move: u32,
+    node_move: u32,
+) -> Result<i64, Number> {
+    admit(g)?;
+    if !g.is_node(node) || word < 1 || word as usize > g.words_of(node) {
+        return Err(7);
+    }
+    let named = index_of(g.word(node, word as usize - 1));
+    if !g.is_node(named) {
+        return Ok(0);
+    }
+    let mut next = g.clone();
+    for (at, number) in [(named, named_move as usize), (node, node_move as usize)] {
+        if number < rows(g, at).len() {
+            make(&mut next, at, number);
+        }
+    }
+    Ok(i64::from(g.c()) - i64::from(next.c()))
+}
+
 pub fn is_root(g: &Graph, node: u32) -> bool {
     let readers = g.readers(node);
     !(readers.len() == 1 && matches!(readers[0], Place::OfNode(_, _)))
