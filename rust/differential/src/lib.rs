@@ -19,3 +19,4 @@ pub mod shrink;
 pub mod stored;
 pub mod text_limits;
 pub mod texts;
+pub mod trials;

@@ -201,6 +201,29 @@ pub fn pair(g: &mut Graph, node: u32, word: u32) -> Answered<u32> {
     answered(number, saving, CANARY)
 }
 
+/// On tables that the call is lent to read.
+pub fn trial(g: &Graph, pair: (u32, u32), moves: (u32, u32)) -> Answered<i64> {
+    let canary = -0x5a5a_5a5a_5a5a;
+    let mut gain = canary;
+    let number = unsafe {
+        raw::reducer_trial(
+            g.inputs,
+            g.nodes,
+            g.outputs,
+            g.node_table.as_ptr(),
+            g.node_table.len(),
+            g.output_table.as_ptr(),
+            g.output_table.len(),
+            pair.0,
+            pair.1,
+            moves.0,
+            moves.1,
+            &mut gain,
+        )
+    };
+    answered(number, gain, canary)
+}
+
 pub fn tree(g: &mut Graph, root: u32, scratch: &mut [u32]) -> Answered<u32> {
     let mut saving = CANARY;
     let number = unsafe {

@@ -10,6 +10,7 @@ use differential::extremes::{self, EXTREMES};
 use differential::shrink::hold;
 use differential::{
     exports, faults, files, lengths, lists, preview_faults, previews, raw, replays, stored, text_limits, texts,
+    trials,
 };
 use reference::calls::Call;
 use reference::generate::{graph, Shape};
@@ -19,7 +20,7 @@ use reference::random::Random;
 /// What one kind of test does with a seed: how many cases it tried, or what failed.
 type Kind = (&'static str, u64, fn(u64) -> Result<u64, String>);
 
-const KINDS: [Kind; 25] = [
+const KINDS: [Kind; 26] = [
     ("stored cases of single calls and evaluation", 1, stored),
     ("the plain implementation, lists of calls", 30_000, plain_lists),
     ("lists of calls on small graphs", 80_000, small_lists),
@@ -28,6 +29,7 @@ const KINDS: [Kind; 25] = [
     ("settling hundreds of nodes", 400, settled),
     ("all calls on thousands of nodes", 20, large),
     ("settling at the limits", EXTREMES.len() as u64, at_limits),
+    ("trials of every two moves, and the pair call by them", 30_000, tried),
     ("lent slices of every length", 1_200, slices),
     ("literals in every place, and limits", 1_000, literals),
     ("files, whole and damaged", 400_000, damaged),
@@ -115,6 +117,15 @@ fn at_limits(seed: u64) -> Result<u64, String> {
     let Some(extreme) = EXTREMES.get(seed as usize) else { return Ok(0) };
     extremes::check(extreme, seed).map_err(|wrong| format!("seed {seed}: {}: {wrong}", extreme.name))?;
     Ok(1)
+}
+
+fn tried(seed: u64) -> Result<u64, String> {
+    let case = trials::random_trials(seed);
+    let count = trials::check_trials(&case);
+    if count.is_err() {
+        hold(seed, case, &|case| trials::check_trials(case).map(|_| ()))?;
+    }
+    count
 }
 
 fn slices(seed: u64) -> Result<u64, String> {
@@ -243,7 +254,7 @@ fn main() -> ExitCode {
         }
     }
     if only.is_none() {
-        if let Err(wrong) = all_met() {
+        if let Err(wrong) = all_met().and_then(|()| trials::all_met()) {
             println!("{wrong}");
             failed += 1;
         }
