@@ -7,6 +7,9 @@ use std::path::{Path, PathBuf};
 use std::process::{Command, Output, Stdio};
 use std::time::{Duration, Instant};
 
+#[path = "program/pictures.rs"]
+mod pictures;
+
 const PROGRAM: &str = env!("CARGO_BIN_EXE_panjerov");
 const MAJORITY: &str = "aag 7 3 0 1 4\n2\n4\n6\n15\n8 5 7\n10 2 9\n12 4 6\n14 11 13\n";
 
@@ -309,7 +312,7 @@ fn nothing_half_written() {
 
 #[test]
 fn standard_output_that_is_full() {
-    for words in ["settle", "show", "preview", "--help"] {
+    for words in ["settle", "show", "preview", "picture", "--help"] {
         let full = fs::OpenOptions::new().write(true).open("/dev/full").unwrap();
         let folder = folder(&format!("full_{words}"));
         fs::write(folder.join("in"), p1()).unwrap();
@@ -388,6 +391,7 @@ fn usage() {
         &["export", "--help"],
         &["show", "--help"],
         &["preview", "a", "7", "--help"],
+        &["picture", "--svg", "--help"],
     ] {
         let output = run(words, b"");
         let begin =

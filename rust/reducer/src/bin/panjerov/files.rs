@@ -14,6 +14,14 @@ pub struct Input {
     pub bytes: Vec<u8>,
 }
 
+impl Input {
+    /// Its name without the folders that it is in.
+    pub fn title(&self) -> String {
+        let last = Path::new(&self.name).file_name();
+        last.map_or(self.name.clone(), |last| last.to_string_lossy().into_owned())
+    }
+}
+
 /// How much is read. The longest AIGER text up to its last gate has fewer bytes, each line with the digits that its largest
 /// number has, and so has the longest tagged file; then a line of the largest numbers that there are.
 fn most_bytes() -> u64 {

@@ -12,6 +12,7 @@ Reduces inversions in majority and XOR graphs. The commands:
     export   gives the graph as ASCII AIGER text
     show     tells sizes, kinds, complemented edges and depth
     preview  tells what the best moves of a tree would save, and makes none
+    picture  draws the graph, as DOT text for Graphviz, as SVG or as PNG
 
 `panjerov COMMAND --help` tells more of a command.
 ";
@@ -81,6 +82,29 @@ Without ROOT all roots are told, with the sizes of their trees:
     root 7 nodes 2 majorities 2 xors 0
 ";
 
+const PICTURE: &str = "\
+usage: panjerov picture [FILE] [--svg|--png] [--output K|--root R] [-o FILE]
+
+Draws the graph: inputs at the bottom, outputs at the top, majorities as boxes with corners and XORs as round ones.
+Below a node's kind and index are its words 1 to 3, and the edge that each word is ends there. A word is a literal:
+twice the index that it names, and 1 more if the edge is complemented; such an edge has a dot at its end. The
+constant, a 0 in a circle, is drawn at each reader.
+
+Without an option it gives DOT text, which Graphviz and other programs read. With --svg or --png Graphviz makes the
+picture, by its program dot; where that is not installed or takes more than 4 seconds, nothing is given. A PNG has
+at most 4,800 points a side; SVG stays sharp at every size.
+
+A whole graph is drawn up to 300 nodes, and 600 inputs, nodes and outputs together. Of a larger one, or where less is
+wanted, a part is drawn, and a line on standard error says which:
+
+    --output K   output K, counted from 1, and what it rests on
+    --root R     the tree of a root; `panjerov preview FILE` tells the roots
+
+Of more than 300 nodes those nearest to the output or the root are drawn. A dashed box is a node that is read there and
+whose words are not drawn. In a graph so deep that edges would run along most of it, inputs and outputs stand near
+their nodes.
+";
+
 const FILES: &str = "
 FILE is a tagged file or ASCII AIGER text, which is seen from its first bytes; without FILE, or where it is -,
 standard input is read. What is given goes to standard output, or with -o to a file, which is replaced only once
@@ -101,6 +125,7 @@ pub fn of(command: Command) -> String {
         Command::Export => EXPORT,
         Command::Show => SHOW,
         Command::Preview => PREVIEW,
+        Command::Picture => PICTURE,
     };
     format!("{own}{FILES}")
 }

@@ -1,9 +1,14 @@
-//! The program `panjerov`: settles graphs, shows them, previews their trees, and makes tagged files of AIGER texts and back.
+//! The program `panjerov`: settles graphs, shows and draws them, previews their trees, and makes tagged files of AIGER texts and
+//! back.
 
 mod faults;
 mod files;
 mod formats;
+mod graphviz;
 mod help;
+mod nodes;
+mod parts;
+mod picture;
 mod preview;
 mod progress;
 mod show;
@@ -13,7 +18,9 @@ mod words;
 use std::io::{self, Write};
 use std::process::ExitCode;
 
+use files::Input;
 use formats::Format;
+use parts::Part;
 use progress::Progress;
 use reducer::{Graph, Settled, Size};
 use words::{Asked, Command, Work};
@@ -30,14 +37,29 @@ fn settle(graph: &mut Graph) -> Result<String, String> {
     Ok(format!("inputs {inputs} nodes {nodes} outputs {outputs} before {before} after {after} rounds {rounds}"))
 }
 
-fn work(asked: &Work) -> Result<(), String> {
-    let input = files::read(asked.input.as_deref())?;
-    let working = Progress::of(format!("{} {}", asked.command.doing(), input.name));
-    let (mut graph, got) = formats::graph_of(&input)?;
-    let mut figures = None;
-    let given = match asked.command {
+/// What a command gives, and the line beside it, if there is one.
+struct Given {
+    bytes: Vec<u8>,
+    line: Option<String>,
+}
+
+/// Draws a part of a graph, or all of it.
+fn draw(asked: &Work, graph: &Graph, input: &Input) -> Result<Given, String> {
+    let part = Part::of(graph, asked.wanted).map_err(|why| format!("{}: {why}", input.name))?;
+    let text = picture::of(graph, &part, &input.title())?;
+    let bytes = match asked.form {
+        Some(form) => graphviz::picture(text, form)?,
+        None => text.into_bytes(),
+    };
+    Ok(Given { bytes, line: part.line() })
+}
+
+fn given(asked: &Work, input: &Input) -> Result<Given, String> {
+    let (mut graph, got) = formats::graph_of(input)?;
+    let mut line = None;
+    let bytes = match asked.command {
         Command::Settle => {
-            figures = Some(settle(&mut graph)?);
+            line = Some(settle(&mut graph)?);
             formats::bytes_of(&graph, asked.to.unwrap_or(got))?
         }
         Command::Import => formats::bytes_of(&graph, Format::Tagged)?,
@@ -46,13 +68,21 @@ fn work(asked: &Work) -> Result<(), String> {
         Command::Preview => {
             let told = preview::of(&graph, asked.root, asked.only_moves);
             let told = told.map_err(|why| format!("{}: {why}", input.name))?;
-            figures = told.figures;
+            line = told.figures;
             told.text.into_bytes()
         }
+        Command::Picture => return draw(asked, &graph, input),
     };
-    files::write(asked.output.as_deref(), &given)?;
+    Ok(Given { bytes, line })
+}
+
+fn work(asked: &Work) -> Result<(), String> {
+    let input = files::read(asked.input.as_deref())?;
+    let working = Progress::of(format!("{} {}", asked.command.doing(), input.name));
+    let Given { bytes, line } = given(asked, &input)?;
+    files::write(asked.output.as_deref(), &bytes)?;
     drop(working);
-    figures.iter().for_each(|line| say(line));
+    line.iter().for_each(|line| say(line));
     Ok(())
 }
 

@@ -1,7 +1,7 @@
 //! What `panjerov preview` tells.
 
 use crate::trees::{Kinds, Trees};
-use reducer::{Graph, Refusal, Size};
+use reducer::{Graph, Refusal};
 
 /// What is given, and the line beside it, if there is one.
 pub struct Told {
@@ -26,19 +26,9 @@ fn roots_of(graph: &Graph) -> String {
     format!("roots {}\n{}", roots.len(), lines.collect::<String>())
 }
 
-/// Why an index is no root.
-fn no_root(graph: &Graph, index: u32) -> String {
-    let Size { inputs, nodes, .. } = graph.size;
-    match Trees::of(graph).root_of(index) {
-        Some(root) => format!("{index} is no root: it is in the tree of root {root}"),
-        None if nodes == 0 => format!("{index} is no root: there are no nodes"),
-        None => format!("{index} is no root: nodes are {} to {}", inputs + 1, inputs + nodes),
-    }
-}
-
 fn refused(graph: &Graph, index: u32, refusal: Refusal) -> String {
     match refusal {
-        Refusal::NoSuchNode => format!("{refusal}; {}", no_root(graph, index)),
+        Refusal::NoSuchNode => format!("{refusal}; {}", Trees::of(graph).no_root(index)),
         _ => refusal.to_string(),
     }
 }

@@ -1,6 +1,7 @@
 //! The trees of a graph.
 
-use reducer::{Graph, Size, MARK};
+use crate::nodes::is_xor;
+use reducer::{Graph, Size};
 
 /// Which tree each node is in, of a graph that the library has admitted.
 pub struct Trees<'a> {
@@ -42,13 +43,23 @@ impl Trees<'_> {
     }
 
     pub fn is_xor(&self, node: u32) -> bool {
-        self.graph.node_table[3 * (node - self.graph.size.inputs) as usize - 1] == MARK
+        is_xor(self.graph, node)
     }
 
     /// The root of a node's tree; none where the index is no node's.
     pub fn root_of(&self, index: u32) -> Option<u32> {
         let at = index.checked_sub(self.graph.size.inputs + 1)?;
         self.roots.get(at as usize).copied()
+    }
+
+    /// Why an index is no root.
+    pub fn no_root(&self, index: u32) -> String {
+        let Size { inputs, nodes, .. } = self.graph.size;
+        match self.root_of(index) {
+            Some(root) => format!("{index} is no root: it is in the tree of root {root}"),
+            None if nodes == 0 => format!("{index} is no root: there are no nodes"),
+            None => format!("{index} is no root: nodes are {} to {}", inputs + 1, inputs + nodes),
+        }
     }
 
     fn nodes(&self) -> impl Iterator<Item = (u32, u32)> + '_ {
@@ -90,7 +101,7 @@ impl Kinds {
 #[cfg(test)]
 mod tests {
     use super::*;
-    use reducer::Refusal;
+    use reducer::{Refusal, MARK};
 
     fn graph(inputs: u32, node_table: &[u32], output_table: &[u32]) -> Graph {
         let size = Size { inputs, nodes: node_table.len() as u32 / 3, outputs: output_table.len() as u32 };

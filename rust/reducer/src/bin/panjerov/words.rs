@@ -4,7 +4,9 @@ use std::ffi::OsString;
 use std::path::PathBuf;
 
 use crate::formats::Format;
+use crate::graphviz::Form;
 use crate::help;
+use crate::parts::Wanted;
 
 #[derive(Clone, Copy, Debug, PartialEq, Eq)]
 pub enum Command {
@@ -13,6 +15,7 @@ pub enum Command {
     Export,
     Show,
     Preview,
+    Picture,
 }
 
 impl Command {
@@ -23,6 +26,7 @@ impl Command {
             "export" => Some(Command::Export),
             "show" => Some(Command::Show),
             "preview" => Some(Command::Preview),
+            "picture" => Some(Command::Picture),
             _ => None,
         }
     }
@@ -34,6 +38,7 @@ impl Command {
             Command::Export => "export",
             Command::Show => "show",
             Command::Preview => "preview",
+            Command::Picture => "picture",
         }
     }
 
@@ -45,6 +50,7 @@ impl Command {
             Command::Export => "exporting",
             Command::Show => "looking at",
             Command::Preview => "previewing",
+            Command::Picture => "drawing",
         }
     }
 }
@@ -61,6 +67,17 @@ pub struct Work {
     pub root: Option<u32>,
     /// Whether a preview gives its moves alone.
     pub only_moves: bool,
+    /// What is drawn.
+    pub wanted: Wanted,
+    /// What Graphviz makes of a picture; none is DOT text.
+    pub form: Option<Form>,
+}
+
+impl Work {
+    fn of(command: Command) -> Work {
+        let (wanted, form) = (Wanted::Whole, None);
+        Work { command, input: None, output: None, to: None, root: None, only_moves: false, wanted, form }
+    }
 }
 
 #[derive(Debug, PartialEq, Eq)]
@@ -108,12 +125,16 @@ fn put<T>(place: &mut Option<T>, value: T, what: &str) -> Result<(), String> {
     }
 }
 
-fn root_named(word: &str) -> Result<u32, String> {
+fn number_named(word: &str, what: &str) -> Result<u32, String> {
     let digits = word.bytes().all(|byte| byte.is_ascii_digit());
     match word.parse() {
-        Ok(root) if digits => Ok(root),
-        _ => Err(format!("ROOT is the index of a node, a number below 2 to the 32nd, and not {word}")),
+        Ok(number) if digits => Ok(number),
+        _ => Err(format!("{what}, a number below 2 to the 32nd, and not {word}")),
     }
+}
+
+fn root_named(word: &str) -> Result<u32, String> {
+    number_named(word, "ROOT is the index of a node")
 }
 
 /// Puts a word that is no option: FILE, and after it the ROOT of a preview.
@@ -125,8 +146,27 @@ fn put_plain(work: &mut Work, input: &mut Option<OsString>, word: OsString) -> R
     put(input, word, "FILE")
 }
 
+/// Puts an option of what draws, with the word after it if it takes one.
+fn put_drawing(work: &mut Work, option: &str, next: impl FnOnce() -> Option<OsString>) -> Result<(), String> {
+    let number = |what: &str| {
+        let word = next().ok_or(format!("{option} wants a number after it"))?;
+        number_named(&word.to_string_lossy(), what)
+    };
+    let wanted = match option {
+        "--svg" => return put(&mut work.form, Form::Svg, "what Graphviz makes"),
+        "--png" => return put(&mut work.form, Form::Png, "what Graphviz makes"),
+        "--output" => Wanted::Output(number("--output wants which output is drawn (-o names a file)")?),
+        "--root" => Wanted::Root(number("--root wants the index of a node")?),
+        _ => return Err(format!("there is no option {option}")),
+    };
+    match std::mem::replace(&mut work.wanted, wanted) {
+        Wanted::Whole => Ok(()),
+        _ => Err("what is drawn is given twice".into()),
+    }
+}
+
 fn asked_of(command: Command, mut words: impl Iterator<Item = OsString>) -> Result<Asked, String> {
-    let mut work = Work { command, input: None, output: None, to: None, root: None, only_moves: false };
+    let mut work = Work::of(command);
     let (mut input, mut output) = (None, None);
     let mut only_files = false;
     while let Some(word) = words.next() {
@@ -138,6 +178,7 @@ fn asked_of(command: Command, mut words: impl Iterator<Item = OsString>) -> Resu
             "--to" if command == Command::Settle => put(&mut work.to, format_named(words.next())?, "--to")?,
             "--moves" if command == Command::Preview => work.only_moves = true,
             "--" => only_files = true,
+            _ if command == Command::Picture => put_drawing(&mut work, &text, || words.next())?,
             _ => return Err(format!("there is no option {text}")),
         }
     }
@@ -157,7 +198,7 @@ mod tests {
 
     fn work(command: Command, input: Option<&str>, output: Option<&str>, to: Option<Format>) -> Result<Asked, String> {
         let (input, output) = (input.map(PathBuf::from), output.map(PathBuf::from));
-        Ok(Asked::Work(Work { command, input, output, to, root: None, only_moves: false }))
+        Ok(Asked::Work(Work { input, output, to, ..Work::of(command) }))
     }
 
     fn preview(
@@ -167,7 +208,7 @@ mod tests {
         only_moves: bool,
     ) -> Result<Asked, String> {
         let (input, output) = (input.map(PathBuf::from), output.map(PathBuf::from));
-        Ok(Asked::Work(Work { command: Command::Preview, input, output, to: None, root, only_moves }))
+        Ok(Asked::Work(Work { input, output, root, only_moves, ..Work::of(Command::Preview) }))
     }
 
     #[test]
@@ -190,6 +231,19 @@ mod tests {
         assert_eq!(of(&["preview", "-", "007", "--moves"]), preview(None, None, Some(7), true));
         assert_eq!(of(&["preview", "--moves", "a", "-o", "b", "0"]), preview(Some("a"), Some("b"), Some(0), true));
         assert_eq!(of(&["preview", "--", "-a", "4294967295"]), preview(Some("-a"), None, Some(u32::MAX), false));
+    }
+
+    #[test]
+    fn what_is_drawn() {
+        let picture = |input: Option<&str>, output: Option<&str>, wanted, form| {
+            let (input, output) = (input.map(PathBuf::from), output.map(PathBuf::from));
+            Ok(Asked::Work(Work { input, output, wanted, form, ..Work::of(Command::Picture) }))
+        };
+        assert_eq!(of(&["picture"]), picture(None, None, Wanted::Whole, None));
+        assert_eq!(of(&["picture", "a", "--svg"]), picture(Some("a"), None, Wanted::Whole, Some(Form::Svg)));
+        let output = picture(Some("a"), Some("b"), Wanted::Output(3), Some(Form::Png));
+        assert_eq!(of(&["picture", "--output", "3", "--png", "a", "-o", "b"]), output);
+        assert_eq!(of(&["picture", "a", "--root", "7"]), picture(Some("a"), None, Wanted::Root(7), None));
     }
 
     #[test]
@@ -220,6 +274,17 @@ mod tests {
             &["preview", "--moves"],
             &["preview", "a", "--moves"],
             &["preview", "a", "7", "--to", "aiger"],
+            &["preview", "a", "--svg"],
+            &["preview", "a", "--output", "1"],
+            &["picture", "a", "7"],
+            &["picture", "a", "--to", "aiger"],
+            &["picture", "a", "--svg", "--png"],
+            &["picture", "a", "--output"],
+            &["picture", "a", "--output", "a.svg"],
+            &["picture", "a", "--root"],
+            &["picture", "a", "--root", "-7"],
+            &["picture", "a", "--root", "7", "--output", "1"],
+            &["picture", "a", "--root", "7", "--root", "7"],
         ] {
             assert!(of(words).is_err(), "{words:?}");
         }
