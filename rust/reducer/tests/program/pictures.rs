@@ -11,11 +11,17 @@ pub fn p3() -> Vec<u8> {
 /// What stands in a DOT text below its defaults, from bottom to top.
 fn drawn(output: &Output) -> String {
     let lines: Vec<&str> = text(&output.stdout).lines().collect();
-    assert_eq!(lines[0], "digraph panjerov {");
-    assert!(lines[1].starts_with("    graph [rankdir=BT, "), "{}", lines[1]);
-    assert!(lines[2].starts_with("    node [shape=box, style=filled, fillcolor=white, "), "{}", lines[2]);
-    assert!(lines[3].starts_with("    edge [arrowhead=none, "), "{}", lines[3]);
-    lines[4..].iter().flat_map(|line| [line, "\n"]).collect()
+    let begin = [
+        "digraph panjerov {",
+        "    graph [rankdir=BT, ",
+        "    graph [",
+        "    node [shape=box, ",
+        "    node [",
+        "    edge [",
+    ];
+    assert!(begin.iter().zip(&lines).all(|(begin, line)| line.starts_with(begin)), "{lines:?}");
+    assert!(lines[5].contains("arrowhead=none"));
+    lines[begin.len()..].iter().flat_map(|line| [line, "\n"]).collect()
 }
 
 /// Accepted, with these lines above the picture, this picture, and this on standard error.
@@ -89,11 +95,11 @@ fn xors_and_constants() {
     i1 -> n4:w1:s;
     i2 -> n4:w2:s [arrowhead=dot];
     n5 [label="{majority 5|{<w1> 1|<w2> 8|<w3> 0}}", shape=record, fillcolor="#dcebf7"];
-    c_n5_1 [label="0", shape=circle, width=0.2, fixedsize=true, fontsize=9];
-    c_n5_1 -> n5:w1:s [weight=2, arrowhead=dot];
+    n5_c1 [label="0", shape=circle, width=0.2, fixedsize=true, fontsize=9];
+    n5_c1 -> n5:w1:s [weight=2, arrowhead=dot];
     n4 -> n5:w2:s;
-    c_n5_3 [label="0", shape=circle, width=0.2, fixedsize=true, fontsize=9];
-    c_n5_3 -> n5:w3:s [weight=2];
+    n5_c3 [label="0", shape=circle, width=0.2, fixedsize=true, fontsize=9];
+    n5_c3 -> n5:w3:s [weight=2];
     n6 [label="{XOR 6|{<w1> 10|<w2> 11}}", shape=Mrecord, fillcolor="#fbdf9d"];
     n5 -> n6:w1:s;
     n5 -> n6:w2:s [arrowhead=dot];
@@ -103,8 +109,8 @@ fn xors_and_constants() {
         o2 [label="{output 2|<w1> 1}", shape=record];
     }
     n6 -> o1:w1:s;
-    c_o2_1 [label="0", shape=circle, width=0.2, fixedsize=true, fontsize=9];
-    c_o2_1 -> o2:w1:s [weight=2, arrowhead=dot];
+    o2_c1 [label="0", shape=circle, width=0.2, fixedsize=true, fontsize=9];
+    o2_c1 -> o2:w1:s [weight=2, arrowhead=dot];
 }
 "##;
     let above = ["3 inputs, 3 nodes, 2 outputs", "4 complemented edges, each with a dot"];
@@ -406,4 +412,216 @@ fn an_svg_of_graphviz() {
     assert!(heights.windows(2).all(|two| two[0] > two[1] + 10.0), "{heights:?}");
     let png = run(&["picture", "--png"], &p3());
     assert_eq!((png.status.code(), png.stdout.get(..8)), (Some(0), Some(&b"\x89PNG\r\n\x1a\n"[..])));
+}
+
+/// P3 and what document 01 says that its pair call leaves: 2 4 7; 12 8 11 -> 14.
+#[test]
+fn p3_compared() {
+    let folder = folder("p3_compared");
+    let after = tagged(&[(1, &[5, 2, 1]), (2, &[2, 4, 7]), (2, &[12, 8, 11]), (4, &[14]), (5, &[])]);
+    fs::write(folder.join("p3"), p3()).unwrap();
+    fs::write(folder.join("settled"), after).unwrap();
+    let due = r##"    label="6 turned edges, thick and orange";
+    packmode=array_u2;
+    subgraph cluster_before {
+        color=gray; labelloc=b;
+        label="before: p3\n5 inputs, 2 nodes, 1 output\n4 complemented edges, each with a dot";
+        {
+            rank=source;
+            before_i1 [label="input 1"];
+            before_i2 [label="input 2"];
+            before_i3 [label="input 3"];
+            before_i4 [label="input 4"];
+            before_i5 [label="input 5"];
+        }
+        before_n6 [label="{majority 6|{<w1> 3|<w2> 5|<w3> 6}}", shape=record, fillcolor="#dcebf7"];
+        before_i1 -> before_n6:w1:s [arrowhead=dot, color="#d55e00", penwidth=2.5];
+        before_i2 -> before_n6:w2:s [arrowhead=dot, color="#d55e00", penwidth=2.5];
+        before_i3 -> before_n6:w3:s [color="#d55e00", penwidth=2.5];
+        before_n7 [label="{majority 7|{<w1> 12|<w2> 9|<w3> 10}}", shape=record, fillcolor="#dcebf7"];
+        before_n6 -> before_n7:w1:s;
+        before_i4 -> before_n7:w2:s [arrowhead=dot, color="#d55e00", penwidth=2.5];
+        before_i5 -> before_n7:w3:s [color="#d55e00", penwidth=2.5];
+        {
+            rank=sink;
+            before_o1 [label="{output 1|<w1> 15}", shape=record];
+        }
+        before_n7 -> before_o1:w1:s [arrowhead=dot, color="#d55e00", penwidth=2.5];
+    }
+    subgraph cluster_after {
+        color=gray; labelloc=b;
+        label="after: settled\n5 inputs, 2 nodes, 1 output\n2 complemented edges, each with a dot";
+        {
+            rank=source;
+            after_i1 [label="input 1"];
+            after_i2 [label="input 2"];
+            after_i3 [label="input 3"];
+            after_i4 [label="input 4"];
+            after_i5 [label="input 5"];
+        }
+        after_n6 [label="{majority 6|{<w1> 2|<w2> 4|<w3> 7}}", shape=record, fillcolor="#dcebf7"];
+        after_i1 -> after_n6:w1:s [color="#d55e00", penwidth=2.5];
+        after_i2 -> after_n6:w2:s [color="#d55e00", penwidth=2.5];
+        after_i3 -> after_n6:w3:s [arrowhead=dot, color="#d55e00", penwidth=2.5];
+        after_n7 [label="{majority 7|{<w1> 12|<w2> 8|<w3> 11}}", shape=record, fillcolor="#dcebf7"];
+        after_n6 -> after_n7:w1:s;
+        after_i4 -> after_n7:w2:s [color="#d55e00", penwidth=2.5];
+        after_i5 -> after_n7:w3:s [arrowhead=dot, color="#d55e00", penwidth=2.5];
+        {
+            rank=sink;
+            after_o1 [label="{output 1|<w1> 14}", shape=record];
+        }
+        after_n7 -> after_o1:w1:s [color="#d55e00", penwidth=2.5];
+    }
+}
+"##;
+    let output = run_in(&folder, &["picture", "--compare", "p3", "settled"], b"");
+    assert_eq!(drawn(&output), due);
+    assert_eq!((said(&output).as_str(), output.status.code()), ("", Some(0)));
+    let output = run_in(&folder, &["picture", "--compare", "p3", "settled", "--root", "7", "-o", "part"], b"");
+    gives(&output, b"", "drawn: the tree of root 7, 2 nodes\n");
+    let part = fs::read_to_string(folder.join("part")).unwrap();
+    // Without the output, whose edge turned too.
+    assert!(part.contains("    label=\"5 turned edges, thick and orange\";") && !part.contains("_o1"));
+    assert!(part.contains("the tree of root 7, 2 nodes\\n3 complemented edges of the whole graph's 4, each with a dot"));
+    assert!(part.contains("the tree of root 7, 2 nodes\\n2 complemented edges of the whole graph's 2, each with a dot"));
+}
+
+#[test]
+fn p1_compared() {
+    let folder = folder("p1_compared");
+    fs::write(folder.join("settled"), p1_settled()).unwrap();
+    let output = run_in(&folder, &["picture", "--compare", "-", "settled"], &p1());
+    let turned = "color=\"#d55e00\", penwidth=2.5";
+    let dotted = format!(" [arrowhead=dot, {turned}];");
+    let plain = format!(" [{turned}];");
+    let due = [
+        ("before_i1", "before_n4:w1", &dotted[..]),
+        ("before_i2", "before_n4:w2", &dotted),
+        ("before_i3", "before_n4:w3", &dotted),
+        ("before_n4", "before_o1:w1", &dotted),
+        ("after_i1", "after_n4:w1", &plain),
+        ("after_i2", "after_n4:w2", &plain),
+        ("after_i3", "after_n4:w3", &plain),
+        ("after_n4", "after_o1:w1", &plain),
+    ];
+    assert_eq!(edges_of(text(&output.stdout)), due);
+    // A graph beside itself: nothing turned.
+    fs::write(folder.join("p1"), p1()).unwrap();
+    let output = run_in(&folder, &["picture", "--compare", "p1", "p1"], b"");
+    assert!(text(&output.stdout).contains("    label=\"0 turned edges, thick and orange\";"));
+    assert!(!text(&output.stdout).contains("#d55e00"));
+}
+
+/// A circuit of yosys as it came and as it was settled: each edge has the dot and the colour that the tables ask for.
+pub fn compared_circuit(test: &str, given: &[u8]) {
+    let folder = folder(test);
+    fs::write(folder.join("text"), given).unwrap();
+    let settled = run_in(&folder, &["settle", "text", "--to", "tagged", "-o", "settled"], b"");
+    assert_eq!(settled.status.code(), Some(0));
+    let output = run_in(&folder, &["picture", "--compare", "text", "settled"], b"");
+    let dot = text(&output.stdout);
+    let (before, after) = dot.split_at(dot.find("subgraph cluster_after").unwrap());
+    let told = |side| -> Vec<(String, String, bool)> {
+        let edges = edges_of(side).into_iter().filter(|(from, ..)| !from.contains("_c"));
+        edges.map(|(from, to, looks)| (from.into(), to.into(), looks.contains("arrowhead=dot"))).collect()
+    };
+    let (graph, moved) =
+        (Graph::import(given).unwrap(), Graph::load(&fs::read(folder.join("settled")).unwrap()).unwrap());
+    assert_eq!(told(before), edges_due(&graph, "before_"));
+    assert_eq!(told(after), edges_due(&moved, "after_"));
+    // All words, the constant's among them.
+    let words = |graph: &Graph| [&graph.node_table[..], &graph.output_table].concat();
+    let turned: Vec<bool> = words(&graph).iter().zip(words(&moved)).map(|(x, y)| *x != y).collect();
+    let coloured = |side| -> Vec<bool> { edges_of(side).iter().map(|edge| edge.2.contains("#d55e00")).collect() };
+    assert_eq!((coloured(before), coloured(after)), (turned.clone(), turned.clone()));
+    let dots = |side: &str| side.matches("arrowhead=dot").count() as u32;
+    assert_eq!(dots(before), graph.complemented_edges().unwrap());
+    assert_eq!(dots(after), moved.complemented_edges().unwrap());
+    assert!(dots(after) < dots(before));
+    let many = turned.iter().filter(|&&turned| turned).count();
+    assert!(dot.contains(&format!("    label=\"{many} turned edges, thick and orange\";")));
+}
+
+#[test]
+fn a_multiplier_compared() {
+    compared_circuit("a_multiplier_compared", include_bytes!("../../../../examples/multiplier4.aag"));
+}
+
+#[test]
+fn what_cannot_be_compared() {
+    let folder = folder("what_cannot_be_compared");
+    let or = "aag 3 2 0 1 1\n2\n4\n7\n6 3 5\n";
+    fs::write(folder.join("or"), or).unwrap();
+    fs::write(folder.join("p1"), p1()).unwrap();
+    fs::write(folder.join("out"), "old").unwrap();
+    let refused = |words: &[&str], input: &[u8], why: &str| {
+        let output = run_in(&folder, &[&["picture", "--compare", "-o", "out"], words].concat(), input);
+        stops(&output, 1, &format!("panjerov: {why}\n"));
+        assert_eq!(fs::read(folder.join("out")).unwrap(), b"old");
+    };
+    let xor = tagged(&[(1, &[3, 1, 1]), (3, &[3, 5]), (4, &[9]), (5, &[])]);
+    refused(
+        &["p1", "-"],
+        &xor,
+        "p1 and standard input have not the same wiring: node 4 is a majority before and an XOR after",
+    );
+    // Settled and given as text again, an AND is four.
+    let exported = run_in(&folder, &["settle", "or"], b"").stdout;
+    refused(
+        &["or", "-"],
+        &exported,
+        "or and standard input have not the same wiring: 2 inputs, 1 node, 1 output before and 2 inputs, 4 nodes, 1 output \
+         after; as AIGER text a settled graph has other nodes, so compare with what `panjerov settle --to tagged` gives",
+    );
+    refused(&["p1", "missing"], b"", "cannot read missing: No such file or directory (os error 2)");
+    refused(&["p1", "-"], b"", "standard input: refused 1: the bytes end within a field; it is empty");
+    let usage = "--compare wants BEFORE and AFTER; `panjerov picture --help` tells what picture takes";
+    stops(&run(&["picture", "--compare", "p1"], b""), 2, &format!("panjerov: {usage}\n"));
+    // The same wiring, and another function: it is drawn, and a line says so.
+    let other = tagged(&[(1, &[3, 1, 1]), (2, &[3, 5, 7]), (4, &[8]), (5, &[])]);
+    let output = run_in(&folder, &["picture", "--compare", "p1", "-"], &other);
+    assert_eq!(
+        said(&output),
+        "no moves lead from p1 to standard input, as output 1 shows: their functions may differ\n"
+    );
+    assert_eq!((output.status.code(), text(&output.stdout).matches("#d55e00").count()), (Some(0), 2));
+}
+
+/// Both sides have their boxes at the same places, before on the left.
+#[test]
+fn two_sides_of_graphviz() {
+    if !has_graphviz() {
+        return;
+    }
+    let folder = folder("two_sides_of_graphviz");
+    fs::write(folder.join("p3"), p3()).unwrap();
+    gives(
+        &run_in(&folder, &["settle", "p3", "-o", "settled"], b""),
+        b"",
+        "inputs 5 nodes 2 outputs 1 before 4 after 2 rounds 2\n",
+    );
+    let output = run_in(&folder, &["picture", "--compare", "p3", "settled", "--svg"], b"");
+    assert_eq!((said(&output).as_str(), output.status.code()), ("", Some(0)));
+    let groups = groups_of(text(&output.stdout));
+    let place = |name: String| {
+        let found = groups.iter().find(|group| group.class == "node" && group.name == name).unwrap();
+        let place = |axis: &str| between(between(found.body, "<text ", ">"), axis, "\"").parse::<f64>().unwrap();
+        (place(" x=\""), place(" y=\""))
+    };
+    let shifts: Vec<f64> = ["i1", "i2", "i3", "i4", "i5", "n6", "n7", "o1"]
+        .iter()
+        .map(|name| {
+            let (before, after) = (place(format!("before_{name}")), place(format!("after_{name}")));
+            assert!((before.1 - after.1).abs() < 1.0, "{name}");
+            after.0 - before.0
+        })
+        .collect();
+    assert!(shifts[0] > 100.0 && shifts.iter().all(|shift| (shift - shifts[0]).abs() < 1.0), "{shifts:?}");
+    let edges = groups.iter().filter(|group| group.class == "edge");
+    let told = |dot: bool, turned: bool| {
+        let has = |body: &str| (body.contains("<ellipse"), body.contains("stroke=\"#d55e00\"")) == (dot, turned);
+        edges.clone().filter(|edge| has(edge.body)).count()
+    };
+    assert_eq!((told(true, true), told(false, true), told(false, false), told(true, false)), (6, 6, 2, 0));
 }

@@ -84,6 +84,7 @@ Without ROOT all roots are told, with the sizes of their trees:
 
 const PICTURE: &str = "\
 usage: panjerov picture [FILE] [--svg|--png] [--output K|--root R] [-o FILE]
+       panjerov picture --compare BEFORE AFTER [--svg|--png] [--output K|--root R] [-o FILE]
 
 Draws the graph: inputs at the bottom, outputs at the top, majorities as boxes with corners and XORs as round ones.
 Below a node's kind and index are its words 1 to 3, and the edge that each word is ends there. A word is a literal:
@@ -93,6 +94,10 @@ constant, a 0 in a circle, is drawn at each reader.
 Without an option it gives DOT text, which Graphviz and other programs read. With --svg or --png Graphviz makes the
 picture, by its program dot; where that is not installed or takes more than 4 seconds, nothing is given. A PNG has
 at most 4,800 points a side; SVG stays sharp at every size.
+
+With --compare two graphs of the same wiring, as a graph and what settling made of it, are drawn side by side, and the
+edges that turned are thick and orange in both. Other wiring is refused. AIGER text has other nodes once it has been
+settled: compare it with what `panjerov settle --to tagged` gives.
 
 A whole graph is drawn up to 300 nodes, and 600 inputs, nodes and outputs together. Of a larger one, or where less is
 wanted, a part is drawn, and a line on standard error says which:

@@ -1,6 +1,7 @@
 //! The program `panjerov`: settles graphs, shows and draws them, previews their trees, and makes tagged files of AIGER texts and
 //! back.
 
+mod drawing;
 mod faults;
 mod files;
 mod formats;
@@ -13,6 +14,7 @@ mod preview;
 mod progress;
 mod show;
 mod trees;
+mod turned;
 mod words;
 
 use std::io::{self, Write};
@@ -20,7 +22,6 @@ use std::process::ExitCode;
 
 use files::Input;
 use formats::Format;
-use parts::Part;
 use progress::Progress;
 use reducer::{Graph, Settled, Size};
 use words::{Asked, Command, Work};
@@ -37,21 +38,10 @@ fn settle(graph: &mut Graph) -> Result<String, String> {
     Ok(format!("inputs {inputs} nodes {nodes} outputs {outputs} before {before} after {after} rounds {rounds}"))
 }
 
-/// What a command gives, and the line beside it, if there is one.
+/// What a command gives, and the lines beside it.
 struct Given {
     bytes: Vec<u8>,
-    line: Option<String>,
-}
-
-/// Draws a part of a graph, or all of it.
-fn draw(asked: &Work, graph: &Graph, input: &Input) -> Result<Given, String> {
-    let part = Part::of(graph, asked.wanted).map_err(|why| format!("{}: {why}", input.name))?;
-    let text = picture::of(graph, &part, &input.title())?;
-    let bytes = match asked.form {
-        Some(form) => graphviz::picture(text, form)?,
-        None => text.into_bytes(),
-    };
-    Ok(Given { bytes, line: part.line() })
+    lines: Vec<String>,
 }
 
 fn given(asked: &Work, input: &Input) -> Result<Given, String> {
@@ -71,18 +61,19 @@ fn given(asked: &Work, input: &Input) -> Result<Given, String> {
             line = told.figures;
             told.text.into_bytes()
         }
-        Command::Picture => return draw(asked, &graph, input),
+        Command::Picture if asked.compare => return drawing::compare(asked, input, (graph, got)),
+        Command::Picture => return drawing::draw(asked, input, &graph),
     };
-    Ok(Given { bytes, line })
+    Ok(Given { bytes, lines: line.into_iter().collect() })
 }
 
 fn work(asked: &Work) -> Result<(), String> {
     let input = files::read(asked.input.as_deref())?;
     let working = Progress::of(format!("{} {}", asked.command.doing(), input.name));
-    let Given { bytes, line } = given(asked, &input)?;
+    let Given { bytes, lines } = given(asked, &input)?;
     files::write(asked.output.as_deref(), &bytes)?;
     drop(working);
-    line.iter().for_each(|line| say(line));
+    lines.iter().for_each(|line| say(line));
     Ok(())
 }
 

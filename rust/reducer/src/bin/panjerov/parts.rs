@@ -69,7 +69,8 @@ pub fn count(many: usize, what: &str) -> String {
     format!("{many} {what}{}", if many == 1 { "" } else { "s" })
 }
 
-fn sizes(size: Size) -> [String; 3] {
+/// How many inputs, nodes and outputs there are.
+pub fn sizes(size: Size) -> [String; 3] {
     let Size { inputs, nodes, outputs } = size;
     [(inputs, "input"), (nodes, "node"), (outputs, "output")].map(|(many, what)| count(many as usize, what))
 }
@@ -138,6 +139,15 @@ fn whole(graph: &Graph) -> Result<Part, String> {
     })
 }
 
+/// The last box on the way from this one; the way is made shorter.
+fn end_of(with: &mut [u32], mut at: u32) -> u32 {
+    while with[at as usize] != at {
+        with[at as usize] = with[with[at as usize] as usize];
+        at = with[at as usize];
+    }
+    at
+}
+
 impl Part {
     /// What is drawn of a graph that the library has admitted, or why nothing is.
     pub fn of(graph: &Graph, wanted: Wanted) -> Result<Part, String> {
@@ -146,6 +156,24 @@ impl Part {
             Wanted::Output(output) => cone(graph, output),
             Wanted::Root(root) => tree(graph, root),
         }
+    }
+
+    /// Whether edges lead from every box to every other, up or down. The constant leads nowhere, as each reader has its own.
+    pub fn connected(&self, graph: &Graph) -> bool {
+        let past = 1 + graph.size.inputs + graph.size.nodes;
+        let outputs = self.outputs.iter().map(|&at| (past + at, &graph.output_table[at as usize - 1..at as usize]));
+        let readers = self.nodes.iter().map(|&node| (node, words_of(graph, node))).chain(outputs);
+        // By index, and outputs past them: a box that it hangs together with, or itself.
+        let mut with: Vec<u32> = (0..=past + graph.size.outputs).collect();
+        let mut pieces = self.inputs.len() + self.nodes.len() + self.beyond.len() + self.outputs.len();
+        for (reader, words) in readers {
+            for index in words.iter().map(|literal| literal / 2).filter(|&index| index != 0) {
+                let (x, y) = (end_of(&mut with, reader), end_of(&mut with, index));
+                with[x as usize] = y;
+                pieces -= usize::from(x != y);
+            }
+        }
+        pieces <= 1
     }
 
     /// The line that is said of a part; of a whole graph there is none.
@@ -221,6 +249,23 @@ mod tests {
         assert_eq!(cut.nodes, (102..=401).collect::<Vec<u32>>());
         assert_eq!((&cut.inputs[..], &cut.beyond[..]), (&[1][..], &[101][..]));
         assert_eq!(cut.told, "the tree of root 401, the 300 nearest of 400 nodes");
+    }
+
+    #[test]
+    fn connected() {
+        let of = |graph: &Graph, wanted| Part::of(graph, wanted).unwrap().connected(graph);
+        let p3 = graph(5, &[3, 5, 6, 12, 9, 10], &[15]);
+        assert!(of(&p3, Wanted::Whole) && of(&p3, Wanted::Root(7)) && of(&graph(0, &[], &[]), Wanted::Whole));
+        // An input that is not read; an output of the constant; two adders of no common input.
+        assert!(!of(&graph(6, &[3, 5, 6, 14, 9, 10], &[17]), Wanted::Whole));
+        assert!(
+            !of(&two_trees(), Wanted::Whole)
+                && of(&two_trees(), Wanted::Output(2))
+                && of(&two_trees(), Wanted::Output(3))
+        );
+        let two = graph(4, &[2, 4, MARK, 6, 8, MARK], &[10, 12]);
+        assert!(!of(&two, Wanted::Whole) && of(&two, Wanted::Output(2)));
+        assert!(of(&graph(4, &[2, 4, MARK, 6, 8, MARK, 10, 12, 0], &[14]), Wanted::Whole));
     }
 
     #[test]

@@ -6,13 +6,17 @@ use reducer::Graph;
 
 /// How everything looks unless a line says otherwise. A majority is a box with corners, an XOR one without; each has its words
 /// in a row below, and each word's edge ends there. The colours differ in lightness too. `nslimit` keeps large pictures quick.
-const LOOKS: &str =
-    "    graph [rankdir=BT, ranksep=0.5, nodesep=0.25, nslimit=2, labelloc=t, fontname=\"Helvetica,Arial,sans-serif\"];
-    node [shape=box, style=filled, fillcolor=white, fontname=\"Helvetica,Arial,sans-serif\", fontsize=12, height=0.3];
+/// The font has digits of one width, so that two graphs of the same wiring have boxes of the same widths.
+const LOOKS: &str = "    graph [rankdir=BT, ranksep=0.5, nodesep=0.25, nslimit=2, labelloc=t];
+    graph [fontname=\"Verdana,DejaVu Sans,sans-serif\", fontsize=13];
+    node [shape=box, style=filled, fillcolor=white, height=0.3];
+    node [fontname=\"Verdana,DejaVu Sans,sans-serif\", fontsize=11];
     edge [arrowhead=none, arrowsize=0.8, tailport=n];
 ";
 const MAJORITY: &str = "shape=record, fillcolor=\"#dcebf7\"";
 const XOR: &str = "shape=Mrecord, fillcolor=\"#fbdf9d\"";
+/// Thick, so that it is seen in black and white.
+const TURNED: &str = "color=\"#d55e00\", penwidth=2.5";
 const CONSTANT: &str = "label=\"0\", shape=circle, width=0.2, fixedsize=true, fontsize=9";
 
 /// The most levels that edges may cross, all together, for inputs to stand in one row at the bottom and outputs at the top.
@@ -27,36 +31,67 @@ fn quoted(text: &str) -> String {
 /// A graph as it is drawn.
 struct Side<'a> {
     graph: &'a Graph,
+    /// The graph of the same wiring that it is compared with.
+    other: Option<&'a Graph>,
     part: &'a Part,
+    /// What the names of its boxes begin with.
+    prefix: &'a str,
     /// Whether inputs and outputs stand in rows.
     rows: bool,
 }
 
-impl Side<'_> {
+/// The edges into a box: its words, and the same words of the graph that is compared.
+struct Edges<'a> {
+    reader: String,
+    words: &'a [u32],
+    others: Option<&'a [u32]>,
+}
+
+impl Edges<'_> {
+    fn turned(&self) -> impl Iterator<Item = bool> + '_ {
+        self.words.iter().enumerate().map(|(at, literal)| self.others.is_some_and(|others| others[at] != *literal))
+    }
+}
+
+impl<'a> Side<'a> {
+    fn into_node(&self, node: u32) -> Edges<'a> {
+        let others = self.other.map(|other| words_of(other, node));
+        Edges { reader: format!("{}n{node}", self.prefix), words: words_of(self.graph, node), others }
+    }
+
+    fn into_output(&self, output: u32) -> Edges<'a> {
+        let at = output as usize - 1;
+        let others = self.other.map(|other| &other.output_table[at..=at]);
+        Edges { reader: format!("{}o{output}", self.prefix), words: &self.graph.output_table[at..=at], others }
+    }
+
+    /// All edges that are drawn.
+    fn edges(&self) -> impl Iterator<Item = Edges<'a>> + '_ {
+        let nodes = self.part.nodes.iter().map(|&node| self.into_node(node));
+        nodes.chain(self.part.outputs.iter().map(|&output| self.into_output(output)))
+    }
+
     /// The box that an edge comes from. A constant is drawn for each word that reads it.
     fn source(&self, literal: u32, reader: &str, word: usize) -> String {
         match literal / 2 {
-            0 => format!("c_{reader}_{word}"),
-            index if index <= self.graph.size.inputs => format!("i{index}"),
-            index => format!("n{index}"),
+            0 => format!("{reader}_c{word}"),
+            index if index <= self.graph.size.inputs => format!("{}i{index}", self.prefix),
+            index => format!("{}n{index}", self.prefix),
         }
     }
 
-    /// The edges into a box, after the constants that they come from.
-    fn edges(&self, reader: &str, words: &[u32]) -> Vec<String> {
+    /// The lines of edges, after the constants that they come from.
+    fn edge_lines(&self, edges: &Edges) -> Vec<String> {
         let mut lines = Vec::new();
-        for (&literal, word) in words.iter().zip(1..) {
-            let source = self.source(literal, reader, word);
-            let mut looks = Vec::new();
+        for ((&literal, turned), word) in edges.words.iter().zip(edges.turned()).zip(1..) {
+            let source = self.source(literal, &edges.reader, word);
             if literal / 2 == 0 {
                 lines.push(format!("{source} [{CONSTANT}];"));
-                looks.push("weight=2");
             }
-            if literal % 2 == 1 {
-                looks.push("arrowhead=dot");
-            }
+            let looks = [(literal / 2 == 0, "weight=2"), (literal % 2 == 1, "arrowhead=dot"), (turned, TURNED)];
+            let looks: Vec<&str> = looks.into_iter().filter_map(|(has, look)| has.then_some(look)).collect();
             let looks = if looks.is_empty() { String::new() } else { format!(" [{}]", looks.join(", ")) };
-            lines.push(format!("{source} -> {reader}:w{word}:s{looks};"));
+            lines.push(format!("{source} -> {}:w{word}:s{looks};", edges.reader));
         }
         lines
     }
@@ -71,35 +106,43 @@ impl Side<'_> {
         opening.into_iter().chain(inner).chain(["}".to_string()]).collect()
     }
 
-    fn node(&self, node: u32) -> Vec<String> {
-        let words = words_of(self.graph, node);
-        let cells: Vec<String> = words.iter().zip(1..).map(|(literal, word)| format!("<w{word}> {literal}")).collect();
-        let look = if is_xor(self.graph, node) { XOR } else { MAJORITY };
-        let own = format!("n{node} [label=\"{{{}|{{{}}}}}\", {look}];", self.kind(node), cells.join("|"));
-        [vec![own], self.edges(&format!("n{node}"), words)].concat()
-    }
-
     fn kind(&self, node: u32) -> String {
         format!("{} {node}", if is_xor(self.graph, node) { "XOR" } else { "majority" })
     }
 
+    fn node_lines(&self, node: u32) -> Vec<String> {
+        let edges = self.into_node(node);
+        let cells: Vec<String> =
+            edges.words.iter().zip(1..).map(|(literal, word)| format!("<w{word}> {literal}")).collect();
+        let look = if is_xor(self.graph, node) { XOR } else { MAJORITY };
+        let own = format!("{} [label=\"{{{}|{{{}}}}}\", {look}];", edges.reader, self.kind(node), cells.join("|"));
+        [vec![own], self.edge_lines(&edges)].concat()
+    }
+
+    fn output_line(&self, output: u32) -> String {
+        let Edges { reader, words, .. } = self.into_output(output);
+        format!("{reader} [label=\"{{output {output}|<w1> {}}}\", shape=record];", words[0])
+    }
+
+    /// From the inputs up.
     fn lines(&self) -> Vec<String> {
         let Part { inputs, nodes, beyond, outputs, .. } = self.part;
-        let literal = |output: &u32| self.graph.output_table[*output as usize - 1];
-        let mut lines = self.row("source", inputs.iter().map(|at| format!("i{at} [label=\"input {at}\"];")).collect());
-        lines.extend(beyond.iter().map(|&at| format!("n{at} [label=\"{}\", style=dashed];", self.kind(at))));
-        lines.extend(nodes.iter().flat_map(|&node| self.node(node)));
-        let ends =
-            outputs.iter().map(|at| format!("o{at} [label=\"{{output {at}|<w1> {}}}\", shape=record];", literal(at)));
-        lines.extend(self.row("sink", ends.collect()));
-        lines.extend(outputs.iter().flat_map(|at| self.edges(&format!("o{at}"), &[literal(at)])));
+        let input = |at: &u32| format!("{}i{at} [label=\"input {at}\"];", self.prefix);
+        let mut lines = self.row("source", inputs.iter().map(input).collect());
+        let dashed = |&at: &u32| format!("{}n{at} [label=\"{}\", style=dashed];", self.prefix, self.kind(at));
+        lines.extend(beyond.iter().map(dashed));
+        lines.extend(nodes.iter().flat_map(|&node| self.node_lines(node)));
+        lines.extend(self.row("sink", outputs.iter().map(|&at| self.output_line(at)).collect()));
+        lines.extend(outputs.iter().flat_map(|&at| self.edge_lines(&self.into_output(at))));
         lines
     }
 
     fn complemented(&self) -> usize {
-        let nodes = self.part.nodes.iter().flat_map(|&node| words_of(self.graph, node)).copied();
-        let outputs = self.part.outputs.iter().map(|&at| self.graph.output_table[at as usize - 1]);
-        nodes.chain(outputs).filter(|literal| literal % 2 == 1).count()
+        self.edges().map(|edges| edges.words.iter().filter(|&literal| literal % 2 == 1).count()).sum()
+    }
+
+    fn turned(&self) -> usize {
+        self.edges().map(|edges| edges.turned().filter(|&turned| turned).count()).sum()
     }
 }
 
@@ -126,23 +169,49 @@ fn crossed(graph: &Graph, part: &Part) -> usize {
     crossed
 }
 
-/// What stands above a graph: what is drawn of it, its dots, and where inputs are to be looked for.
-fn caption(side: &Side) -> Result<Vec<String>, String> {
-    let drawn = side.complemented();
+/// What stands above a graph: its title, what is drawn of it, its dots, and where inputs are to be looked for.
+fn label(side: &Side, title: &str) -> Result<String, String> {
+    let drawn = count(side.complemented(), "complemented edge");
     let all = side.graph.complemented_edges().map_err(|refusal| refusal.to_string())?;
     let dots = match side.part.whole {
-        true => format!("{}, each with a dot", count(drawn, "complemented edge")),
-        false => format!("{} of the whole graph's {all}, each with a dot", count(drawn, "complemented edge")),
+        true => format!("{drawn}, each with a dot"),
+        false => format!("{drawn} of the whole graph's {all}, each with a dot"),
     };
     let near = "inputs and outputs stand near their nodes, since the graph is deep";
-    let told = [side.part.told.clone(), dots].into_iter();
-    Ok(told.chain((!side.rows).then(|| near.into())).collect())
+    let near = if side.rows { None } else { Some(near) };
+    let lines = [title, &side.part.told, &dots].into_iter().chain(near);
+    Ok(format!("label=\"{}\";", lines.map(quoted).collect::<Vec<String>>().join("\\n")))
+}
+
+fn digraph(lines: &[String]) -> String {
+    let lines: String = lines.iter().map(|line| format!("    {line}\n")).collect();
+    format!("digraph panjerov {{\n{LOOKS}{lines}}}\n")
 }
 
 /// The picture of a part of a graph, under a title.
 pub fn of(graph: &Graph, part: &Part, title: &str) -> Result<String, String> {
-    let side = Side { graph, part, rows: crossed(graph, part) <= MOST_CROSSED };
-    let lines: String = side.lines().iter().map(|line| format!("    {line}\n")).collect();
-    let label = [vec![title.to_string()], caption(&side)?].concat().iter().map(|line| quoted(line)).collect::<Vec<_>>();
-    Ok(format!("digraph panjerov {{\n{LOOKS}    label=\"{}\";\n{lines}}}\n", label.join("\\n")))
+    let side = Side { graph, other: None, part, prefix: "", rows: crossed(graph, part) <= MOST_CROSSED };
+    Ok(digraph(&[vec![label(&side, title)?], side.lines()].concat()))
+}
+
+/// One of two graphs in a frame.
+fn framed(side: &Side, title: &str) -> Result<Vec<String>, String> {
+    // Where ranks rise from the bottom, the bottom is the top to a frame's label.
+    let within = [vec!["color=gray; labelloc=b;".into(), label(side, title)?], side.lines()].concat();
+    let within = within.into_iter().map(|line| format!("    {line}"));
+    let opening = format!("subgraph cluster_{} {{", side.prefix.trim_end_matches('_'));
+    Ok([opening].into_iter().chain(within).chain(["}".into()]).collect())
+}
+
+/// The picture of a part of two graphs of the same wiring, before and after, each under its title.
+pub fn compared(graphs: [&Graph; 2], part: &Part, titles: &[String; 2]) -> Result<String, String> {
+    let [before, after] = graphs;
+    let rows = 2 * crossed(before, part) <= MOST_CROSSED;
+    let first = Side { graph: before, other: Some(after), part, prefix: "before_", rows };
+    let second = Side { graph: after, other: Some(before), part, prefix: "after_", rows };
+    let turned = format!("label=\"{}, thick and orange\";", count(first.turned(), "turned edge"));
+    // Each frame is laid out by itself, and so both alike; but what does not hang together would be torn apart.
+    let packed = part.connected(before).then(|| "packmode=array_u2;".into());
+    let opening = [turned].into_iter().chain(packed).collect();
+    Ok(digraph(&[opening, framed(&first, &titles[0])?, framed(&second, &titles[1])?].concat()))
 }

@@ -71,12 +71,26 @@ pub struct Work {
     pub wanted: Wanted,
     /// What Graphviz makes of a picture; none is DOT text.
     pub form: Option<Form>,
+    /// Whether two graphs are drawn.
+    pub compare: bool,
+    /// The second of them; none is standard input.
+    pub after: Option<PathBuf>,
 }
 
 impl Work {
     fn of(command: Command) -> Work {
-        let (wanted, form) = (Wanted::Whole, None);
-        Work { command, input: None, output: None, to: None, root: None, only_moves: false, wanted, form }
+        Work {
+            command,
+            input: None,
+            output: None,
+            to: None,
+            root: None,
+            only_moves: false,
+            wanted: Wanted::Whole,
+            form: None,
+            compare: false,
+            after: None,
+        }
     }
 }
 
@@ -137,13 +151,21 @@ fn root_named(word: &str) -> Result<u32, String> {
     number_named(word, "ROOT is the index of a node")
 }
 
-/// Puts a word that is no option: FILE, and after it the ROOT of a preview.
-fn put_plain(work: &mut Work, input: &mut Option<OsString>, word: OsString) -> Result<(), String> {
-    if work.command == Command::Preview && input.is_some() {
-        let root = root_named(&word.to_string_lossy())?;
-        return put(&mut work.root, root, "ROOT");
+/// Puts the words that are no options: FILE, and after it the ROOT of a preview; or BEFORE and AFTER.
+fn put_plain(work: &mut Work, plain: Vec<OsString>) -> Result<(), String> {
+    let mut plain = plain.into_iter();
+    work.input = plain.next().and_then(file);
+    match plain.next() {
+        Some(word) if work.command == Command::Preview => work.root = Some(root_named(&word.to_string_lossy())?),
+        Some(word) if work.compare => work.after = file(word),
+        Some(_) => return Err("FILE is given twice".into()),
+        None if work.compare => return Err("--compare wants BEFORE and AFTER".into()),
+        None => {}
     }
-    put(input, word, "FILE")
+    if work.compare && work.input.is_none() && work.after.is_none() {
+        return Err("only one of BEFORE and AFTER can be standard input".into());
+    }
+    plain.next().map_or(Ok(()), |word| Err(format!("{} is one word too many", word.to_string_lossy())))
 }
 
 /// Puts an option of what draws, with the word after it if it takes one.
@@ -153,6 +175,10 @@ fn put_drawing(work: &mut Work, option: &str, next: impl FnOnce() -> Option<OsSt
         number_named(&word.to_string_lossy(), what)
     };
     let wanted = match option {
+        "--compare" => {
+            work.compare = true;
+            return Ok(());
+        }
         "--svg" => return put(&mut work.form, Form::Svg, "what Graphviz makes"),
         "--png" => return put(&mut work.form, Form::Png, "what Graphviz makes"),
         "--output" => Wanted::Output(number("--output wants which output is drawn (-o names a file)")?),
@@ -167,12 +193,12 @@ fn put_drawing(work: &mut Work, option: &str, next: impl FnOnce() -> Option<OsSt
 
 fn asked_of(command: Command, mut words: impl Iterator<Item = OsString>) -> Result<Asked, String> {
     let mut work = Work::of(command);
-    let (mut input, mut output) = (None, None);
+    let (mut plain, mut output) = (Vec::new(), None);
     let mut only_files = false;
     while let Some(word) = words.next() {
         let text = word.to_string_lossy().into_owned();
         match text.as_str() {
-            _ if only_files || text == "-" || !text.starts_with('-') => put_plain(&mut work, &mut input, word)?,
+            _ if only_files || text == "-" || !text.starts_with('-') => plain.push(word),
             "--help" | "-h" => return Ok(Asked::Help(help::of(command))),
             "-o" => put(&mut output, words.next().ok_or("-o wants a file after it")?, "-o")?,
             "--to" if command == Command::Settle => put(&mut work.to, format_named(words.next())?, "--to")?,
@@ -182,10 +208,11 @@ fn asked_of(command: Command, mut words: impl Iterator<Item = OsString>) -> Resu
             _ => return Err(format!("there is no option {text}")),
         }
     }
+    put_plain(&mut work, plain)?;
     if work.only_moves && work.root.is_none() {
         return Err("--moves wants FILE and ROOT".into());
     }
-    Ok(Asked::Work(Work { input: input.and_then(file), output: output.and_then(file), ..work }))
+    Ok(Asked::Work(Work { output: output.and_then(file), ..work }))
 }
 
 #[cfg(test)]
@@ -247,6 +274,18 @@ mod tests {
     }
 
     #[test]
+    fn what_is_compared() {
+        let compared = |input: Option<&str>, after: Option<&str>| {
+            let (input, after) = (input.map(PathBuf::from), after.map(PathBuf::from));
+            Ok(Asked::Work(Work { input, after, compare: true, ..Work::of(Command::Picture) }))
+        };
+        assert_eq!(of(&["picture", "--compare", "a", "b"]), compared(Some("a"), Some("b")));
+        assert_eq!(of(&["picture", "a", "b", "--compare"]), compared(Some("a"), Some("b")));
+        assert_eq!(of(&["picture", "--compare", "-", "b"]), compared(None, Some("b")));
+        assert_eq!(of(&["picture", "--compare", "a", "-"]), compared(Some("a"), None));
+    }
+
+    #[test]
     fn what_is_not_understood() {
         for words in [
             &[][..],
@@ -278,6 +317,11 @@ mod tests {
             &["preview", "a", "--output", "1"],
             &["picture", "a", "7"],
             &["picture", "a", "--to", "aiger"],
+            &["picture", "--compare"],
+            &["picture", "--compare", "a"],
+            &["picture", "--compare", "-", "-"],
+            &["picture", "--compare", "a", "b", "c"],
+            &["show", "--compare", "a", "b"],
             &["picture", "a", "--svg", "--png"],
             &["picture", "a", "--output"],
             &["picture", "a", "--output", "a.svg"],

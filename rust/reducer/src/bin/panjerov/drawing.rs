@@ -1,0 +1,57 @@
+//! What `panjerov picture` gives.
+
+use crate::files::{self, Input};
+use crate::formats::{self, Format};
+use crate::graphviz;
+use crate::parts::Part;
+use crate::picture;
+use crate::turned;
+use crate::words::Work;
+use crate::Given;
+use reducer::Graph;
+
+/// As the DOT text, or as what Graphviz makes of it.
+fn formed(asked: &Work, text: String) -> Result<Vec<u8>, String> {
+    match asked.form {
+        Some(form) => graphviz::picture(text, form),
+        None => Ok(text.into_bytes()),
+    }
+}
+
+fn part_of(asked: &Work, graph: &Graph, input: &Input) -> Result<Part, String> {
+    Part::of(graph, asked.wanted).map_err(|why| format!("{}: {why}", input.name))
+}
+
+/// Draws a part of a graph, or all of it.
+pub fn draw(asked: &Work, input: &Input, graph: &Graph) -> Result<Given, String> {
+    let part = part_of(asked, graph, input)?;
+    let bytes = formed(asked, picture::of(graph, &part, &input.title())?)?;
+    Ok(Given { bytes, lines: part.line().into_iter().collect() })
+}
+
+/// Why two graphs are not compared.
+fn other_wiring(why: &str, inputs: [&Input; 2], formats: [Format; 2]) -> String {
+    let hint = match formats.contains(&Format::Aiger) {
+        true => {
+            "; as AIGER text a settled graph has other nodes, so compare with what `panjerov settle --to tagged` gives"
+        }
+        false => "",
+    };
+    format!("{} and {} have not the same wiring: {why}{hint}", inputs[0].name, inputs[1].name)
+}
+
+/// Draws two graphs of the same wiring side by side, or a part of them.
+pub fn compare(asked: &Work, before: &Input, (first, format): (Graph, Format)) -> Result<Given, String> {
+    let after = &files::read(asked.after.as_deref())?;
+    let (second, second_format) = formats::graph_of(after)?;
+    if let Some(why) = turned::other_wiring(&first, &second) {
+        return Err(other_wiring(&why, [before, after], [format, second_format]));
+    }
+    let part = part_of(asked, &first, before)?;
+    let titles = [("before", before), ("after", after)].map(|(which, input)| format!("{which}: {}", input.title()));
+    let bytes = formed(asked, picture::compared([&first, &second], &part, &titles)?)?;
+    let no_moves =
+        |at| format!("no moves lead from {} to {}, as {at} shows: their functions may differ", before.name, after.name);
+    let lines = part.line().into_iter().chain(turned::moves(&first, &second).err().map(no_moves));
+    Ok(Given { bytes, lines: lines.collect() })
+}
