@@ -9,6 +9,8 @@ use std::time::{Duration, Instant};
 
 #[path = "program/pictures.rs"]
 mod pictures;
+#[path = "program/reports.rs"]
+mod reports;
 
 const PROGRAM: &str = env!("CARGO_BIN_EXE_panjerov");
 const MAJORITY: &str = "aag 7 3 0 1 4\n2\n4\n6\n15\n8 5 7\n10 2 9\n12 4 6\n14 11 13\n";
@@ -312,13 +314,13 @@ fn nothing_half_written() {
 
 #[test]
 fn standard_output_that_is_full() {
-    for words in ["settle", "show", "preview", "picture", "--help"] {
+    for words in ["settle", "show", "preview", "picture", "report", "--help"] {
         let full = fs::OpenOptions::new().write(true).open("/dev/full").unwrap();
         let folder = folder(&format!("full_{words}"));
         fs::write(folder.join("in"), p1()).unwrap();
         let mut command = Command::new(PROGRAM);
         command.arg(words).stdin(fs::File::open(folder.join("in")).unwrap()).stdout(full);
-        let output = command.output().unwrap();
+        let output = command.env("PATH", &folder).output().unwrap();
         assert_eq!(output.status.code(), Some(1), "{words}");
         let due = "panjerov: cannot write standard output: No space left on device (os error 28)\n";
         assert_eq!(said(&output), due);
@@ -392,6 +394,7 @@ fn usage() {
         &["show", "--help"],
         &["preview", "a", "7", "--help"],
         &["picture", "--svg", "--help"],
+        &["report", "--help"],
     ] {
         let output = run(words, b"");
         let begin =

@@ -308,7 +308,7 @@ fn through_graphviz() {
 #[test]
 fn without_graphviz() {
     let missing =
-        "panjerov: Graphviz is not there: no program dot was found; it comes with the package graphviz, and without \
+        "panjerov: Graphviz is not there: no program dot was found; it comes with the package graphviz; without \
                    --svg or --png a picture is given as DOT text\n";
     let failed = "panjerov: Graphviz made no picture (exit status: 3): no such format\n";
     let empty = "panjerov: Graphviz made no picture (exit status: 0): \n";
@@ -332,7 +332,8 @@ fn without_graphviz() {
 /// It is stopped where it does not end, whether it reads or not, and where another program keeps its output open.
 #[test]
 fn a_graphviz_that_hangs() {
-    let slow = "panjerov: Graphviz had not finished after 4 seconds and was stopped; a part may do, by --output K or --root R\n";
+    let slow =
+        "panjerov: Graphviz had not finished after 4 seconds and was stopped; --output K or --root R draws a part\n";
     let scripts = ["exec sleep 20", "cat >/dev/null; exec sleep 20", "sleep 20 & exit 0"];
     let waiting = scripts.map(|script| {
         std::thread::spawn(move || {

@@ -2,7 +2,7 @@
 
 use crate::files::{self, Input};
 use crate::formats::{self, Format};
-use crate::graphviz;
+use crate::graphviz::{self, Failure};
 use crate::parts::Part;
 use crate::picture;
 use crate::turned;
@@ -13,7 +13,10 @@ use reducer::Graph;
 /// As the DOT text, or as what Graphviz makes of it.
 fn formed(asked: &Work, text: String) -> Result<Vec<u8>, String> {
     match asked.form {
-        Some(form) => graphviz::picture(text, form),
+        Some(form) => graphviz::picture(text, form).map_err(|failure| match failure {
+            Failure::Missing => format!("{failure}; without --svg or --png a picture is given as DOT text"),
+            _ => failure.to_string(),
+        }),
         None => Ok(text.into_bytes()),
     }
 }

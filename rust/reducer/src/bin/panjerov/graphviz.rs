@@ -1,5 +1,6 @@
 //! Graphviz, whose program `dot` makes pictures of DOT text.
 
+use std::fmt;
 use std::io::{self, Read, Write};
 use std::process::{Child, Command, ExitStatus, Stdio};
 use std::sync::mpsc::{channel, Receiver};
@@ -15,13 +16,27 @@ pub enum Form {
 /// How long it may take. What takes longer would hardly be looked at.
 const LONGEST: Duration = Duration::from_secs(4);
 
-const MISSING: &str =
-    "Graphviz is not there: no program dot was found; it comes with the package graphviz, and without --svg \
-                       or --png a picture is given as DOT text";
-const SLOW: &str =
-    "Graphviz had not finished after 4 seconds and was stopped; a part may do, by --output K or --root R";
+/// Why there is no picture.
+#[derive(Debug, PartialEq, Eq)]
+pub enum Failure {
+    Missing,
+    Slow,
+    Other(String),
+}
 
-fn started(form: Form) -> Result<Child, String> {
+impl fmt::Display for Failure {
+    fn fmt(&self, f: &mut fmt::Formatter<'_>) -> fmt::Result {
+        f.write_str(match self {
+            Failure::Missing => "Graphviz is not there: no program dot was found; it comes with the package graphviz",
+            Failure::Slow => {
+                "Graphviz had not finished after 4 seconds and was stopped; --output K or --root R draws a part"
+            }
+            Failure::Other(why) => why,
+        })
+    }
+}
+
+fn started(form: Form) -> Result<Child, Failure> {
     let options: &[&str] = match form {
         Form::Svg => &["-Tsvg"],
         // At most 50 inches, which are 4,800 points, a side: a larger one takes seconds to write.
@@ -30,8 +45,8 @@ fn started(form: Form) -> Result<Child, String> {
     let mut command = Command::new("dot");
     command.args(options).stdin(Stdio::piped()).stdout(Stdio::piped()).stderr(Stdio::piped());
     command.spawn().map_err(|error| match error.kind() {
-        io::ErrorKind::NotFound => MISSING.into(),
-        _ => format!("cannot run dot, the program of Graphviz: {error}"),
+        io::ErrorKind::NotFound => Failure::Missing,
+        _ => Failure::Other(format!("cannot run dot, the program of Graphviz: {error}")),
     })
 }
 
@@ -69,19 +84,21 @@ fn ended(child: &mut Child, deadline: Instant) -> io::Result<Option<ExitStatus>>
 }
 
 /// The picture of a DOT text, or why there is none.
-pub fn picture(text: String, form: Form) -> Result<Vec<u8>, String> {
+pub fn picture(text: String, form: Form) -> Result<Vec<u8>, Failure> {
     let deadline = Instant::now() + LONGEST;
     let mut child = started(form)?;
     feed(&mut child, text);
     let (given, said) = (all_of(child.stdout.take()), all_of(child.stderr.take()));
-    let status = ended(&mut child, deadline).map_err(|error| format!("cannot wait for Graphviz: {error}"))?;
+    let status = ended(&mut child, deadline);
+    let status = status.map_err(|error| Failure::Other(format!("cannot wait for Graphviz: {error}")))?;
     let left = || deadline.saturating_duration_since(Instant::now());
     match (status, given.recv_timeout(left())) {
         (Some(status), Ok(given)) if status.success() && !given.is_empty() => Ok(given),
         (Some(status), Ok(_)) => {
             let said = said.recv_timeout(left()).unwrap_or_default();
-            Err(format!("Graphviz made no picture ({status}): {}", String::from_utf8_lossy(&said).trim_end()))
+            let said = String::from_utf8_lossy(&said);
+            Err(Failure::Other(format!("Graphviz made no picture ({status}): {}", said.trim_end())))
         }
-        _ => Err(SLOW.into()),
+        _ => Err(Failure::Slow),
     }
 }

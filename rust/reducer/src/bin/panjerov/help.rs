@@ -13,6 +13,7 @@ Reduces inversions in majority and XOR graphs. The commands:
     show     tells sizes, kinds, complemented edges and depth
     preview  tells what the best moves of a tree would save, and makes none
     picture  draws the graph, as DOT text for Graphviz, as SVG or as PNG
+    report   settles the graph and gives a page with figures, pictures and the nodes that turned
 
 `panjerov COMMAND --help` tells more of a command.
 ";
@@ -110,6 +111,21 @@ whose words are not drawn. In a graph so deep that edges would run along most of
 their nodes.
 ";
 
+const REPORT: &str = "\
+usage: panjerov report [FILE] [--output K|--root R] [-o FILE]
+
+Settles the graph and gives one HTML page to hand in, which needs no network and no other file:
+
+    figures    sizes, complemented edges, rounds and cells before and after, at 13 cells an inverter, 5 a majority
+               and 12 an XOR
+    pictures   before and after, as `panjerov picture` draws them, the edges that turned in colour
+    nodes      those that turned, with their moves and words
+
+The settled graph itself comes from `panjerov settle`. Of a graph with more than 300 nodes --output K, which draws
+what output K rests on, or --root R, which draws a tree, makes pictures of a part. Where there are none, since
+the graph is too large or Graphviz is not installed, the page and a line on standard error say why.
+";
+
 const FILES: &str = "
 FILE is a tagged file or ASCII AIGER text, which is seen from its first bytes; without FILE, or where it is -,
 standard input is read. What is given goes to standard output, or with -o to a file, which is replaced only once
@@ -131,6 +147,7 @@ pub fn of(command: Command) -> String {
         Command::Show => SHOW,
         Command::Preview => PREVIEW,
         Command::Picture => PICTURE,
+        Command::Report => REPORT,
     };
     format!("{own}{FILES}")
 }

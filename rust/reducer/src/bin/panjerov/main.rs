@@ -1,5 +1,5 @@
-//! The program `panjerov`: settles graphs, shows and draws them, previews their trees, and makes tagged files of AIGER texts and
-//! back.
+//! The program `panjerov`: settles graphs, shows, draws and reports on them, previews their trees, and makes tagged files of
+//! AIGER texts and back.
 
 mod drawing;
 mod faults;
@@ -12,6 +12,7 @@ mod parts;
 mod picture;
 mod preview;
 mod progress;
+mod report;
 mod show;
 mod trees;
 mod turned;
@@ -23,7 +24,7 @@ use std::process::ExitCode;
 use files::Input;
 use formats::Format;
 use progress::Progress;
-use reducer::{Graph, Settled, Size};
+use reducer::{Settled, Size};
 use words::{Asked, Command, Work};
 
 /// A line on standard error. Where that cannot be written to, nobody reads it.
@@ -31,11 +32,11 @@ fn say(line: &str) {
     let _ = writeln!(io::stderr(), "{line}");
 }
 
-/// Settles the graph; the line with the figures.
-fn settle(graph: &mut Graph) -> Result<String, String> {
-    let Settled { rounds, before, after } = graph.settle().map_err(|refusal| refusal.to_string())?;
-    let Size { inputs, nodes, outputs } = graph.size;
-    Ok(format!("inputs {inputs} nodes {nodes} outputs {outputs} before {before} after {after} rounds {rounds}"))
+/// The line with the figures of settling.
+fn figures_of(size: Size, settled: Settled) -> String {
+    let Size { inputs, nodes, outputs } = size;
+    let Settled { rounds, before, after } = settled;
+    format!("inputs {inputs} nodes {nodes} outputs {outputs} before {before} after {after} rounds {rounds}")
 }
 
 /// What a command gives, and the lines beside it.
@@ -49,7 +50,8 @@ fn given(asked: &Work, input: &Input) -> Result<Given, String> {
     let mut line = None;
     let bytes = match asked.command {
         Command::Settle => {
-            line = Some(settle(&mut graph)?);
+            let settled = graph.settle().map_err(|refusal| refusal.to_string())?;
+            line = Some(figures_of(graph.size, settled));
             formats::bytes_of(&graph, asked.to.unwrap_or(got))?
         }
         Command::Import => formats::bytes_of(&graph, Format::Tagged)?,
@@ -63,6 +65,7 @@ fn given(asked: &Work, input: &Input) -> Result<Given, String> {
         }
         Command::Picture if asked.compare => return drawing::compare(asked, input, (graph, got)),
         Command::Picture => return drawing::draw(asked, input, &graph),
+        Command::Report => return report::of(input, &graph, asked.wanted),
     };
     Ok(Given { bytes, lines: line.into_iter().collect() })
 }

@@ -188,10 +188,23 @@ fn digraph(lines: &[String]) -> String {
     format!("digraph panjerov {{\n{LOOKS}{lines}}}\n")
 }
 
+fn alone(side: &Side, title: &str) -> Result<String, String> {
+    Ok(digraph(&[vec![label(side, title)?], side.lines()].concat()))
+}
+
 /// The picture of a part of a graph, under a title.
 pub fn of(graph: &Graph, part: &Part, title: &str) -> Result<String, String> {
-    let side = Side { graph, other: None, part, prefix: "", rows: crossed(graph, part) <= MOST_CROSSED };
-    Ok(digraph(&[vec![label(&side, title)?], side.lines()].concat()))
+    let rows = crossed(graph, part) <= MOST_CROSSED;
+    alone(&Side { graph, other: None, part, prefix: "", rows }, title)
+}
+
+/// The pictures of a part of two graphs of the same wiring, before and after, each by itself.
+pub fn both(graphs: [&Graph; 2], part: &Part) -> Result<[String; 2], String> {
+    let [before, after] = graphs;
+    let rows = crossed(before, part) <= MOST_CROSSED;
+    let first = Side { graph: before, other: Some(after), part, prefix: "before_", rows };
+    let second = Side { graph: after, other: Some(before), part, prefix: "after_", rows };
+    Ok([alone(&first, "before")?, alone(&second, "after")?])
 }
 
 /// One of two graphs in a frame.

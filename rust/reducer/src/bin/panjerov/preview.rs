@@ -10,7 +10,7 @@ pub struct Told {
 }
 
 /// What a move turns, by kind and number.
-fn turns(xor: bool, number: u8) -> &'static str {
+pub fn turns(xor: bool, number: u8) -> &'static str {
     match (xor, number) {
         (_, 0) => "nothing turns",
         (false, _) => "words 1, 2 and 3 and every reader turn",

@@ -4,7 +4,7 @@ use crate::formats::Format;
 use reducer::{Graph, Size, MARK};
 
 /// The most nodes on a way from an output down, of a graph that the library has admitted.
-fn depth(graph: &Graph) -> u32 {
+pub fn depth(graph: &Graph) -> u32 {
     let Size { inputs, outputs, .. } = graph.size;
     // By index: the most nodes on a way from it down, itself among them.
     let mut depths = vec![0; 1 + inputs as usize];

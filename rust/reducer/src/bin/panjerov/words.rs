@@ -16,6 +16,7 @@ pub enum Command {
     Show,
     Preview,
     Picture,
+    Report,
 }
 
 impl Command {
@@ -27,6 +28,7 @@ impl Command {
             "show" => Some(Command::Show),
             "preview" => Some(Command::Preview),
             "picture" => Some(Command::Picture),
+            "report" => Some(Command::Report),
             _ => None,
         }
     }
@@ -39,6 +41,7 @@ impl Command {
             Command::Show => "show",
             Command::Preview => "preview",
             Command::Picture => "picture",
+            Command::Report => "report",
         }
     }
 
@@ -51,6 +54,7 @@ impl Command {
             Command::Show => "looking at",
             Command::Preview => "previewing",
             Command::Picture => "drawing",
+            Command::Report => "reporting on",
         }
     }
 }
@@ -174,13 +178,14 @@ fn put_drawing(work: &mut Work, option: &str, next: impl FnOnce() -> Option<OsSt
         let word = next().ok_or(format!("{option} wants a number after it"))?;
         number_named(&word.to_string_lossy(), what)
     };
+    let picture = work.command == Command::Picture;
     let wanted = match option {
-        "--compare" => {
+        "--compare" if picture => {
             work.compare = true;
             return Ok(());
         }
-        "--svg" => return put(&mut work.form, Form::Svg, "what Graphviz makes"),
-        "--png" => return put(&mut work.form, Form::Png, "what Graphviz makes"),
+        "--svg" if picture => return put(&mut work.form, Form::Svg, "what Graphviz makes"),
+        "--png" if picture => return put(&mut work.form, Form::Png, "what Graphviz makes"),
         "--output" => Wanted::Output(number("--output wants which output is drawn (-o names a file)")?),
         "--root" => Wanted::Root(number("--root wants the index of a node")?),
         _ => return Err(format!("there is no option {option}")),
@@ -204,7 +209,9 @@ fn asked_of(command: Command, mut words: impl Iterator<Item = OsString>) -> Resu
             "--to" if command == Command::Settle => put(&mut work.to, format_named(words.next())?, "--to")?,
             "--moves" if command == Command::Preview => work.only_moves = true,
             "--" => only_files = true,
-            _ if command == Command::Picture => put_drawing(&mut work, &text, || words.next())?,
+            _ if matches!(command, Command::Picture | Command::Report) => {
+                put_drawing(&mut work, &text, || words.next())?
+            }
             _ => return Err(format!("there is no option {text}")),
         }
     }
@@ -271,6 +278,8 @@ mod tests {
         let output = picture(Some("a"), Some("b"), Wanted::Output(3), Some(Form::Png));
         assert_eq!(of(&["picture", "--output", "3", "--png", "a", "-o", "b"]), output);
         assert_eq!(of(&["picture", "a", "--root", "7"]), picture(Some("a"), None, Wanted::Root(7), None));
+        let reported = Work { input: Some("a".into()), wanted: Wanted::Output(2), ..Work::of(Command::Report) };
+        assert_eq!(of(&["report", "a", "--output", "2"]), Ok(Asked::Work(reported)));
     }
 
     #[test]
@@ -322,6 +331,10 @@ mod tests {
             &["picture", "--compare", "-", "-"],
             &["picture", "--compare", "a", "b", "c"],
             &["show", "--compare", "a", "b"],
+            &["report", "--compare", "a", "b"],
+            &["report", "a", "b"],
+            &["report", "a", "--svg"],
+            &["report", "a", "--to", "aiger"],
             &["picture", "a", "--svg", "--png"],
             &["picture", "a", "--output"],
             &["picture", "a", "--output", "a.svg"],
