@@ -30,6 +30,13 @@ def values(graph: Graph, assignments: list) -> list:
     return told
 
 
+def alu_slice(assignment: int) -> int:
+    """The result of an ALU's slice, and the carry above it."""
+    x, y, carry, negate = (assignment >> at & 1 for at in range(4))
+    z = y ^ negate
+    return (x & z, x | z, x ^ z, x ^ z ^ carry)[assignment >> 4] + 2 * (x + z + carry > 1)
+
+
 def random_graph(generator: random.Random) -> Graph:
     nodes = []
     inputs = generator.randrange(6)
@@ -171,11 +178,15 @@ class Good(unittest.TestCase):
         pairs = [(x, y) for x in range(16) for y in range(16)]
         both = [x + 16 * y for x, y in pairs]
         divided = [(x // y, x % y) if y else (15, x) for x, y in pairs]
+        wide = random.Random(4).sample(range(2**17), 4096)
         for name, assignments, due in [
             ("ripple_adder4", both + [n + 256 for n in both], [x + y for x, y in pairs] + [x + y + 1 for x, y in pairs]),
             ("multiplier4", both, [x * y for x, y in pairs]),
             ("comparator4", both, [(x < y) + 2 * (x == y) for x, y in pairs]),
             ("divider4", both, [quotient + 16 * rest for quotient, rest in divided]),
+            ("ripple_adder8", wide, [n % 256 + n // 256 % 256 + n // 65536 for n in wide]),
+            ("voter7", list(range(128)), [int(bin(votes).count("1") > 3) for votes in range(128)]),
+            ("alu_slice", list(range(64)), [alu_slice(n) for n in range(64)]),
         ]:
             graph = panjerov.import_aiger((EXAMPLES / f"{name}.aag").read_bytes())
             self.assertEqual(values(graph, assignments), due, name)

@@ -232,25 +232,36 @@ fn numbers(results: &[u64]) -> Vec<u64> {
     (0..64).map(|place| (0..results.len()).map(|at| bit(place, at)).sum()).collect()
 }
 
-/// Two numbers of 4 bits and an AIGER text that yosys wrote, held to what it is meant to compute: as it is, settled, and
-/// exported and imported again.
-fn held(name: &str, meant: impl Fn(u64, u64) -> u64) {
+/// An AIGER text that yosys wrote, held to what it is meant to compute of assignments, input 1 as their lowest bit: as it is,
+/// settled, and exported and imported again.
+fn held_at(name: &str, assignments: &[u64], meant: impl Fn(u64) -> u64) {
     let path = format!("{}/../../examples/{name}.aag", env!("CARGO_MANIFEST_DIR"));
     let mut given = Graph::import(&std::fs::read(path).unwrap()).unwrap();
     let before = given.clone();
     let settled = given.settle().unwrap();
     assert!(settled.after < settled.before, "{name}");
     let again = Graph::import(&given.export().unwrap()).unwrap();
-    for high in 0..4 {
-        let pair = |place: u64| ((high * 64 + place) % 16, (high * 64 + place) / 16);
-        let both = |place: u64| pair(place).0 + 16 * pair(place).1;
-        let words: Vec<u64> =
-            (0..before.size.inputs).map(|at| (0..64).map(|place| (both(place) >> at & 1) << place).sum()).collect();
-        let due: Vec<u64> = (0..64).map(|place| meant(pair(place).0, pair(place).1)).collect();
+    for some in assignments.chunks(64) {
+        let word = |at: u32| some.iter().enumerate().map(|(place, number)| (number >> at & 1) << place).sum();
+        let words: Vec<u64> = (0..before.size.inputs).map(word).collect();
+        let due: Vec<u64> = some.iter().map(|&number| meant(number)).collect();
         for graph in [&before, &given, &again] {
-            assert_eq!(numbers(&graph.evaluate(&words).unwrap()), due, "{name}");
+            assert_eq!(numbers(&graph.evaluate(&words).unwrap())[..some.len()], due, "{name}");
         }
     }
+}
+
+/// The same of two numbers of 4 bits; a carry is 0.
+fn held(name: &str, meant: impl Fn(u64, u64) -> u64) {
+    held_at(name, &(0..256).collect::<Vec<u64>>(), |both| meant(both % 16, both / 16));
+}
+
+/// The slice of an ALU: the result, and the carry above it.
+fn alu_slice(assignment: u64) -> u64 {
+    let [x, y, carry, negate] = [0, 1, 2, 3].map(|at| assignment >> at & 1);
+    let z = y ^ negate;
+    let result = [x & z, x | z, x ^ z, x ^ z ^ carry][(assignment >> 4) as usize];
+    result + 2 * u64::from(x + z + carry > 1)
 }
 
 #[test]
@@ -259,4 +270,8 @@ fn texts_of_yosys() {
     held("multiplier4", |x, y| x * y);
     held("comparator4", |x, y| (x < y) as u64 + 2 * (x == y) as u64);
     held("divider4", |x, y| x.checked_div(y).unwrap_or(15) + 16 * x.checked_rem(y).unwrap_or(x));
+    let all = |bits: u32| (0..1 << bits).collect::<Vec<u64>>();
+    held_at("ripple_adder8", &all(17), |all| all % 256 + all / 256 % 256 + all / 65_536);
+    held_at("voter7", &all(7), |votes| u64::from(votes.count_ones() > 3));
+    held_at("alu_slice", &all(6), alu_slice);
 }

@@ -515,7 +515,7 @@ fn p1_compared() {
 }
 
 /// A circuit of yosys as it came and as it was settled: each edge has the dot and the colour that the tables ask for.
-pub fn compared_circuit(test: &str, given: &[u8]) {
+fn compared_circuit(test: &str, given: &[u8]) {
     let folder = folder(test);
     fs::write(folder.join("text"), given).unwrap();
     let settled = run_in(&folder, &["settle", "text", "--to", "tagged", "-o", "settled"], b"");
@@ -545,7 +545,8 @@ pub fn compared_circuit(test: &str, given: &[u8]) {
 }
 
 #[test]
-fn a_multiplier_compared() {
+fn an_adder_and_a_multiplier_compared() {
+    compared_circuit("an_adder_compared", include_bytes!("../../../../examples/ripple_adder8.aag"));
     compared_circuit("a_multiplier_compared", include_bytes!("../../../../examples/multiplier4.aag"));
 }
 
