@@ -415,14 +415,7 @@ fn an_svg_of_graphviz() {
     assert_eq!((png.status.code(), png.stdout.get(..8)), (Some(0), Some(&b"\x89PNG\r\n\x1a\n"[..])));
 }
 
-/// P3 and what document 01 says that its pair call leaves: 2 4 7; 12 8 11 -> 14.
-#[test]
-fn p3_compared() {
-    let folder = folder("p3_compared");
-    let after = tagged(&[(1, &[5, 2, 1]), (2, &[2, 4, 7]), (2, &[12, 8, 11]), (4, &[14]), (5, &[])]);
-    fs::write(folder.join("p3"), p3()).unwrap();
-    fs::write(folder.join("settled"), after).unwrap();
-    let due = r##"    label="6 turned edges, thick and orange";
+const P3_COMPARED: &str = r##"    label="6 turned edges, thick and orange";
     packmode=array_u2;
     subgraph cluster_before {
         color=gray; labelloc=b;
@@ -476,8 +469,16 @@ fn p3_compared() {
     }
 }
 "##;
+
+/// P3 and what document 01 says that its pair call leaves: 2 4 7; 12 8 11 -> 14.
+#[test]
+fn p3_compared() {
+    let folder = folder("p3_compared");
+    let after = tagged(&[(1, &[5, 2, 1]), (2, &[2, 4, 7]), (2, &[12, 8, 11]), (4, &[14]), (5, &[])]);
+    fs::write(folder.join("p3"), p3()).unwrap();
+    fs::write(folder.join("settled"), after).unwrap();
     let output = run_in(&folder, &["picture", "--compare", "p3", "settled"], b"");
-    assert_eq!(drawn(&output), due);
+    assert_eq!(drawn(&output), P3_COMPARED);
     assert_eq!((said(&output).as_str(), output.status.code()), ("", Some(0)));
     let output = run_in(&folder, &["picture", "--compare", "p3", "settled", "--root", "7", "-o", "part"], b"");
     gives(&output, b"", "drawn: the tree of root 7, 2 nodes\n");

@@ -97,8 +97,8 @@ picture, by its program dot; where that is not installed or takes more than 4 se
 at most 4,800 points a side; SVG stays sharp at every size.
 
 With --compare two graphs of the same wiring, as a graph and what settling made of it, are drawn side by side, and the
-edges that turned are thick and orange in both. Other wiring is refused. AIGER text has other nodes once it has been
-settled: compare it with what `panjerov settle --to tagged` gives.
+edges that turned are thick and orange in both. One of the two may be -. Other wiring is refused. AIGER text has other
+nodes once it has been settled: compare it with what `panjerov settle --to tagged` gives.
 
 A whole graph is drawn up to 300 nodes, and 600 inputs, nodes and outputs together. Of a larger one, or where less is
 wanted, a part is drawn, and a line on standard error says which:

@@ -54,12 +54,12 @@ impl Edges<'_> {
 }
 
 impl<'a> Side<'a> {
-    fn into_node(&self, node: u32) -> Edges<'a> {
+    fn node_edges(&self, node: u32) -> Edges<'a> {
         let others = self.other.map(|other| words_of(other, node));
         Edges { reader: format!("{}n{node}", self.prefix), words: words_of(self.graph, node), others }
     }
 
-    fn into_output(&self, output: u32) -> Edges<'a> {
+    fn output_edges(&self, output: u32) -> Edges<'a> {
         let at = output as usize - 1;
         let others = self.other.map(|other| &other.output_table[at..=at]);
         Edges { reader: format!("{}o{output}", self.prefix), words: &self.graph.output_table[at..=at], others }
@@ -67,8 +67,8 @@ impl<'a> Side<'a> {
 
     /// All edges that are drawn.
     fn edges(&self) -> impl Iterator<Item = Edges<'a>> + '_ {
-        let nodes = self.part.nodes.iter().map(|&node| self.into_node(node));
-        nodes.chain(self.part.outputs.iter().map(|&output| self.into_output(output)))
+        let nodes = self.part.nodes.iter().map(|&node| self.node_edges(node));
+        nodes.chain(self.part.outputs.iter().map(|&output| self.output_edges(output)))
     }
 
     /// The box that an edge comes from. A constant is drawn for each word that reads it.
@@ -111,7 +111,7 @@ impl<'a> Side<'a> {
     }
 
     fn node_lines(&self, node: u32) -> Vec<String> {
-        let edges = self.into_node(node);
+        let edges = self.node_edges(node);
         let cells: Vec<String> =
             edges.words.iter().zip(1..).map(|(literal, word)| format!("<w{word}> {literal}")).collect();
         let look = if is_xor(self.graph, node) { XOR } else { MAJORITY };
@@ -120,7 +120,7 @@ impl<'a> Side<'a> {
     }
 
     fn output_line(&self, output: u32) -> String {
-        let Edges { reader, words, .. } = self.into_output(output);
+        let Edges { reader, words, .. } = self.output_edges(output);
         format!("{reader} [label=\"{{output {output}|<w1> {}}}\", shape=record];", words[0])
     }
 
@@ -133,7 +133,7 @@ impl<'a> Side<'a> {
         lines.extend(beyond.iter().map(dashed));
         lines.extend(nodes.iter().flat_map(|&node| self.node_lines(node)));
         lines.extend(self.row("sink", outputs.iter().map(|&at| self.output_line(at)).collect()));
-        lines.extend(outputs.iter().flat_map(|&at| self.edge_lines(&self.into_output(at))));
+        lines.extend(outputs.iter().flat_map(|&at| self.edge_lines(&self.output_edges(at))));
         lines
     }
 

@@ -43,8 +43,8 @@ fn escaped(text: &str) -> String {
 /// With a comma before each three digits.
 fn grouped(number: u64) -> String {
     let digits = number.to_string();
-    let comma = |at: usize| if at != 0 && (digits.len() - at) % 3 == 0 { "," } else { "" };
-    digits.chars().enumerate().map(|(at, digit)| format!("{}{digit}", comma(at))).collect()
+    let threes = digits.as_bytes().rchunks(3).rev().map(String::from_utf8_lossy);
+    threes.collect::<Vec<_>>().join(",")
 }
 
 /// How far a number fell, and by how much of a hundred.

@@ -322,7 +322,15 @@ mod tests {
             &["preview", "--moves"],
             &["preview", "a", "--moves"],
             &["preview", "a", "7", "--to", "aiger"],
-            &["preview", "a", "--svg"],
+        ] {
+            assert!(of(words).is_err(), "{words:?}");
+        }
+    }
+
+    #[test]
+    fn what_cannot_be_drawn() {
+        for words in [
+            &["preview", "a", "--svg"][..],
             &["preview", "a", "--output", "1"],
             &["picture", "a", "7"],
             &["picture", "a", "--to", "aiger"],
