@@ -100,8 +100,8 @@ With --compare two graphs of the same wiring, as a graph and what settling made 
 edges that turned are thick and orange in both. One of the two may be -. Other wiring is refused. AIGER text has other
 nodes once it has been settled: compare it with what `panjerov settle --to tagged` gives.
 
-A whole graph is drawn up to 300 nodes, and 600 inputs, nodes and outputs together. Of a larger one, or where less is
-wanted, a part is drawn, and a line on standard error says which:
+A whole graph is drawn up to 300 nodes, and 600 inputs, nodes and outputs together; a larger one is refused. A part of
+a graph of any size is drawn by one of these, and a line on standard error says what it has:
 
     --output K   output K, counted from 1, and what it rests on
     --root R     the tree of a root; `panjerov preview FILE` tells the roots
@@ -131,8 +131,8 @@ FILE is a tagged file or ASCII AIGER text, which is seen from its first bytes; w
 standard input is read. What is given goes to standard output, or with -o to a file, which is replaced only once
 all of it is there, and may be FILE itself. Work of more than a second says so on standard error.
 
-The exit status is 0; 1 where something is refused or a file cannot be read or written, and then no file is made or
-changed; 2 where the command line is not understood.
+The exit status is 0; 1 where something is refused, a file cannot be read or written or Graphviz makes no picture that
+was asked for, and then no file is made or changed; 2 where the command line is not understood.
 ";
 
 pub fn program() -> String {
