@@ -7,12 +7,16 @@ use Rattle.graph.specs.Answer.{Answer}
 use Rattle.moves.specs.Trial.{Tried}
 
 -- numbers at that place afterwards: the values answered, or what was there where none are, as by a refused call
-abbrev pub toldBy : List ℕ → List ℕ → List ℕ
+abbrev pub toldBy : {A : Type 0} → List A → List A → List A
 toldBy [] before = before
 toldBy (v ∷ vs) before = v ∷ vs
 
 abbrev pub told : Answer → List ℕ → List ℕ
 told a before = toldBy (a .values) before
+
+-- the same of signed numbers
+abbrev pub toldSigned : Answer → List ℤ → List ℤ
+toldSigned a before = toldBy (a .signed) before
 
 -- the same of one number
 abbrev pub toldOne : Answer → ℕ → ℕ

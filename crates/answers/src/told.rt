@@ -8,7 +8,7 @@ ghost use Rattle.evaluation.specs.Evaluation.{evaluatedAnswer};
 ghost use Rattle.moves.specs.Call.{savingAnswer};
 ghost use Rattle.moves.specs.Trial.{trialAnswer};
 ghost use Rattle.settling.specs.Settle.{settledAnswer};
-ghost use Rattle.answers.specs.Told.{told, toldOne, toldGain};
+ghost use Rattle.answers.specs.Told.{told, toldOne, toldSigned, toldGain};
 
 // The payload of a field starts after the 3 bytes of its head.
 pub fn field_told(number: u32, length: usize, before: [usize; 2]) -> [usize; 2]
@@ -91,16 +91,16 @@ pub fn saving_number(answer: moves::Saving) -> u32
     ensures { λ r. ⌜ r ≡ savingAnswer answer .number ⌝ }
 {
     match answer {
-        moves::Saving::Saved(_) => 0,
+        moves::Saving::Saved { .. } => 0,
         moves::Saving::Refused(refusal) => graph::faults::number_of(refusal),
     }
 }
 
-pub fn saving_told(answer: moves::Saving, before: u32) -> u32
-    ensures { λ r. ⌜ r ≡ toldOne (savingAnswer answer) before ⌝ }
+pub fn saving_told(answer: moves::Saving, before: [i64; 2]) -> [i64; 2]
+    ensures { λ r. ⌜ r ≡ toldSigned (savingAnswer answer) before ⌝ }
 {
     match answer {
-        moves::Saving::Saved(saving) => saving,
+        moves::Saving::Saved { own, others } => [own, others],
         moves::Saving::Refused(_) => before,
     }
 }
@@ -140,7 +140,18 @@ pub fn settled_told(answer: settling::Settled, before: [u32; 3]) -> [u32; 3]
             rounds,
             before: first,
             after,
+            ..
         } => [rounds, first, after],
+        settling::Settled::Refused(_) => before,
+    }
+}
+
+// What its calls saved.
+pub fn settled_sums(answer: settling::Settled, before: [i64; 2]) -> [i64; 2]
+    ensures { λ r. ⌜ r ≡ toldSigned (settledAnswer answer) before ⌝ }
+{
+    match answer {
+        settling::Settled::Rounds { own, others, .. } => [own, others],
         settling::Settled::Refused(_) => before,
     }
 }

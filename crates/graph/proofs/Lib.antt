@@ -7,6 +7,7 @@ pub mod Turned
 pub mod Tests
 pub mod Steps
 pub mod Difference
+pub mod DifferenceSum
 pub mod Answers
 pub mod Edge
 pub mod Adds

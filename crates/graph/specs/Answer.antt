@@ -2,6 +2,8 @@
 use mathlib.Core.Path.{_≡_}
 use mathlib.Core.List.{List, [], _∷_}
 use Prim.Native.Nat.{ℕ, zero, suc, _≤_}
+use lib.IntN.{ℤ, pos, _+ℤ_}
+use lib.ListN.{getD}
 use Rattle.graph.specs.Graph.{Graph}
 use Rattle.graph.specs.declared.Refusal.{Refusal}
 use Rattle.graph.specs.declared.Refusal.the-variants.{MissingBytes, WrongField, OverLimit, ShortSlice, BadLiteral, ExtraBytes, NoSuchNode, ShortScratch, ShortBuffer, BadText, HasLatches, WrongNumbering}
@@ -29,16 +31,31 @@ numberOf WrongNumbering = 12
 abbrev pub IsRefusal : ℕ → Type 0
 IsRefusal k = (1 ≤ k) × (k ≤ 12)
 
--- a call's answer: the number, 0 where it is accepted, and the values that it then returns beside it
+-- a call's answer: the number, 0 where it is accepted, and the values that it then returns beside it, with the signed ones apart
 pub record Answer : Type 0 where
   pub number : ℕ
   pub values : List ℕ
+  pub signed : List ℤ
 
 abbrev pub accepted : List ℕ → Answer
-accepted vs = record { number = 0; values = vs }
+accepted vs = record { number = 0; values = vs; signed = [] }
 
 abbrev pub refused : ℕ → Answer
-refused k = record { number = k; values = [] }
+refused k = record { number = k; values = []; signed = [] }
+
+-- of a call that saves: over the words of the nodes that it names, and over all other edges
+abbrev pub gained : List ℕ → ℤ → ℤ → Answer
+gained vs own others = record { number = 0; values = vs; signed = own ∷ others ∷ [] }
+
+-- both numbers of an answer, and the saving, which is their sum; a refused call saves nothing
+abbrev pub ownOf : Answer → ℤ
+ownOf a = getD (a .signed) 0 (pos 0)
+
+abbrev pub othersOf : Answer → ℤ
+othersOf a = getD (a .signed) 1 (pos 0)
+
+abbrev pub savingOf : Answer → ℤ
+savingOf a = ownOf a +ℤ othersOf a
 
 -- a call that would be refused by k, 0 being no fault, and else answers a
 unfoldable pub unless : ℕ → Answer → Answer

@@ -42,7 +42,11 @@ pub fn nodes_add(nodes: u32, node_table: &[u32]) -> u32
     let mut v: u32 = 0;
     while v < nodes {
         let at = 3 * v as usize;
-        c += node_adds(word_at(node_table, at), word_at(node_table, at + 1), word_at(node_table, at + 2));
+        c += node_adds(
+            word_at(node_table, at),
+            word_at(node_table, at + 1),
+            word_at(node_table, at + 2),
+        );
         v += 1;
     }
     c

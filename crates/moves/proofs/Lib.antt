@@ -22,4 +22,8 @@ pub mod Tally
 pub mod Step
 pub mod NodeBest
 pub mod NodeCosts
+pub mod Split
+pub mod Outside
+pub mod Rooted
+pub mod PairOthers
 pub mod Pair

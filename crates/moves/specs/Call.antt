@@ -3,21 +3,23 @@ use mathlib.Core.Bool.{Bool, cond, _&&_}
 use mathlib.Core.List.{List, [], _∷_, map}
 use Prim.Native.Nat.{ℕ, _+_, _-_, _*_}
 use lib.Dec.{ltb, leb}
+use lib.IntN.{pos}
 use Rattle.graph.specs.Finite.{ifLess, first}
 use Rattle.graph.specs.Graph.{Graph, node, word, index, isXor}
 use Rattle.graph.specs.Count.{C}
 use Rattle.graph.specs.Admission.{admissionNumber}
-use Rattle.graph.specs.Answer.{Answer, accepted, refused, numberOf, Outcome, outcome, guarded}
+use Rattle.graph.specs.Answer.{Answer, refused, gained, numberOf, Outcome, outcome, guarded}
 use Rattle.choice.specs.Choice.{best}
 use Rattle.moves.specs.Rows.{movesAt}
 use Rattle.moves.specs.Apply.{none, put, apply}
 use Rattle.moves.specs.Tree.{isRoot, tree}
+use Rattle.moves.specs.Split.{split}
 use Rattle.moves.specs.declared.Saving.{Saving}
 use Rattle.moves.specs.declared.Saving.the-variants.{Saved, Refused}
 
 -- what a node, pair or tree call answers
 abbrev pub savingAnswer : Saving → Answer
-savingAnswer (Saved c) = accepted (c ∷ [])
+savingAnswer (Saved own others) = gained [] own others
 savingAnswer (Refused r) = refused (numberOf r)
 
 -- the graph after the moves ms at the nodes us
@@ -32,9 +34,12 @@ movedC g us ms = C (moved g us ms)
 unfoldable pub bestAt : Graph → List ℕ → List ℕ
 bestAt g us = best (movedC g us) (map (movesAt g) us)
 
--- those moves made; the saving is C before less C after
+-- those moves made, with what they save in both parts
 unfoldable pub rewrite : Graph → List ℕ → Outcome
-rewrite g us = let h = moved g us (bestAt g us) in outcome (accepted ((C g - C h) ∷ [])) h
+rewrite g us =
+    let h = moved g us (bestAt g us) in
+    let d = split us g h in
+    outcome (gained [] (d .own) (d .others)) h
 
 -- u is the index of a node
 unfoldable pub isNode : Graph → ℕ → Bool
@@ -72,7 +77,7 @@ unfoldable pub pairNumber : Graph → ℕ → ℕ → ℕ
 pairNumber g u k = first (admissionNumber g) (first (nodeFault g u) (wordFault g u k))
 
 unfoldable pub pairRewrite : Graph → ℕ → ℕ → Outcome
-pairRewrite g u k = cond (isNode g (namedBy g u k)) (rewrite g (namedBy g u k ∷ u ∷ [])) (outcome (accepted (0 ∷ [])) g)
+pairRewrite g u k = cond (isNode g (namedBy g u k)) (rewrite g (namedBy g u k ∷ u ∷ [])) (outcome (gained [] (pos 0) (pos 0)) g)
 
 unfoldable pub pairCall : Graph → ℕ → ℕ → Outcome
 pairCall g u k = guarded (pairNumber g u k) g (pairRewrite g u k)

@@ -1,8 +1,10 @@
 pub mod Rows
 pub mod Apply
 pub mod Tree
+pub mod Split
 pub mod Call
 pub mod Cost
 pub mod Decide
+pub mod Outside
 pub mod Pair
 pub mod Trial

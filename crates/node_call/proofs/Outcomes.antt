@@ -8,7 +8,7 @@ use Rattle.graph.specs.Admission.{Admitted}
 use borrow.Author.Tests.{lt-ltb, le-ltb}
 use lib.IntN.{ℤ, pos, natAbs}
 use lib.ListN.{getD}
-use Rattle.graph.specs.Answer.{accepted, Outcome, outcome}
+use Rattle.graph.specs.Answer.{Answer, gained, Outcome, outcome}
 use Rattle.graph.specs.Count.{C}
 use Rattle.graph.specs.Difference.{difference}
 use Rattle.graph.specs.Finite.{ifLess}
@@ -19,15 +19,21 @@ use Rattle.choice.specs.Choice.{FirstBelow}
 use Rattle.moves.specs.Apply.{Choice, none, at, put, apply}
 use Rattle.moves.specs.Call.{moved, movedC, rewrite, isNode, namedBy, pairRewrite}
 use Rattle.moves.specs.Decide.{costOf, pairCost, FirstPair, numbersOf, naming, Counted}
+use Rattle.moves.specs.Outside.{NodeOdds, PairOdds, savedBy}
 use Rattle.moves.specs.Pair.{pairSaving, FirstGreatest}
 use Rattle.moves.specs.Rows.{movesAt}
+use Rattle.moves.specs.Split.{split}
 use Rattle.moves.specs.Trial.{triedUnless, trialSaving}
 use Rattle.moves.specs.declared.decide.NodeNumbers.{NodeNumbers}
+use Rattle.moves.specs.declared.gains.Odds.{Odds}
 use Rattle.moves.proofs.Changed.{at-same, at-other}
 use Rattle.moves.proofs.Deciding.{numbers-low, naming-le}
 use Rattle.moves.proofs.NodeBest.{node-cost, node-best, zero-is, pair-cost-is, pair-best, zeros-are}
 use Rattle.moves.proofs.Pair.{least-of-greatest, pair-saving, had-saving, had-fits}
 use Rattle.moves.proofs.Moves.{moves-some}
+use Rattle.moves.proofs.PairOthers.{pair-others}
+use Rattle.moves.proofs.Rooted.{node-others}
+use Rattle.moves.proofs.Split.{saved-outcome}
 use Rattle.node_call.proofs.Refusing.{AcceptedWord, named-below}
 
 -- the numbers are such as can be
@@ -51,20 +57,23 @@ module _ (g : Graph) (adm : Admitted g) (v : ℕ) (h : v < g .N) (n : NodeNumber
   unfolding numbersOf
   move-fits = rw e at (b .below)
 
-  pub no-more : costOf n m ≤ costOf n 0
-  no-more = b .low 0 (omega (arith, b .below))
-
   by-numbers : FirstBelow (costOf (numbersOf g v)) (movesAt g (node g v)) m
   unfolding numbersOf
   by-numbers = rw e at b
 
-  saving-is : C g - C (apply g (at none (node g v) m)) ≡ costOf n 0 - costOf n m
-  saving-is = rw e (omega (arith, zero-is g adm v h, node-cost g adm v h 0, node-cost g adm v h m))
+  same-fall : C g + costOf n m ≡ C (apply g (at none (node g v) m)) + costOf n 0
+  same-fall = rw e (omega (arith, zero-is g adm v h, node-cost g adm v h 0, node-cost g adm v h m))
 
-  pub node-outcome : (k : Graph) (s : ℕ) → k ≡ apply g (at (at none (node g v) m) (node g v) m) → s ≡ costOf n 0 - costOf n m
-      → outcome (accepted (s ∷ [])) k ≡ rewrite g (node g v ∷ [])
-  unfolding rewrite moved put
-  node-outcome k s q t = rw (← node-best g adm v h m by-numbers, saving-is, t, q, at-twice none (node g v) m)
+  odds-are : (o : Odds) → NodeOdds n m o → split (node g v ∷ []) g (moved g (node g v ∷ []) (m ∷ [])) .others ≡ difference (o .before) (o .after)
+  odds-are o r = node-others g adm v h m o (rw e at r)
+
+  pub node-outcome : (k : Graph) (b a : ℕ) (o : Odds) → k ≡ apply g (at (at none (node g v) m) (node g v) m) → b ≡ costOf n 0 → a ≡ costOf n m → NodeOdds n m o
+      → (x : Answer) → x ≡ savedBy b a (o .before) (o .after) → outcome x k ≡ rewrite g (node g v ∷ [])
+  unfolding moved put
+  node-outcome k b a o q t u r x y =
+      let d : k ≡ apply g (at none (node g v) m) = q ∙ rw (at-twice none (node g v) m) in
+      ap (λ (z : Answer). outcome z k) y ∙
+      saved-outcome g (node g v ∷ []) k b a (o .before) (o .after) (d ∙ rw (← node-best g adm v h m by-numbers)) (rw (d, t, u) same-fall) (rw d (odds-are o r))
 
 module _ (g : Graph) (adm : Admitted g) (p v : ℕ) (l : p < v) (h : v < g .N) (a n : NodeNumbers) (w : List ℕ) (f : a ≡ numbersOf g p) (e : n ≡ numbersOf g v) (i : w ≡ naming g v (node g p))
     (k m : ℕ) (b : FirstGreatest (pairSaving a n w) (a .moves) (n .moves) k m) where
@@ -79,19 +88,25 @@ module _ (g : Graph) (adm : Admitted g) (p v : ℕ) (l : p < v) (h : v < g .N) (
   unfolding numbersOf
   both-by-numbers = rw (f, e, i) at least-pair
 
-  both-saving : C g - C (apply g (at (at none (node g p) k) (node g v) m)) ≡ pairCost a n w 0 0 - pairCost a n w k m
-  both-saving = rw (f, e, i) (omega (arith, zeros-are g adm p v l h, pair-cost-is g adm p v l h 0 0, pair-cost-is g adm p v l h k m))
+  both-fall : C g + pairCost a n w k m ≡ C (apply g (at (at none (node g p) k) (node g v) m)) + pairCost a n w 0 0
+  both-fall = rw (f, e, i) (omega (arith, zeros-are g adm p v l h, pair-cost-is g adm p v l h 0 0, pair-cost-is g adm p v l h k m))
 
-  saved-is : (s : ℕ) → pos s ≡ pairSaving a n w k m → s ≡ pairCost a n w 0 0 - pairCost a n w k m
+  both-odds : (o : Odds) → PairOdds a n w k m o → split (node g p ∷ node g v ∷ []) g (moved g (node g p ∷ node g v ∷ []) (k ∷ m ∷ [])) .others ≡ difference (o .before) (o .after)
+  both-odds o r = pair-others g adm p v l h k m o (rw (f, e, i) at r)
+
+  saved-is : (s : ℕ) → pos s ≡ pairSaving a n w k m → pairCost a n w k m + s ≡ pairCost a n w 0 0
   unfolding pairSaving
   saved-is s r =
       let low = least-pair .low 0 0 (omega (arith, b .below)) (omega (arith, b .fits)) in
-      ap natAbs (r ∙ at-least (pairCost a n w 0 0) (pairCost a n w k m) (pairCost a n w 0 0 - pairCost a n w k m) (omega (arith, low)))
+      let q : s ≡ pairCost a n w 0 0 - pairCost a n w k m = ap natAbs (r ∙ at-least (pairCost a n w 0 0) (pairCost a n w k m) (pairCost a n w 0 0 - pairCost a n w k m) (omega (arith, low))) in
+      omega (arith, q, low)
 
-  pub pair-outcome : (t : Graph) (s : ℕ) → t ≡ apply g (at (at none (node g p) k) (node g v) m) → pos s ≡ pairSaving a n w k m
-      → outcome (accepted (s ∷ [])) t ≡ rewrite g (node g p ∷ node g v ∷ [])
-  unfolding rewrite moved put
-  pair-outcome t s q r = rw (← pair-best g adm p v l h k m both-by-numbers, both-saving, saved-is s r, q)
+  pub pair-outcome : (t : Graph) (s : ℕ) (o : Odds) → t ≡ apply g (at (at none (node g p) k) (node g v) m) → pos s ≡ pairSaving a n w k m → PairOdds a n w k m o
+      → (x : Answer) → x ≡ savedBy s 0 (o .before) (o .after) → outcome x t ≡ rewrite g (node g p ∷ node g v ∷ [])
+  unfolding moved put
+  pair-outcome t s o q r d x y =
+      ap (λ (z : Answer). outcome z t) y ∙
+      saved-outcome g (node g p ∷ node g v ∷ []) t s 0 (o .before) (o .after) (q ∙ rw (← pair-best g adm p v l h k m both-by-numbers)) (rw q (omega (arith, both-fall, saved-is s r))) (rw q (both-odds o d))
 
 -- a trial from the numbers of both nodes, a move that a kind lacks being as move 0
 module _ (g : Graph) (adm : Admitted g) (p v : ℕ) (l : p < v) (h : v < g .N) (a n : NodeNumbers) (w : List ℕ) (f : a ≡ numbersOf g p) (e : n ≡ numbersOf g v) (i : w ≡ naming g v (node g p))
@@ -110,7 +125,7 @@ module _ (g : Graph) (adm : Admitted g) (p v : ℕ) (l : p < v) (h : v < g .N) (
 
 -- the word of a pair names a node, or none
 module _ (g : Graph) (u k n : ℕ) (e : n ≡ namedBy g u k) where
-  pub no-node : n ≤ g .I → outcome (accepted (0 ∷ [])) g ≡ pairRewrite g u k
+  pub no-node : n ≤ g .I → outcome (gained [] (pos 0) (pos 0)) g ≡ pairRewrite g u k
   unfolding pairRewrite isNode
   no-node h = rw (← e, le-ltb (g .I) n h)
 

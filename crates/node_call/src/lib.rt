@@ -28,7 +28,7 @@ pub fn node_call(
         return Saving::Refused(graph::faults::refused_by(number));
     }
     let v = node - (inputs + 1);
-    Saving::Saved(rewrite::rewrite_node(inputs, nodes, outputs, node_table, output_table, v))
+    rewrite::rewrite_node(inputs, nodes, outputs, node_table, output_table, v)
 }
 
 // The pair call: of all moves at the node that a word names and at the node itself, those with the least C, the lowest move at
@@ -48,15 +48,7 @@ pub fn pair_call(
     if number != 0 {
         return Saving::Refused(graph::faults::refused_by(number));
     }
-    Saving::Saved(rewrite::rewrite_named(
-        inputs,
-        nodes,
-        outputs,
-        node_table,
-        output_table,
-        node,
-        word,
-    ))
+    rewrite::rewrite_named(inputs, nodes, outputs, node_table, output_table, node, word)
 }
 
 // A trial: what a move at the node that a word names and a move at the node itself would save. Nothing is changed.

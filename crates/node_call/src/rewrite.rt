@@ -4,12 +4,14 @@ ghost use mathlib.Core.List.{List, [], _∷_};
 ghost use Prim.Native.Nat.{ℕ, _+_, _-_, _*_, _≤_, _<_};
 ghost use lib.ListN.{length};
 ghost use Rattle.graph.specs.Admission.{Admitted};
-ghost use Rattle.graph.specs.Answer.{accepted, outcome};
+ghost use Rattle.graph.specs.Answer.{outcome};
 ghost use Rattle.graph.specs.Graph.{graphOf};
-ghost use Rattle.moves.specs.Call.{rewrite, pairNumber, namedBy, pairRewrite};
+ghost use Rattle.moves.specs.Call.{savingAnswer, rewrite, pairNumber, namedBy, pairRewrite};
 use crate::write;
 use graph::table;
+use moves::Saving;
 use moves::decide;
+use moves::gains;
 use moves::reading;
 use moves::words;
 
@@ -21,17 +23,18 @@ pub fn rewrite_node(
     node_table: &mut [u32],
     output_table: &mut [u32],
     v: u32,
-) -> u32
+) -> Saving
     requires { ⌜ Admitted (graphOf inputs nodes outputs (now «node_table») (now «output_table»)) × (v < nodes) ⌝ }
-    ensures { λ r. ⌜ outcome (accepted (r ∷ [])) (graphOf inputs nodes outputs (now («node_table» .exit)) (now («output_table» .exit))) ≡ rewrite (graphOf inputs nodes outputs (now («node_table» .entry)) (now («output_table» .entry))) ((inputs + 1 + v) ∷ []) ⌝ }
+    ensures { λ r. ⌜ outcome (savingAnswer r) (graphOf inputs nodes outputs (now («node_table» .exit)) (now («output_table» .exit))) ≡ rewrite (graphOf inputs nodes outputs (now («node_table» .entry)) (now («output_table» .entry))) ((inputs + 1 + v) ∷ []) ⌝ }
 {
     let n = reading::numbers_of(inputs, nodes, outputs, node_table, output_table, v);
     let z = n.costs;
     let m = decide::first_least(n.xor, n.moves, z, n.readers, n.odd);
     let before = decide::move_cost(n.xor, z, n.readers, n.odd, 0);
     let after = decide::move_cost(n.xor, z, n.readers, n.odd, m);
+    let odds = gains::node_odds(n, m);
     write::make_moves(inputs, nodes, outputs, node_table, output_table, v, m, v, m);
-    before - after
+    gains::saved_by(before, after, odds)
 }
 
 // The best moves of node p and of node v above it, both counted from 0; what they save.
@@ -43,9 +46,9 @@ pub fn rewrite_pair(
     output_table: &mut [u32],
     p: u32,
     v: u32,
-) -> u32
+) -> Saving
     requires { ⌜ Admitted (graphOf inputs nodes outputs (now «node_table») (now «output_table»)) × (p < v) × (v < nodes) ⌝ }
-    ensures { λ r. ⌜ outcome (accepted (r ∷ [])) (graphOf inputs nodes outputs (now («node_table» .exit)) (now («output_table» .exit))) ≡ rewrite (graphOf inputs nodes outputs (now («node_table» .entry)) (now («output_table» .entry))) ((inputs + 1 + p) ∷ (inputs + 1 + v) ∷ []) ⌝ }
+    ensures { λ r. ⌜ outcome (savingAnswer r) (graphOf inputs nodes outputs (now («node_table» .exit)) (now («output_table» .exit))) ≡ rewrite (graphOf inputs nodes outputs (now («node_table» .entry)) (now («output_table» .entry))) ((inputs + 1 + p) ∷ (inputs + 1 + v) ∷ []) ⌝ }
 {
     let named = reading::numbers_of(inputs, nodes, outputs, node_table, output_table, p);
     let node = reading::numbers_of(inputs, nodes, outputs, node_table, output_table, v);
@@ -53,8 +56,9 @@ pub fn rewrite_pair(
     let best = decide::best_pair(named, node, which);
     let k = best.named;
     let m = best.node;
+    let odds = gains::pair_odds(named, node, which, k, m);
     write::make_moves(inputs, nodes, outputs, node_table, output_table, p, k, v, m);
-    best.saving
+    gains::saved_by(best.saving, 0, odds)
 }
 
 // The index that a word of a node names.
@@ -76,13 +80,13 @@ pub fn rewrite_named(
     output_table: &mut [u32],
     node: u32,
     word: u32,
-) -> u32
+) -> Saving
     requires { ⌜ pairNumber (graphOf inputs nodes outputs (now «node_table») (now «output_table»)) node word ≡ 0 ⌝ }
-    ensures { λ r. ⌜ outcome (accepted (r ∷ [])) (graphOf inputs nodes outputs (now («node_table» .exit)) (now («output_table» .exit))) ≡ pairRewrite (graphOf inputs nodes outputs (now («node_table» .entry)) (now («output_table» .entry))) node word ⌝ }
+    ensures { λ r. ⌜ outcome (savingAnswer r) (graphOf inputs nodes outputs (now («node_table» .exit)) (now («output_table» .exit))) ≡ pairRewrite (graphOf inputs nodes outputs (now («node_table» .entry)) (now («output_table» .entry))) node word ⌝ }
 {
     let named = named_by(inputs, node_table, node, word);
     if named <= inputs {
-        return 0;
+        return Saving::Saved { own: 0, others: 0 };
     }
     let p = named - (inputs + 1);
     let v = node - (inputs + 1);

@@ -7,17 +7,19 @@ use native.Mathlib.Numerals.{add-one}
 use native.Mathlib.Omega.{arith}
 use borrow.Author.Tests.{eq-eqb, ne-eqb, lt-ltb, le-ltb}
 use lib.ListN.{length, getD}
-use Rattle.graph.specs.Count.{nodeAdds, outputAdds, C}
+use Rattle.graph.specs.Count.{nodeAdds, outputAdds, readers, C}
 use Rattle.graph.specs.Turned.{turnedBy}
 use Rattle.graph.proofs.Finite.{sum-three}
-use Rattle.graph.specs.Finite.{sum}
+use Rattle.graph.specs.Finite.{sum, ifEqual}
 use Rattle.graph.specs.Graph.{Graph, node, word, output, isXor, isEdge}
 use Rattle.moves.specs.Apply.{Choice, seen, own, apply}
 use Rattle.moves.specs.Call.{isNode}
+use Rattle.moves.specs.Cost.{shown}
 use Rattle.moves.specs.Rows.{arity, flag}
 use Rattle.moves.proofs.Changed.{seen-none, own-at, node-adds, out-adds}
 use Rattle.moves.proofs.Compose.{seen-node}
 use Rattle.moves.proofs.Moves.{node-row}
+use Rattle.moves.proofs.Shown.{all-readers}
 use Rattle.preview.specs.Preview.{choiceIn}
 use Rattle.preview.specs.Telling.{Says, threeAfter}
 
@@ -120,3 +122,8 @@ module _ (g : Graph) (bs : List ℕ) where
   pub count-is : (a b : ℕ) → a ≡ sum (3 * g .N) (nodeAdds (apply g d)) → b ≡ sum (g .O) (outputAdds (apply g d)) → a + b ≡ C (apply g d)
   unfolding C apply turnedBy
   count-is a b p q = omega (arith, p, q)
+
+  -- how many readers of a root are complemented, from the numbers that scratch has
+  pub odd-after : (v f n o t r : ℕ) → f ≡ seen g d (node g v) → f ≤ 1 → n ≡ readers g (node g v) → o ≡ shown g (node g v) 0 → t ≡ n - o → r ≡ ifEqual f 0 o t
+      → r ≡ shown g (node g v) (seen g d (node g v))
+  odd-after v f n o t r e l p q s x = x ∙ rw (s, p, q) (all-readers g (node g v) f l) ∙ ap (shown g (node g v)) e

@@ -1,22 +1,20 @@
 -- Which number refuses a preview, what is known where none does, and what it then answers. From the laws on tests and on the tree
 -- call's numbers.
 use mathlib.Core.Path.{_≡_, refl, ap, _∙_}
-use mathlib.Core.List.{List, [], _∷_}
+use mathlib.Core.List.{List}
 use mathlib.Core.Logic.{⊎-elim, _≢_}
 use Prim.Native.Nat.{ℕ, _-_, _*_, _≤_, _<_}
 use native.Mathlib.Omega.{arith}
 use lib.ListN.{length}
 use Rattle.graph.specs.Finite.{ifLess}
 use Rattle.graph.specs.Graph.{Graph}
-use Rattle.graph.specs.Count.{C}
 use Rattle.graph.specs.Admission.{tablesNumber, Admitted}
-use Rattle.graph.specs.Answer.{IsRefusal, accepted, refused}
+use Rattle.graph.specs.Answer.{IsRefusal, Answer, refused}
 use Rattle.graph.proofs.Answers.{room-le, first-le, ifLess-le, refused-is, accepted-is}
 use Rattle.graph.proofs.Cases.{eq-or-ne}
 use Rattle.graph.proofs.Tests.{less, no-less, equal, unequal, off, both}
 use Rattle.moves.specs.Tree.{IsRoot, tree}
 use Rattle.moves.specs.Call.{rewrite, treeNumber}
-use Rattle.trees.specs.Stepping.{treeMoved}
 use Rattle.tree_call.proofs.Refused.{tree-range, accepted-by}
 use Rattle.preview.specs.Preview.{movesTold, previewNumber, previewAnswer, previewBytes}
 
@@ -51,14 +49,21 @@ module _ (g : Graph) (b s r : ℕ) where
       let a = accepted-by g s r (t .1) in
       (a .0, a .1, a .2, off b (g .N) 3 0 (t .0) .0)
 
+rewritten : (g : Graph) (us : List ℕ) → rewrite g us .answer .number ≡ 0
+unfolding rewrite
+rewritten g us = refl
+
 -- the preview, refused and not
 pub refused-preview : (g : Graph) (bs : List ℕ) (s r k : ℕ) → k ≡ previewNumber g (length bs) s r → k ≢ 0 → (refused k ≡ previewAnswer g (length bs) s r) × (bs ≡ previewBytes g bs s r)
 unfolding previewAnswer previewBytes
 refused-preview g bs s r k e d =
     (refused-is k (previewNumber g (length bs) s r) (rewrite g (tree g r) .answer) e (λ z. d (e ∙ z)), unequal (previewNumber g (length bs) s r) 0 (movesTold g r bs) bs (λ z. d (e ∙ z)) refl)
 
-pub told-preview : (g : Graph) (bs bs′ : List ℕ) (s r x : ℕ) → previewNumber g (length bs) s r ≡ 0 → x ≡ C g - C (treeMoved g r) → bs′ ≡ movesTold g r bs
-    → (accepted (x ∷ []) ≡ previewAnswer g (length bs) s r) × (bs′ ≡ previewBytes g bs s r)
-unfolding previewAnswer previewBytes rewrite
-told-preview g bs bs′ s r x e p q =
-    (ap (λ y. accepted (y ∷ [])) p ∙ accepted-is (previewNumber g (length bs) s r) _ e, equal (previewNumber g (length bs) s r) 0 (movesTold g r bs) bs e q)
+pub told-preview : (g : Graph) (bs bs′ : List ℕ) (s r : ℕ) (x : Answer) → previewNumber g (length bs) s r ≡ 0 → x ≡ rewrite g (tree g r) .answer → bs′ ≡ movesTold g r bs
+    → (x ≡ previewAnswer g (length bs) s r) × (bs′ ≡ previewBytes g bs s r) × (x .number ≡ 0)
+unfolding previewAnswer previewBytes
+told-preview g bs bs′ s r x e p q = (
+  p ∙ accepted-is (previewNumber g (length bs) s r) (rewrite g (tree g r) .answer) e,
+  equal (previewNumber g (length bs) s r) 0 (movesTold g r bs) bs e q,
+  ap (λ (a : Answer). a .number) p ∙ rewritten g (tree g r),
+)

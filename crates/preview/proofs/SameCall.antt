@@ -1,6 +1,6 @@
 -- The bytes of a preview tell the tree call's choice: made, its moves give the tree call's graph. A preview with bytes enough is refused
 -- as the tree call is. From the laws on lists of moves.
-use mathlib.Core.Path.{_≡_, refl, sym, ap, _∙_, fun-ext}
+use mathlib.Core.Path.{_≡_, refl, sym, ap, _∙_, fun-ext, subst}
 use mathlib.Core.Bool.{true, false}
 use mathlib.Core.List.{List, [], _∷_}
 use mathlib.Core.Logic.{⊎-elim, _⊎_, inl, inr, _≢_}
@@ -15,15 +15,24 @@ use Rattle.graph.specs.Admission.{tablesNumber, literalNumber, admissionNumber}
 use Rattle.graph.proofs.Cases.{eq-or-ne, true-or-false}
 use Rattle.graph.proofs.Finite.{getD-tab}
 use Rattle.graph.proofs.Tests.{less, equal}
-use Rattle.moves.specs.Apply.{Choice, none, at, put, apply}
+use Rattle.moves.specs.Apply.{Choice, none, at, put, seen, apply}
 use Rattle.graph.specs.Count.{C}
+use Rattle.graph.specs.Admission.{Admitted}
+use Rattle.graph.specs.Answer.{Answer, Outcome}
+use Rattle.graph.specs.Difference.{difference}
+use Rattle.moves.specs.Cost.{shown}
+use Rattle.moves.specs.Outside.{savedBy}
+use Rattle.moves.specs.Split.{split}
+use Rattle.moves.specs.declared.gains.Odds.{Odds}
 use Rattle.moves.specs.Tree.{rootOf, members, tree, IsRoot}
 use Rattle.moves.specs.Call.{moved, bestAt, rewrite, isNode, treeNumber, treeCall}
 use Rattle.moves.proofs.Changed.{at-other}
 use Rattle.moves.proofs.Count.{clash}
 use Rattle.moves.proofs.Readers.{both-true}
+use Rattle.moves.proofs.Rooted.{Rooted, root-others, tree-rooted}
+use Rattle.moves.proofs.Split.{saved-outcome}
+use Rattle.preview.specs.Telling.{RootOdds}
 use Rattle.moves.proofs.Programme.{members-zero, members-in, members-out}
-use Rattle.trees.specs.Stepping.{treeMoved}
 use Rattle.preview.specs.Preview.{treeMoves, movesTold, choiceIn, previewNumber, previewAnswer, previewBytes, AsTreeCall}
 use Rattle.graph.proofs.Answers.{accepted-is, accepted-outcome}
 use Rattle.preview.proofs.Refusing.{long-bytes, accepted-preview}
@@ -99,14 +108,24 @@ module _ (g : Graph) (r : ℕ) where
     unfolding moved treeMoves
     graph-told = ap (apply g) choice-is
 
--- the moves of the root's tree told, and C after them
-pub preview-is : (g : Graph) (bs bs′ : List ℕ) (r v b a x : ℕ) → IsRoot g r → v ≡ r - (g .I + 1) → g .N ≤ length bs → bs′ ≡ movesTold g (node g v) bs → b ≡ C g
-    → a ≡ C (apply g (choiceIn g bs′)) → x ≡ b - a → (x ≡ C g - C (treeMoved g r)) × (bs′ ≡ movesTold g r bs)
-preview-is g bs bs′ r v b a x i e l t p q k =
+-- the moves of the root's tree told, C after them, and the root's odd readers: what the tree call saves, in both parts
+pub preview-is : (g : Graph) (bs bs′ : List ℕ) (r v b a : ℕ) (o : Odds) (x : Answer) → Admitted g → IsRoot g r → v ≡ r - (g .I + 1) → g .N ≤ length bs
+    → bs′ ≡ movesTold g (node g v) bs → b ≡ C g → a ≡ C (apply g (choiceIn g bs′)) → RootOdds g v bs′ o → x ≡ savedBy b a (o .before) (o .after)
+    → (x ≡ rewrite g (tree g r) .answer) × (bs′ ≡ movesTold g r bs)
+unfolding treeMoves
+preview-is g bs bs′ r v b a o x adm i e l t p q d k =
     let n : node g v ≡ r = omega (arith, e, i .after-inputs) in
+    let h : v < g .N = omega (arith, e, i .after-inputs, i .within) in
     let m : bs′ ≡ movesTold g r bs = t ∙ ap (λ u. movesTold g u bs) n in
-    let c : a ≡ C (treeMoved g r) = q ∙ ap (λ y. C (apply g (choiceIn g y))) m ∙ ap C (graph-told g r bs l) in
-    (rw (k, p, c), m)
+    let us : List ℕ = tree g r in
+    let j : C (apply g (choiceIn g bs′)) ≡ C (moved g us (bestAt g us)) = ap (λ y. C (apply g (choiceIn g y))) m ∙ ap C (graph-told g r bs l) in
+    let c : choiceIn g bs′ ≡ put none us (bestAt g us) = ap (choiceIn g) m ∙ choice-is g r bs l in
+    let w : o .before ≡ shown g r 0 = d .before ∙ ap (λ (u : ℕ). shown g u 0) n in
+    let y : o .after ≡ shown g r (seen g (put none us (bestAt g us)) r) =
+    d .after ∙ ap (λ (f : Choice). shown g (node g v) (seen g f (node g v))) c ∙ ap (λ (u : ℕ). shown g u (seen g (put none us (bestAt g us)) u)) n in
+    let z : split us g (moved g us (bestAt g us)) .others ≡ difference (o .before) (o .after) =
+    root-others g adm us r (subst (λ (u : ℕ). Rooted g (tree g u) u) n (tree-rooted g adm v h (rw n (i .root)))) (bestAt g us) ∙ rw (w, y) in
+    (k ∙ ap (λ (u : Outcome). u .answer) (saved-outcome g us (moved g us (bestAt g us)) b a (o .before) (o .after) refl (omega (arith, p, q, j)) z), m)
 
 -- a fault that two numbers begin with is told once
 first-again : (t l x : ℕ) → first t (first (first t l) x) ≡ first (first t l) x

@@ -17,13 +17,14 @@ use Rattle.moves.specs.Apply.{Choice, none, put, Permitted}
 use Rattle.moves.proofs.Moves.{moves-pos}
 use Rattle.moves.specs.Tree.{rootOf, tree}
 use Rattle.moves.proofs.Written.{within, put-tree}
-use Rattle.state.specs.State.{stands}
+use Rattle.state.specs.State.{stands, Ordered}
+use Rattle.moves.specs.Cost.{shown}
 use Rattle.trees.specs.Costing.{CostsOnly}
 use Rattle.trees.proofs.Ready.{stands-costs}
 use Rattle.trees.specs.Deciding.{movesIn, TreeDecided}
 use Rattle.trees.proofs.DecidePass.{moves-at}
 use Rattle.preview.specs.Preview.{treeMoves, movesTold, choiceIn}
-use Rattle.preview.specs.Telling.{Cleared, Told, Says}
+use Rattle.preview.specs.Telling.{Cleared, Told, Says, RootRead}
 use Rattle.preview.proofs.AfterMoves.{choice-at}
 
 within-in : (g : Graph) (u : ℕ) (m : Choice) (v : ℕ) → v < g .N → rootOf g (node g v) ≡ u → within g u m (node g v) ≡ m (node g v)
@@ -84,6 +85,12 @@ module _ (g : Graph) (sc sc′ bs bs₁ bs₂ : List ℕ) (v : ℕ) (s : stands 
 
   pub told-says : Admitted g → g .N ≤ length bs → Says g bs₂
   told-says adm l = record { admitted = adm; permitted = told-permitted g (node g v) sc′ bs bs₁ bs₂ decided cl told; enough = omega (arith, l, told .same, cl .same) }
+
+  -- and the readers of the root stand in scratch
+  pub told-root : Ordered g sc′ → v < g .N → RootRead g v sc′
+  told-root o l =
+      let e : stands g sc′ ≡ g = stands-costs g sc sc′ co ∙ s in
+      record { reads = o .reads v l; odd = o .odd v l ∙ ap (λ (h : Graph). shown h (node g v) 0) e; long = o .long }
 
 -- the state is still in order
 pub still-decided : (g : Graph) (sc sc′ : List ℕ) (u : ℕ) → CostsOnly sc sc′ → TreeDecided (stands g sc) u sc′ → TreeDecided (stands g sc′) u sc′

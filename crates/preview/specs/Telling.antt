@@ -5,9 +5,11 @@ use mathlib.Core.Logic.{_≢_}
 use Prim.Native.Nat.{ℕ, _+_, _*_, _≤_, _<_}
 use lib.ListN.{length, getD}
 use Rattle.graph.specs.Admission.{Admitted}
-use Rattle.graph.specs.Count.{nodeAdds}
+use Rattle.graph.specs.Count.{nodeAdds, readers}
 use Rattle.graph.specs.Graph.{Graph, node}
-use Rattle.moves.specs.Apply.{Permitted, apply}
+use Rattle.moves.specs.Apply.{Permitted, seen, apply}
+use Rattle.moves.specs.Cost.{shown}
+use Rattle.moves.specs.declared.gains.Odds.{Odds}
 use Rattle.moves.specs.Tree.{rootOf}
 use Rattle.state.specs.State.{field}
 use Rattle.preview.specs.Preview.{choiceIn}
@@ -35,3 +37,14 @@ unfoldable pub threeAfter : Graph → List ℕ → ℕ → ℕ
 threeAfter g bs v =
     let h = apply g (choiceIn g bs) in
     nodeAdds h (3 * v) + nodeAdds h (3 * v + 1) + nodeAdds h (3 * v + 2)
+
+-- scratch has the readers of node v and how many of them are complemented
+pub record RootRead (g : Graph) (v : ℕ) (sc : List ℕ) : Type 0 where
+  pub reads : field sc v 0 ≡ readers g (node g v)
+  pub odd : field sc v 1 ≡ shown g (node g v) 0
+  pub long : 8 * g .N ≤ length sc
+
+-- how many of them are complemented before and after the moves that the bytes tell
+pub record RootOdds (g : Graph) (v : ℕ) (bs : List ℕ) (o : Odds) : Type 0 where
+  pub before : o .before ≡ shown g (node g v) 0
+  pub after : o .after ≡ shown g (node g v) (seen g (choiceIn g bs) (node g v))

@@ -41,7 +41,7 @@ pub fn preview(
     if number != 0 {
         return Saving::Refused(refused_by(number));
     }
-    Saving::Saved(deciding::preview_tree(
+    deciding::preview_tree(
         inputs,
         nodes,
         outputs,
@@ -50,5 +50,5 @@ pub fn preview(
         root,
         bytes,
         scratch,
-    ))
+    )
 }

@@ -4,21 +4,24 @@ use mathlib.Core.Bool.{Bool, true, false, cond}
 use mathlib.Core.List.{List, [], _∷_}
 use Prim.Native.Nat.{ℕ, zero, suc, _-_, _*_, _≤_}
 use native.Mathlib.Omega.{arith}
+use lib.IntN.{pos}
 use lib.ListN.{length}
 use Rattle.graph.specs.Finite.{first}
 use Rattle.graph.specs.Graph.{Graph}
 use Rattle.graph.specs.Count.{C}
 use Rattle.graph.specs.Admission.{Admitted, admissionNumber}
-use Rattle.graph.specs.Answer.{accepted, Outcome, outcome, guarded}
+use Rattle.graph.specs.Answer.{gained, savingOf, Outcome, outcome, guarded}
+use Rattle.graph.specs.Difference.{difference}
+use Rattle.graph.proofs.DifferenceSum.{no-difference}
 use Rattle.graph.proofs.Tests.{none, off}
 use Rattle.graph.proofs.Admit.{admission-none}
 use Rattle.moves.specs.Tree.{tree}
 use Rattle.moves.specs.Call.{rewrite, nodeFault, wordFault, rootFault, scratchFault, isNode, namedBy, nodeNumber, nodeCall, pairNumber, pairRewrite, pairCall, treeNumber, treeCall}
 use Rattle.moves.proofs.Kept.{Kept, kept-none, best-lowest}
-use Rattle.rounds.specs.Settle.{settle, settleNumber, settleCall}
-use Rattle.rounds.proofs.Calls.{node-honest, pair-honest, tree-honest}
+use Rattle.rounds.specs.Settle.{settle, settled, settleNumber, settleCall}
+use Rattle.rounds.proofs.Calls.{Honest, node-honest, pair-honest, tree-honest}
 use Rattle.rounds.proofs.Rounds.{settle-ended}
-use Rattle.promises.specs.Demand.{Call, nodeAt, pairAt, treeAt, settling, step, reported, fault, Beside, Made}
+use Rattle.promises.specs.Demand.{Call, nodeAt, pairAt, treeAt, settling, step, fault, Beside, Made}
 
 -- a call guarded by k, that else answers a without a fault
 module _ (g : Graph) (o : Outcome) (fine : o .answer .number ≡ 0) where
@@ -27,10 +30,10 @@ module _ (g : Graph) (o : Outcome) (fine : o .answer .number ≡ 0) where
   guarded-number zero = fine
   guarded-number (suc k) = refl
 
-  guarded-refused : (k : ℕ) → (k ≡ 0 → ⊥) → (guarded k g o .graph ≡ g) × (guarded k g o .answer .values ≡ [])
+  guarded-refused : (k : ℕ) → (k ≡ 0 → ⊥) → (guarded k g o .graph ≡ g) × (guarded k g o .answer .values ≡ []) × (guarded k g o .answer .signed ≡ [])
   unfolding guarded
   guarded-refused zero h = absurd (h refl)
-  guarded-refused (suc k) h = (refl, refl)
+  guarded-refused (suc k) h = (refl, refl, refl)
 
   guarded-accepted : (k : ℕ) → k ≡ 0 → guarded k g o ≡ o
   unfolding guarded
@@ -53,7 +56,7 @@ module _ (g : Graph) (adm : Admitted g) where
         accepted = λ z. rw (e, guarded-accepted g o fine k (q ∙ z)) (b z);
       }
 
-  pair-fine : (u k : ℕ) (b : Bool) → cond b (rewrite g (namedBy g u k ∷ u ∷ [])) (outcome (accepted (0 ∷ [])) g) .answer .number ≡ 0
+  pair-fine : (u k : ℕ) (b : Bool) → cond b (rewrite g (namedBy g u k ∷ u ∷ [])) (outcome (gained [] (pos 0) (pos 0)) g) .answer .number ≡ 0
   unfolding rewrite
   pair-fine u k true = refl
   pair-fine u k false = refl
@@ -79,17 +82,13 @@ module _ (g : Graph) (adm : Admitted g) where
   unfolding scratchFault
   enough scratch e = off (length scratch) (8 * g .N) 7 0 e .0
 
-  -- what settling leaves where it is accepted
-  settles : (scratch : List ℕ) → Outcome
-  settles scratch = let r = settle (length scratch) g in outcome (accepted (r .rounds ∷ C g ∷ C (r .graph) ∷ [])) (r .graph)
-
   settling-made : (scratch : List ℕ) → Made g (settling scratch)
-  unfolding settleCall settleNumber settles
+  unfolding settleCall settleNumber
   settling-made scratch =
-      made (settling scratch) (settleNumber g (length scratch)) (settles scratch) refl refl (passed g adm (scratchFault g (length scratch)))
+      made (settling scratch) (settleNumber g (length scratch)) (settled g (settle (length scratch) g)) refl refl (passed g adm (scratchFault g (length scratch)))
       (λ z.
       let e = settle-ended (length scratch) g adm (enough scratch z) in
-      ((e .lowest), record { values = refl; few = e .few }))
+      ((e .lowest), record { values = refl; signed = refl; few = e .few }))
 
   pub call-made : (c : Call) → Made g c
   call-made (nodeAt u) = node-made u
@@ -97,19 +96,34 @@ module _ (g : Graph) (adm : Admitted g) where
   call-made (treeAt r scratch) = tree-made r scratch
   call-made (settling scratch) = settling-made scratch
 
-  guarded-kept : (scratch : List ℕ) (k : ℕ) → (k ≡ 0 → 8 * g .N ≤ length scratch)
-      → Kept g (guarded k g (settles scratch) .graph) (reported (settling scratch) (guarded k g (settles scratch) .answer))
-  unfolding guarded settles
-  guarded-kept scratch zero h = settle-ended (length scratch) g adm (h refl) .keeps
-  guarded-kept scratch (suc k) h = kept-none g adm
+  -- what a call keeps, and that its two numbers are together what C falls by
+  record Kind (o : Outcome) : Type 0 where
+    keeps : Kept g (o .graph) (C g - C (o .graph))
+    adds : savingOf (o .answer) ≡ difference (C g) (C (o .graph))
 
-  settling-kept : (scratch : List ℕ) → Kept g (step g (settling scratch) .graph) (reported (settling scratch) (step g (settling scratch) .answer))
-  unfolding settleCall settleNumber settles
-  settling-kept scratch =
-      guarded-kept scratch (settleNumber g (length scratch)) (λ z. enough scratch (sym (passed g adm (scratchFault g (length scratch))) ∙ z))
+  honest : (call : Graph → Outcome) → Honest call → Kind (call g)
+  honest call h = record { keeps = h .keeps g adm; adds = h .adds g }
 
-  pub call-kept : (c : Call) → Kept g (step g c .graph) (reported c (step g c .answer))
-  call-kept (nodeAt u) = node-honest (λ x. u) .keeps g adm
-  call-kept (pairAt u k) = pair-honest (λ x. u) k .keeps g adm
-  call-kept (treeAt r scratch) = tree-honest (λ x. r) (length scratch) .keeps g adm
-  call-kept (settling scratch) = settling-kept scratch
+  guarded-kind : (scratch : List ℕ) (k : ℕ) → (k ≡ 0 → 8 * g .N ≤ length scratch) → Kind (guarded k g (settled g (settle (length scratch) g)))
+  unfolding guarded
+  guarded-kind scratch zero h = let e = settle-ended (length scratch) g adm (h refl) in record { keeps = e .keeps; adds = e .sums }
+  guarded-kind scratch (suc k) h =
+      let z : C g - C g ≡ 0 = omega arith in
+      record { keeps = rw z (kept-none g adm); adds = sym (no-difference (C g)) }
+
+  settling-kind : (scratch : List ℕ) → Kind (step g (settling scratch))
+  unfolding settleCall settleNumber
+  settling-kind scratch =
+      guarded-kind scratch (settleNumber g (length scratch)) (λ z. enough scratch (sym (passed g adm (scratchFault g (length scratch))) ∙ z))
+
+  call-kind : (c : Call) → Kind (step g c)
+  call-kind (nodeAt u) = honest (λ x. nodeCall x u) (node-honest (λ x. u))
+  call-kind (pairAt u k) = honest (λ x. pairCall x u k) (pair-honest (λ x. u) k)
+  call-kind (treeAt r scratch) = honest (λ x. treeCall x (length scratch) r) (tree-honest (λ x. r) (length scratch))
+  call-kind (settling scratch) = settling-kind scratch
+
+  pub call-kept : (c : Call) → Kept g (step g c .graph) (C g - C (step g c .graph))
+  call-kept c = call-kind c .keeps
+
+  pub call-adds : (c : Call) → savingOf (step g c .answer) ≡ difference (C g) (C (step g c .graph))
+  call-adds c = call-kind c .adds

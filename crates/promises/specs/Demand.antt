@@ -2,18 +2,18 @@
 use mathlib.Core.Path.{_≡_}
 use mathlib.Core.List.{List, [], _∷_, _++_, map}
 use Prim.Native.Nat.{ℕ, _+_, _-_, _≤_, _<_}
-use lib.ListN.{length, getD}
+use lib.IntN.{ℤ, pos, _+ℤ_}
+use lib.ListN.{length}
 use Rattle.graph.specs.Finite.{first}
 use Rattle.graph.specs.Graph.{Graph, wiring}
 use Rattle.graph.specs.Value.{Assignment, outputValue}
 use Rattle.graph.specs.Count.{C}
 use Rattle.graph.specs.Admission.{Admitted}
-use Rattle.graph.specs.Answer.{Answer, Outcome}
+use Rattle.graph.specs.Answer.{Outcome, savingOf}
 use Rattle.choice.specs.Choice.{Fits}
 use Rattle.moves.specs.Rows.{movesAt}
 use Rattle.moves.specs.Tree.{tree}
 use Rattle.moves.specs.Call.{moved, nodeFault, wordFault, rootFault, scratchFault, nodeCall, pairCall, treeCall}
-use Rattle.rounds.specs.Round.{savingOf}
 use Rattle.rounds.specs.Settle.{settle, settleCall, NothingLowers}
 
 -- a call, with whatever node, word and scratch it is given
@@ -35,16 +35,10 @@ abbrev pub run : Graph → List Call → Graph
 run g [] = g
 run g (c ∷ cs) = run (step g c .graph) cs
 
--- the saving that a call reports: settling's is C before less C after, and a refused call reports none
-abbrev pub reported : Call → Answer → ℕ
-reported (nodeAt u) a = savingOf a
-reported (pairAt u k) a = savingOf a
-reported (treeAt r scratch) a = savingOf a
-reported (settling scratch) a = getD (a .values) 1 0 - getD (a .values) 2 0
-
-abbrev pub savings : Graph → List Call → ℕ
-savings g [] = 0
-savings g (c ∷ cs) = reported c (step g c .answer) + savings (step g c .graph) cs
+-- all savings that the calls reported: both numbers of each, together
+abbrev pub savings : Graph → List Call → ℤ
+savings g [] = pos 0
+savings g (c ∷ cs) = savingOf (step g c .answer) +ℤ savings (step g c .graph) cs
 
 -- what refuses a call on an admitted graph: 7 or 8, or nothing
 abbrev pub fault : Graph → Call → ℕ
@@ -53,9 +47,10 @@ fault g (pairAt u k) = first (nodeFault g u) (wordFault g u k)
 fault g (treeAt r scratch) = first (nodeFault g r) (first (rootFault g r) (scratchFault g (length scratch)))
 fault g (settling scratch) = scratchFault g (length scratch)
 
--- rounds as settling reports them: those of the definition, at most the fall plus one
+-- rounds as settling reports them: those of the definition, at most the fall plus one; and the sums over their calls
 pub record RoundsReported (g : Graph) (scratch : List ℕ) (o : Outcome) : Type 0 where
   pub values : o .answer .values ≡ settle (length scratch) g .rounds ∷ C g ∷ C (o .graph) ∷ []
+  pub signed : o .answer .signed ≡ settle (length scratch) g .made .own ∷ settle (length scratch) g .made .others ∷ []
   pub few : settle (length scratch) g .rounds ≤ (C g - C (o .graph)) + 1
 
 -- what an accepted call on g promises beside: a tree call that every choice of moves at the tree's nodes, made on g, has at
@@ -70,7 +65,7 @@ Beside g (settling scratch) o = NothingLowers (o .graph) × RoundsReported g scr
 pub record Made (g : Graph) (c : Call) : Type 0 where
   pub admitted : Admitted g
   pub number : step g c .answer .number ≡ fault g c
-  pub refused : (fault g c ≡ 0 → ⊥) → (step g c .graph ≡ g) × (step g c .answer .values ≡ [])
+  pub refused : (fault g c ≡ 0 → ⊥) → (step g c .graph ≡ g) × (step g c .answer .values ≡ []) × (step g c .answer .signed ≡ [])
   pub accepted : fault g c ≡ 0 → Beside g c (step g c)
 
 -- demand 3 for a start g and a list of calls
@@ -82,4 +77,4 @@ pub record Demand (g : Graph) (calls : List Call) : Type 0 where
   -- every output has, under every assignment, its loaded value
   pub outputs : (a : Assignment) (j : ℕ) → j < g .O → outputValue (run g calls) a j ≡ outputValue g a j
   -- C is the loaded number less all savings that the calls reported
-  pub count : C (run g calls) + savings g calls ≡ C g
+  pub count : pos (C (run g calls)) +ℤ savings g calls ≡ pos (C g)

@@ -4,6 +4,7 @@ use mathlib.Core.Path.{_≡_, refl, sym, ap, _∙_}
 use mathlib.Core.List.{List, [], _∷_}
 use Prim.Native.Nat.{ℕ, zero, suc}
 use native.Mathlib.Omega.{arith}
+use lib.IntN.{ℤ}
 use lib.ListN.{length, getD, take, drop}
 use Rattle.graph.specs.Graph.{Graph, graphOf}
 use Rattle.graph.specs.Answer.{Answer, accepted, unless, ScratchKept}
@@ -47,7 +48,7 @@ replayed-outputs (replayed.NotCalls f) ns os = refl
 replayed-outputs (replayed.Refused r) ns os = refl
 
 -- the graph of an accepted replay is that of the numbers told
-pub replayed-demand : (r : Replayed) (g : Graph) (cs : List Call) (ns os l before m : List ℕ) → m ≡ told (replayedAnswer r) before
+pub replayed-demand : (r : Replayed) (g : Graph) (cs : List Call) (ns os : List ℕ) (l : List ℤ) (before m : List ℕ) → m ≡ told (replayedAnswer r) before
     → (replayedAnswer r .number ≡ 0 → DemandMet g cs (replayedGraph r ns os) l) → replayedAnswer r .number ≡ 0
     → DemandMet g cs (graphOf (getD m 0 0) (getD m 1 0) (getD m 2 0) ns os) l
 replayed-demand (replayed.Done i n o) g cs ns os l before m e h z = rw e (h z)

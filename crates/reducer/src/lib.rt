@@ -16,7 +16,7 @@ ghost use Rattle.moves.specs.Call.{nodeCall, pairCall, treeCall};
 ghost use Rattle.preview.specs.Preview.{previewAnswer, previewBytes};
 ghost use Rattle.moves.specs.Trial.{trialCall};
 ghost use Rattle.rounds.specs.Settle.{settleCall};
-ghost use Rattle.answers.specs.Told.{told, toldOne, toldGain};
+ghost use Rattle.answers.specs.Told.{told, toldOne, toldSigned, toldGain};
 ghost use Rattle.replay.specs.Replay.{decode, replayCall, answersAfter, DemandMet};
 ghost use Rattle.reducer.specs.Interface.{fieldAnswer};
 
@@ -173,11 +173,11 @@ pub extern "C" fn reducer_node(
     node_table: &mut [u32],
     output_table: &mut [u32],
     node: u32,
-    saving: &mut u32,
+    saving: &mut [i64; 2],
 ) -> u32
     ensures answer { λ r. ⌜ r ≡ nodeCall (graphOf inputs nodes outputs (now («node_table» .entry)) (now («output_table» .entry))) node .answer .number ⌝ }
     ensures graph { λ r. ⌜ graphOf inputs nodes outputs (now («node_table» .exit)) (now («output_table» .exit)) ≡ nodeCall (graphOf inputs nodes outputs (now («node_table» .entry)) (now («output_table» .entry))) node .graph ⌝ }
-    ensures told { λ r. ⌜ now (saving .exit) ≡ toldOne (nodeCall (graphOf inputs nodes outputs (now («node_table» .entry)) (now («output_table» .entry))) node .answer) (now (saving .entry)) ⌝ }
+    ensures told { λ r. ⌜ now (saving .exit) ≡ toldSigned (nodeCall (graphOf inputs nodes outputs (now («node_table» .entry)) (now («output_table» .entry))) node .answer) (now (saving .entry)) ⌝ }
 {
     let answer = node_call::node_call(inputs, nodes, outputs, node_table, output_table, node);
     *saving = answers::told::saving_told(answer, *saving);
@@ -194,11 +194,11 @@ pub extern "C" fn reducer_pair(
     output_table: &mut [u32],
     node: u32,
     word: u32,
-    saving: &mut u32,
+    saving: &mut [i64; 2],
 ) -> u32
     ensures answer { λ r. ⌜ r ≡ pairCall (graphOf inputs nodes outputs (now («node_table» .entry)) (now («output_table» .entry))) node word .answer .number ⌝ }
     ensures graph { λ r. ⌜ graphOf inputs nodes outputs (now («node_table» .exit)) (now («output_table» .exit)) ≡ pairCall (graphOf inputs nodes outputs (now («node_table» .entry)) (now («output_table» .entry))) node word .graph ⌝ }
-    ensures told { λ r. ⌜ now (saving .exit) ≡ toldOne (pairCall (graphOf inputs nodes outputs (now («node_table» .entry)) (now («output_table» .entry))) node word .answer) (now (saving .entry)) ⌝ }
+    ensures told { λ r. ⌜ now (saving .exit) ≡ toldSigned (pairCall (graphOf inputs nodes outputs (now («node_table» .entry)) (now («output_table» .entry))) node word .answer) (now (saving .entry)) ⌝ }
 {
     let answer = node_call::pair_call(inputs, nodes, outputs, node_table, output_table, node, word);
     *saving = answers::told::saving_told(answer, *saving);
@@ -249,11 +249,11 @@ pub extern "C" fn reducer_tree(
     output_table: &mut [u32],
     root: u32,
     scratch: &mut [u32],
-    saving: &mut u32,
+    saving: &mut [i64; 2],
 ) -> u32
     ensures answer { λ r. ⌜ r ≡ treeCall (graphOf inputs nodes outputs (now («node_table» .entry)) (now («output_table» .entry))) (length (now (scratch .entry))) root .answer .number ⌝ }
     ensures graph { λ r. ⌜ graphOf inputs nodes outputs (now («node_table» .exit)) (now («output_table» .exit)) ≡ treeCall (graphOf inputs nodes outputs (now («node_table» .entry)) (now («output_table» .entry))) (length (now (scratch .entry))) root .graph ⌝ }
-    ensures told { λ r. ⌜ now (saving .exit) ≡ toldOne (treeCall (graphOf inputs nodes outputs (now («node_table» .entry)) (now («output_table» .entry))) (length (now (scratch .entry))) root .answer) (now (saving .entry)) ⌝ }
+    ensures told { λ r. ⌜ now (saving .exit) ≡ toldSigned (treeCall (graphOf inputs nodes outputs (now («node_table» .entry)) (now («output_table» .entry))) (length (now (scratch .entry))) root .answer) (now (saving .entry)) ⌝ }
     ensures scratch { λ r. ⌜ ScratchKept (treeCall (graphOf inputs nodes outputs (now («node_table» .entry)) (now («output_table» .entry))) (length (now (scratch .entry))) root .answer) (now (scratch .entry)) (now (scratch .exit)) ⌝ }
 {
     let answer = tree_call::tree_call(
@@ -280,11 +280,11 @@ pub extern "C" fn reducer_preview(
     root: u32,
     moves: &mut [u8],
     scratch: &mut [u32],
-    saving: &mut u32,
+    saving: &mut [i64; 2],
 ) -> u32
     ensures answer { λ r. ⌜ r ≡ previewAnswer (graphOf inputs nodes outputs (now («node_table» .entry)) (now («output_table» .entry))) (length (now (moves .entry))) (length (now (scratch .entry))) root .number ⌝ }
     ensures moves { λ r. ⌜ now (moves .exit) ≡ previewBytes (graphOf inputs nodes outputs (now («node_table» .entry)) (now («output_table» .entry))) (now (moves .entry)) (length (now (scratch .entry))) root ⌝ }
-    ensures told { λ r. ⌜ now (saving .exit) ≡ toldOne (previewAnswer (graphOf inputs nodes outputs (now («node_table» .entry)) (now («output_table» .entry))) (length (now (moves .entry))) (length (now (scratch .entry))) root) (now (saving .entry)) ⌝ }
+    ensures told { λ r. ⌜ now (saving .exit) ≡ toldSigned (previewAnswer (graphOf inputs nodes outputs (now («node_table» .entry)) (now («output_table» .entry))) (length (now (moves .entry))) (length (now (scratch .entry))) root) (now (saving .entry)) ⌝ }
     ensures scratch { λ r. ⌜ ScratchKept (previewAnswer (graphOf inputs nodes outputs (now («node_table» .entry)) (now («output_table» .entry))) (length (now (moves .entry))) (length (now (scratch .entry))) root) (now (scratch .entry)) (now (scratch .exit)) ⌝ }
 {
     let answer = preview::preview(
@@ -311,14 +311,17 @@ pub extern "C" fn reducer_settle(
     output_table: &mut [u32],
     scratch: &mut [u32],
     figures: &mut [u32; 3],
+    savings: &mut [i64; 2],
 ) -> u32
     ensures answer { λ r. ⌜ r ≡ settleCall (graphOf inputs nodes outputs (now («node_table» .entry)) (now («output_table» .entry))) (length (now (scratch .entry))) .answer .number ⌝ }
     ensures graph { λ r. ⌜ graphOf inputs nodes outputs (now («node_table» .exit)) (now («output_table» .exit)) ≡ settleCall (graphOf inputs nodes outputs (now («node_table» .entry)) (now («output_table» .entry))) (length (now (scratch .entry))) .graph ⌝ }
     ensures told { λ r. ⌜ now (figures .exit) ≡ told (settleCall (graphOf inputs nodes outputs (now («node_table» .entry)) (now («output_table» .entry))) (length (now (scratch .entry))) .answer) (now (figures .entry)) ⌝ }
+    ensures savings { λ r. ⌜ now (savings .exit) ≡ toldSigned (settleCall (graphOf inputs nodes outputs (now («node_table» .entry)) (now («output_table» .entry))) (length (now (scratch .entry))) .answer) (now (savings .entry)) ⌝ }
     ensures scratch { λ r. ⌜ ScratchKept (settleCall (graphOf inputs nodes outputs (now («node_table» .entry)) (now («output_table» .entry))) (length (now (scratch .entry))) .answer) (now (scratch .entry)) (now (scratch .exit)) ⌝ }
 {
     let answer = settling::settle(inputs, nodes, outputs, node_table, output_table, scratch);
     *figures = answers::told::settled_told(answer, *figures);
+    *savings = answers::told::settled_sums(answer, *savings);
     answers::told::settled_number(answer)
 }
 
@@ -330,7 +333,7 @@ pub extern "C" fn reducer_replay(
     node_table: &mut [u32],
     output_table: &mut [u32],
     scratch: &mut [u32],
-    answers: &mut [u32],
+    answers: &mut [i64],
     numbers: &mut [u32; 3],
 ) -> u32
     ensures answer { λ r. ⌜ r ≡ replayCall (now (file .entry)) (now (calls .entry)) (now («node_table» .entry)) (now («output_table» .entry)) (now (scratch .entry)) (length (now (answers .entry))) .answer .number ⌝ }

@@ -2,13 +2,15 @@
 use mathlib.Core.Path.{_≡_, refl, sym}
 use mathlib.Core.Bool.{Bool, true, false, cond}
 use mathlib.Core.List.{List, [], _∷_}
+use mathlib.Core.Logic.{⊎-elim}
 use Prim.Native.Nat.{ℕ, _*_, _/_, _%_, _≤_, _<_}
 use native.Mathlib.Omega.{arith}
 use lib.Dec.{ltb}
 use lib.ListN.{length, getD, drop}
 use Rattle.graph.specs.Finite.{ifLess, ifEqual, first}
+use Rattle.graph.proofs.Cases.{lt-or-le}
 use Rattle.graph.proofs.Tests.{equal, unequal, less, no-less, fault, none}
-use Rattle.replay.specs.Replay.{kindsNumber, codeNumber}
+use Rattle.replay.specs.Replay.{kindsNumber, codeNumber, usable}
 
 pub kinds-step : (s : List ℕ) → 3 ≤ length s → kindsNumber s ≡ first (ifLess 3 (getD s 0 0) 102 0) (kindsNumber (drop 3 s))
 kinds-step [] h = absurd (omega arith)
@@ -48,10 +50,19 @@ module _ (ws : List ℕ) (room : ℕ) where
   unfolding codeNumber
   code-kinds z n = none (ifEqual (length ws % 3) 0 0 101) _ (whole z) (fault (kindsNumber ws) _ (kinds-unknown ws n) n)
 
-  pub code-short : length ws % 3 ≡ 0 → kindsNumber ws ≡ 0 → room < 2 * (length ws / 3) → 4 ≡ codeNumber ws room
+  pub code-short : length ws % 3 ≡ 0 → kindsNumber ws ≡ 0 → usable room < 3 * (length ws / 3) → 4 ≡ codeNumber ws room
   unfolding codeNumber
-  code-short z k h = none (ifEqual (length ws % 3) 0 0 101) _ (whole z) (none (kindsNumber ws) _ k (less room (2 * (length ws / 3)) 4 0 h refl))
+  code-short z k h = none (ifEqual (length ws % 3) 0 0 101) _ (whole z) (none (kindsNumber ws) _ k (less (usable room) (3 * (length ws / 3)) 4 0 h refl))
 
-  pub code-none : length ws % 3 ≡ 0 → kindsNumber ws ≡ 0 → 2 * (length ws / 3) ≤ room → codeNumber ws room ≡ 0
+  pub code-none : length ws % 3 ≡ 0 → kindsNumber ws ≡ 0 → 3 * (length ws / 3) ≤ usable room → codeNumber ws room ≡ 0
   unfolding codeNumber
-  code-none z k h = sym (none (ifEqual (length ws % 3) 0 0 101) _ (whole z) (none (kindsNumber ws) _ k (no-less room (2 * (length ws / 3)) 4 0 h refl)))
+  code-none z k h = sym (none (ifEqual (length ws % 3) 0 0 101) _ (whole z) (none (kindsNumber ws) _ k (no-less (usable room) (3 * (length ws / 3)) 4 0 h refl)))
+
+-- what is used is no more than there is, and not too much
+pub usable-le : (room : ℕ) → (usable room ≤ room) × (usable room ≤ 1152921504606846976)
+unfolding usable
+usable-le room =
+    ⊎-elim
+    (λ (l : room < 1152921504606846976). let e : usable room ≡ room = sym (less room 1152921504606846976 _ _ l refl) in (omega (arith, e), omega (arith, e)))
+    (λ (l : 1152921504606846976 ≤ room). let e : usable room ≡ 1152921504606846976 = sym (no-less room 1152921504606846976 _ _ l refl) in (omega (arith, e), omega (arith, e)))
+    (lt-or-le room 1152921504606846976)

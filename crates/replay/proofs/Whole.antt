@@ -2,18 +2,19 @@
 -- demand 3 over lists.
 use mathlib.Core.Path.{_≡_, refl, sym, ap, _∙_}
 use mathlib.Core.List.{List, [], _∷_, _++_}
-use Prim.Native.Nat.{ℕ, zero, suc, _+_, _*_, _/_}
+use Prim.Native.Nat.{ℕ, zero, suc, _*_, _/_}
+use lib.IntN.{ℤ, pos, _+ℤ_}
 use lib.ListN.{length, drop}
 use Rattle.graph.specs.Finite.{first}
 use Rattle.graph.specs.Graph.{Graph, graphOf}
 use Rattle.graph.specs.Count.{C}
-use Rattle.graph.specs.Answer.{Answer, accepted, refused, numberOf, Outcome, outcome, guarded, ScratchKept}
+use Rattle.graph.specs.Answer.{Answer, accepted, refused, numberOf, savingOf, Outcome, outcome, guarded, ScratchKept}
 use Rattle.graph.specs.declared.Refusal.{Refusal}
 use Rattle.graph.proofs.Tests.{equal, unequal, fault, none}
 use Rattle.graph.proofs.Answers.{number-some, refused-outcome, accepted-outcome}
 use Rattle.tagged_file.specs.Load.{blank, loadedAnswer, loadedGraph, loadCall}
 use Rattle.tagged_file.specs.declared.Loaded.{Loaded}
-use Rattle.promises.specs.Demand.{Call, step, run, reported, savings, Demand}
+use Rattle.promises.specs.Demand.{Call, step, run, savings, Demand}
 use Rattle.promises.proofs.Lists.{after-load}
 use Rattle.replay.specs.Replay.{decode, answersOf, codeNumber, replayNumber, replayCall, answersAfter, savingsIn, DemandMet}
 
@@ -23,17 +24,17 @@ guarded-graph zero g o e n = absurd (n e)
 guarded-graph (suc k) g o e n = refl
 
 -- the savings among the answers are those that the calls reported
-savings-in : (g : Graph) (cs : List Call) (rest : List ℕ) → savingsIn (length cs) (answersOf g cs ++ rest) ≡ savings g cs
+savings-in : (g : Graph) (cs : List Call) (rest : List ℤ) → savingsIn (length cs) (answersOf g cs ++ rest) ≡ savings g cs
 savings-in g [] rest = refl
-savings-in g (c ∷ cs) rest = ap (λ (n : ℕ). reported c (step g c .answer) + n) (savings-in (step g c .graph) cs rest)
+savings-in g (c ∷ cs) rest = ap (λ (n : ℤ). savingOf (step g c .answer) +ℤ n) (savings-in (step g c .graph) cs rest)
 
-demand-met : (g h : Graph) (cs : List Call) (l rest : List ℕ) → Demand g cs → h ≡ run g cs → l ≡ answersOf g cs ++ rest → DemandMet g cs h l
+demand-met : (g h : Graph) (cs : List Call) (l rest : List ℤ) → Demand g cs → h ≡ run g cs → l ≡ answersOf g cs ++ rest → DemandMet g cs h l
 demand-met g h cs l rest d e f =
     rw (e, f)
     record {
       wired = d .wired;
       outputs = d .outputs;
-      count = ap (λ (n : ℕ). C (run g cs) + n) (savings-in g cs rest) ∙ d .count;
+      count = ap (λ (n : ℤ). pos (C (run g cs)) +ℤ n) (savings-in g cs rest) ∙ d .count;
       demand = d;
     }
 
@@ -42,13 +43,13 @@ pub at-case : (a b : Loaded) (ns os : List ℕ) (o : Outcome) → a ≡ b → ou
     → outcome (loadedAnswer b) (loadedGraph b ns os) ≡ o
 at-case a b ns os o q e = sym (ap (λ (x : Loaded). outcome (loadedAnswer x) (loadedGraph x ns os)) q) ∙ e
 
-module _ (file ws ns os sc l : List ℕ) where
+module _ (file ws ns os sc : List ℕ) (l : List ℤ) where
   unchanged : (loadCall file ns os .answer .number ≡ 0 → ⊥) → loadCall file ns os .graph ≡ blank ns os
   unfolding loadCall
   unchanged n = guarded-graph _ (blank ns os) _ refl n
 
   -- the contract of a replay that answers a, leaves the graph h and l′ for answers
-  abbrev pub Met : Answer → Graph → List ℕ → List ℕ → Type 0
+  abbrev pub Met : Answer → Graph → List ℤ → List ℕ → Type 0
   Met a h l′ sc′ =
       (outcome a h ≡ replayCall file ws ns os sc (length l))
       × ((l′ ≡ answersAfter file ws ns os sc l)
@@ -74,10 +75,10 @@ module _ (file ws ns os sc l : List ℕ) where
       let m = refuses (numberOf r) (none (codeNumber ws (length l)) (loadCall file ns os .answer .number) z q) (number-some r) in
       rw h m
 
-  pub replays : (i n o : ℕ) (ns′ os′ l′ sc′ : List ℕ) (h : Graph) → codeNumber ws (length l) ≡ 0
+  pub replays : (i n o : ℕ) (ns′ os′ : List ℕ) (l′ : List ℤ) (sc′ : List ℕ) (h : Graph) → codeNumber ws (length l) ≡ 0
       → outcome (accepted (i ∷ n ∷ o ∷ [])) (graphOf i n o ns′ os′) ≡ loadCall file ns os
       → h ≡ run (graphOf i n o ns′ os′) (decode sc ws)
-      → l′ ≡ answersOf (graphOf i n o ns′ os′) (decode sc ws) ++ drop (2 * (length ws / 3)) l
+      → l′ ≡ answersOf (graphOf i n o ns′ os′) (decode sc ws) ++ drop (3 * (length ws / 3)) l
       → Met (accepted (i ∷ n ∷ o ∷ [])) h l′ sc′
   unfolding replayNumber replayCall answersAfter
   replays i n o ns′ os′ l′ sc′ h z e q f =
@@ -85,8 +86,8 @@ module _ (file ws ns os sc l : List ℕ) where
       let g : graphOf i n o ns′ os′ ≡ loadCall file ns os .graph = ap (λ (x : Outcome). x .graph) e in
       let y : loadCall file ns os .answer .number ≡ 0 = sym (ap (λ (x : Answer). x .number) a) in
       let u : h ≡ run (loadCall file ns os .graph) (decode sc ws) = q ∙ ap (λ (x : Graph). run x (decode sc ws)) g in
-      let t : l′ ≡ answersOf (loadCall file ns os .graph) (decode sc ws) ++ drop (2 * (length ws / 3)) l =
-      f ∙ ap (λ (x : Graph). answersOf x (decode sc ws) ++ drop (2 * (length ws / 3)) l) g in
+      let t : l′ ≡ answersOf (loadCall file ns os .graph) (decode sc ws) ++ drop (3 * (length ws / 3)) l =
+      f ∙ ap (λ (x : Graph). answersOf x (decode sc ws) ++ drop (3 * (length ws / 3)) l) g in
       let m : first (codeNumber ws (length l)) (loadCall file ns os .answer .number) ≡ 0 = sym (none (codeNumber ws (length l)) (loadCall file ns os .answer .number) z (sym y)) in (
         ap (λ (x : Answer). outcome x h) a
             ∙ ap (λ (x : Graph). outcome (loadCall file ns os .answer) x) u

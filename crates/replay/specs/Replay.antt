@@ -1,16 +1,18 @@
 -- A replay: a file is loaded, and a list of calls is made on the loaded graph, each on what the one before left. A call is three
--- words: its kind (0 node, 1 pair, 2 tree, 3 settling), a node and a word; its answer is two: the number and the saving.
+-- words: its kind (0 node, 1 pair, 2 tree, 3 settling), a node and a word; its answer is three signed words: the number, and what it
+-- saved over the words of the nodes that it names and over all other edges; settling's are the sums over its calls.
 use mathlib.Core.Path.{_≡_}
 use mathlib.Core.List.{List, [], _∷_, _++_}
-use Prim.Native.Nat.{ℕ, zero, suc, _+_, _*_, _/_, _%_, _<_}
+use Prim.Native.Nat.{ℕ, zero, suc, _*_, _/_, _%_, _<_}
+use lib.IntN.{ℤ, pos, _+ℤ_}
 use lib.ListN.{length, getD, drop}
 use Rattle.graph.specs.Finite.{ifLess, ifEqual, first}
 use Rattle.graph.specs.Graph.{Graph, graphOf, wiring}
 use Rattle.graph.specs.Value.{Assignment, outputValue}
 use Rattle.graph.specs.Count.{C}
-use Rattle.graph.specs.Answer.{Answer, accepted, refused, numberOf, Outcome, outcome, guarded}
+use Rattle.graph.specs.Answer.{Answer, accepted, refused, numberOf, ownOf, othersOf, Outcome, outcome, guarded}
 use Rattle.tagged_file.specs.Load.{blank, loadCall}
-use Rattle.promises.specs.Demand.{Call, nodeAt, pairAt, treeAt, settling, step, run, reported, Demand}
+use Rattle.promises.specs.Demand.{Call, nodeAt, pairAt, treeAt, settling, step, run, Demand}
 use Rattle.replay.specs.declared.CallsFault.{CallsFault}
 use Rattle.replay.specs.declared.CallsFault.the-variants.{LeftOver, UnknownKind}
 use Rattle.replay.specs.declared.Replayed.{Replayed}
@@ -29,10 +31,12 @@ decode scratch (k ∷ []) = []
 decode scratch (k ∷ u ∷ []) = []
 decode scratch (k ∷ u ∷ w ∷ ws) = callOf scratch k u w ∷ decode scratch ws
 
--- what the calls answer, two words to a call
-abbrev pub answersOf : Graph → List Call → List ℕ
+-- what the calls answer, three words to a call; a refused call saves nothing
+abbrev pub answersOf : Graph → List Call → List ℤ
 answersOf g [] = []
-answersOf g (c ∷ cs) = step g c .answer .number ∷ reported c (step g c .answer) ∷ answersOf (step g c .graph) cs
+answersOf g (c ∷ cs) =
+    let a = step g c .answer in
+    pos (a .number) ∷ ownOf a ∷ othersOf a ∷ answersOf (step g c .graph) cs
 
 -- The faults of a list of words are a replay's own, and their numbers are none of document 01's. 101: words are left over, fewer
 -- than a call has; 102: a call's kind is above 3.
@@ -46,10 +50,14 @@ kindsNumber (k ∷ []) = 0
 kindsNumber (k ∷ u ∷ []) = 0
 kindsNumber (k ∷ u ∷ w ∷ ws) = first (ifLess 3 k 102 0) (kindsNumber ws)
 
--- what refuses the words: an own fault, or 4 where there is room for fewer than two words a call
+-- of room for answers 2^60 words are used at most
+unfoldable pub usable : ℕ → ℕ
+usable room = ifLess room 1152921504606846976 room 1152921504606846976
+
+-- what refuses the words: an own fault, or 4 where there is room for fewer than three words a call
 unfoldable pub codeNumber : List ℕ → ℕ → ℕ
 codeNumber ws room =
-    first (ifEqual (length ws % 3) 0 0 101) (first (kindsNumber ws) (ifLess room (2 * (length ws / 3)) 4 0))
+    first (ifEqual (length ws % 3) 0 0 101) (first (kindsNumber ws) (ifLess (usable room) (3 * (length ws / 3)) 4 0))
 
 -- the number that refuses a replay: of the words, then of the file
 unfoldable pub replayNumber : List ℕ → List ℕ → List ℕ → List ℕ → ℕ → ℕ
@@ -62,10 +70,10 @@ replayCall file words ns os scratch room =
     guarded (replayNumber file words ns os room) (blank ns os) (outcome (o .answer) (run (o .graph) (decode scratch words)))
 
 -- the words for answers after it: all calls' answers in front; as they were where it is refused
-unfoldable pub answersAfter : List ℕ → List ℕ → List ℕ → List ℕ → List ℕ → List ℕ → List ℕ
+unfoldable pub answersAfter : List ℕ → List ℕ → List ℕ → List ℕ → List ℕ → List ℤ → List ℤ
 answersAfter file words ns os scratch before =
     ifEqual (replayNumber file words ns os (length before)) 0
-    (answersOf (loadCall file ns os .graph) (decode scratch words) ++ drop (2 * (length words / 3)) before)
+    (answersOf (loadCall file ns os .graph) (decode scratch words) ++ drop (3 * (length words / 3)) before)
     before
 
 abbrev pub replayedAnswer : Replayed → Answer
@@ -79,21 +87,26 @@ replayedGraph (replayed.Done i n o) ns os = graphOf i n o ns os
 replayedGraph (replayed.NotCalls f) ns os = blank ns os
 replayedGraph (replayed.Refused r) ns os = blank ns os
 
--- the savings among the answers to n calls: every second of their words
-abbrev pub savingsIn : ℕ → List ℕ → ℕ
-savingsIn zero l = 0
-savingsIn (suc n) l = getD l 1 0 + savingsIn n (drop 2 l)
+-- the savings among the answers to n calls: the second and third of every three words
+abbrev pub savingsIn : ℕ → List ℤ → ℤ
+savingsIn zero l = pos 0
+savingsIn (suc n) l = (getD l 1 (pos 0) +ℤ getD l 2 (pos 0)) +ℤ savingsIn n (drop 3 l)
 
 -- demand 3 of what a caller holds after calls on the loaded graph g: h in the tables, and the answers
-pub record DemandMet (g : Graph) (calls : List Call) (h : Graph) (answers : List ℕ) : Type 0 where
+pub record DemandMet (g : Graph) (calls : List Call) (h : Graph) (answers : List ℤ) : Type 0 where
   pub wired : wiring h ≡ wiring g
   pub outputs : (a : Assignment) (j : ℕ) → j < g .O → outputValue h a j ≡ outputValue g a j
-  pub count : C h + savingsIn (length calls) answers ≡ C g
+  pub count : pos (C h) +ℤ savingsIn (length calls) answers ≡ pos (C g)
   -- and of each call on the way
   pub demand : Demand g calls
 
+-- t is what an answer comes to
+pub record Answers (a : Answer) (t : CallAnswer) : Type 0 where
+  pub number : t .number ≡ a .number
+  pub own : t .own ≡ ownOf a
+  pub others : t .others ≡ othersOf a
+
 -- t is what the call c answers on g, and h the graph after it
 pub record Tells (g : Graph) (c : Call) (h : Graph) (t : CallAnswer) : Type 0 where
-  pub number : t .number ≡ step g c .answer .number
-  pub saving : t .saving ≡ reported c (step g c .answer)
+  pub answer : Answers (step g c .answer) t
   pub graph : h ≡ step g c .graph

@@ -1,39 +1,42 @@
 // One call of a list, and all of them.
 ghost use mathlib.Core.Path.{_≡_};
-ghost use mathlib.Core.List.{[], _++_};
+ghost use mathlib.Core.List.{_++_};
 ghost use Prim.Native.Nat.{_*_, _/_, _≤_};
-ghost use lib.ListN.{length, getD, drop};
+ghost use lib.ListN.{length, drop};
 ghost use Rattle.graph.specs.Graph.{graphOf};
 ghost use Rattle.moves.specs.Call.{savingAnswer};
-ghost use Rattle.rounds.specs.Round.{savingOf};
 ghost use Rattle.settling.specs.Settle.{settledAnswer};
-ghost use Rattle.promises.specs.Demand.{run, reported, settling};
-ghost use Rattle.replay.specs.Replay.{callOf, decode, answersOf, Tells};
+ghost use Rattle.promises.specs.Demand.{run};
+ghost use Rattle.replay.specs.Replay.{callOf, decode, answersOf, Answers, Tells};
 
 // What a call of the list answers.
 pub struct CallAnswer {
     pub number: u32,
-    pub saving: u32,
+    pub own: i64,
+    pub others: i64,
 }
 
 pub fn saving_answer(answer: moves::Saving) -> CallAnswer
-    ensures { λ r. ⌜ (r .number ≡ savingAnswer answer .number) × (r .saving ≡ savingOf (savingAnswer answer)) ⌝ }
+    ensures { λ r. ⌜ Answers (savingAnswer answer) r ⌝ }
 {
+    let number = answers::told::saving_number(answer);
+    let saving = answers::told::saving_told(answer, [0; 2]);
     CallAnswer {
-        number: answers::told::saving_number(answer),
-        saving: answers::told::saving_told(answer, 0),
+        number,
+        own: saving[0],
+        others: saving[1],
     }
 }
 
-// Settling never raises C.
 pub fn settled_answer(answer: settling::Settled) -> CallAnswer
-    requires { ⌜ getD (settledAnswer answer .values) 2 0 ≤ getD (settledAnswer answer .values) 1 0 ⌝ }
-    ensures { λ r. ⌜ (r .number ≡ settledAnswer answer .number) × (r .saving ≡ reported (settling []) (settledAnswer answer)) ⌝ }
+    ensures { λ r. ⌜ Answers (settledAnswer answer) r ⌝ }
 {
-    let figures = answers::told::settled_told(answer, [0; 3]);
+    let number = answers::told::settled_number(answer);
+    let saving = answers::told::settled_sums(answer, [0; 2]);
     CallAnswer {
-        number: answers::told::settled_number(answer),
-        saving: figures[1] - figures[2],
+        number,
+        own: saving[0],
+        others: saving[1],
     }
 }
 
@@ -95,11 +98,11 @@ pub fn make_calls(
     output_table: &mut [u32],
     calls: &[u32],
     scratch: &mut [u32],
-    answers: &mut [u32],
+    answers: &mut [i64],
 )
-    requires { ⌜ 2 * (length (now calls) / 3) ≤ length (now answers) ⌝ }
+    requires { ⌜ (3 * (length (now calls) / 3) ≤ length (now answers)) × (3 * (length (now calls) / 3) ≤ 1152921504606846976) ⌝ }
     ensures graph { λ _. ⌜ graphOf inputs nodes outputs (now («node_table» .exit)) (now («output_table» .exit)) ≡ run (graphOf inputs nodes outputs (now («node_table» .entry)) (now («output_table» .entry))) (decode (now (scratch .entry)) (now (calls .entry))) ⌝ }
-    ensures answers { λ _. ⌜ now (answers .exit) ≡ answersOf (graphOf inputs nodes outputs (now («node_table» .entry)) (now («output_table» .entry))) (decode (now (scratch .entry)) (now (calls .entry))) ++ drop (2 * (length (now (calls .entry)) / 3)) (now (answers .entry)) ⌝ }
+    ensures answers { λ _. ⌜ now (answers .exit) ≡ answersOf (graphOf inputs nodes outputs (now («node_table» .entry)) (now («output_table» .entry))) (decode (now (scratch .entry)) (now (calls .entry))) ++ drop (3 * (length (now (calls .entry)) / 3)) (now (answers .entry)) ⌝ }
 {
     let mut s = calls;
     let mut at = 0;
@@ -115,9 +118,13 @@ pub fn make_calls(
             s[2],
             scratch,
         );
-        answers[at] = answer.number;
-        answers[at + 1] = answer.saving;
+        let number = answer.number as i64;
+        let own = answer.own;
+        let others = answer.others;
+        answers[at] = number;
+        answers[at + 1] = own;
+        answers[at + 2] = others;
         s = &s[3..];
-        at += 2;
+        at += 3;
     }
 }

@@ -28,15 +28,15 @@ pub enum Replayed {
     Refused(graph::Refusal),
 }
 
-// Each call is three words of `calls`: kind (0 node, 1 pair, 2 tree, 3 settling), node and word. Its answer is two words of
-// `answers`: number and saving.
+// Each call is three words of `calls`: kind (0 node, 1 pair, 2 tree, 3 settling), node and word. Its answer is three words of
+// `answers`: the number, and both numbers of its saving.
 pub fn replay(
     file: &[u8],
     calls: &[u32],
     node_table: &mut [u32],
     output_table: &mut [u32],
     scratch: &mut [u32],
-    answers: &mut [u32],
+    answers: &mut [i64],
 ) -> Replayed
     ensures call { λ r. ⌜ outcome (replayedAnswer r) (replayedGraph r (now («node_table» .exit)) (now («output_table» .exit))) ≡ replayCall (now (file .entry)) (now (calls .entry)) (now («node_table» .entry)) (now («output_table» .entry)) (now (scratch .entry)) (length (now (answers .entry))) ⌝ }
     ensures answers { λ r. ⌜ now (answers .exit) ≡ answersAfter (now (file .entry)) (now (calls .entry)) (now («node_table» .entry)) (now («output_table» .entry)) (now (scratch .entry)) (now (answers .entry)) ⌝ }
@@ -49,7 +49,8 @@ pub fn replay(
     if faults::kinds_number(calls) != 0 {
         return Replayed::NotCalls(CallsFault::UnknownKind);
     }
-    if answers.len() / 2 < calls.len() / 3 {
+    let room = faults::usable_room(answers.len());
+    if room / 3 < calls.len() / 3 {
         return Replayed::Refused(graph::Refusal::ShortSlice);
     }
     let answer = tagged_file::load(file, node_table, output_table);

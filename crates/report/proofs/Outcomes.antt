@@ -4,12 +4,13 @@ use mathlib.Core.Path.{_≡_, refl, sym, ap, _∙_}
 use mathlib.Core.List.{List, [], _∷_, _++_}
 use Prim.Native.Nat.{ℕ, zero, suc, _≤_}
 use native.Mathlib.Omega.{arith}
+use lib.IntN.{ℤ}
 use lib.ListN.{length, drop}
 use lib.Seq.{sets}
 use Rattle.graph.specs.Graph.{Graph, graphOf}
 use Rattle.graph.specs.Admission.{Admitted}
 use Rattle.graph.specs.declared.Refusal.{Refusal}
-use Rattle.graph.specs.Answer.{accepted, refused, numberOf, Outcome, outcome, guarded}
+use Rattle.graph.specs.Answer.{accepted, refused, gained, numberOf, Outcome, outcome, guarded}
 use Rattle.graph.proofs.Tests.{equal, unequal, both}
 use Rattle.graph.proofs.Admit.{admitted}
 use Rattle.graph.proofs.Answers.{number-some}
@@ -33,12 +34,12 @@ printed-is o b b′ text r et er l eb =
     rw (et, er, e) refl
 
 module _ (o : Outcome) (g : Graph) (b b′ : List ℕ) (r : ℕ) where
-  pub settled-printed : (rounds before after : ℕ) → outcome (accepted (rounds ∷ before ∷ after ∷ [])) g ≡ o
+  pub settled-printed : (rounds before after : ℕ) (x y : ℤ) → outcome (gained (rounds ∷ before ∷ after ∷ []) x y) g ≡ o
       → (r ≡ length (settledText rounds before after g)) × (r ≤ length b) × (b′ ≡ sets b 0 (settledText rounds before after g))
       → reportOutcome (accepted (r ∷ [])) (g .nodes) (g .outputs) b′ ≡ printed o b
   unfolding textOf
-  settled-printed rounds before after e h =
-      let s : Outcome = outcome (accepted (rounds ∷ before ∷ after ∷ [])) g in
+  settled-printed rounds before after x y e h =
+      let s : Outcome = outcome (gained (rounds ∷ before ∷ after ∷ []) x y) g in
       printed-is s b b′ (settledText rounds before after g) r (sym (equal 0 0 _ _ refl refl)) (h .0) (h .1) (h .2)
       ∙ ap (λ (x : Outcome). printed x b) e
 
@@ -71,18 +72,18 @@ unfolding guarded
 guarded-graph zero g o e = refl
 guarded-graph (suc k) g o e = absurd (omega arith)
 
-pub settled-admitted : (g h : Graph) (s : ℕ) (vs : List ℕ) → outcome (accepted vs) h ≡ settleCall g s → Admitted g
+pub settled-admitted : (g h : Graph) (s : ℕ) (vs : List ℕ) (x y : ℤ) → outcome (gained vs x y) h ≡ settleCall g s → Admitted g
 unfolding settleCall settleNumber
-settled-admitted g h s vs e = admitted g (both _ _ (guarded-zero (settleNumber g s) g _ (sym (ap (λ (o : Outcome). o .answer .number) e))) .0)
+settled-admitted g h s vs x y e = admitted g (both _ _ (guarded-zero (settleNumber g s) g _ (sym (ap (λ (o : Outcome). o .answer .number) e))) .0)
 
 -- the answers of both calls, by their cases
-pub settled-rounds : (q : Settled) (n before after : ℕ) (g : Graph) (o : Outcome) → q ≡ settled.Rounds n before after
-    → outcome (settledAnswer q) g ≡ o → outcome (accepted (n ∷ before ∷ after ∷ [])) g ≡ o
-settled-rounds q n before after g o e h = ap (λ (x : Settled). outcome (settledAnswer x) g) (sym e) ∙ h
+pub settled-rounds : (q : Settled) (n before after : ℕ) (x y : ℤ) (g : Graph) (o : Outcome) → q ≡ settled.Rounds n before after x y
+    → outcome (settledAnswer q) g ≡ o → outcome (gained (n ∷ before ∷ after ∷ []) x y) g ≡ o
+settled-rounds q n before after x y g o e h = ap (λ (z : Settled). outcome (settledAnswer z) g) (sym e) ∙ h
 
 pub settled-refused : (q : Settled) (r : Refusal) (g : Graph) (o : Outcome) → q ≡ settled.Refused r → outcome (settledAnswer q) g ≡ o
     → outcome (refused (numberOf r)) g ≡ o
-settled-refused q r g o e h = ap (λ (x : Settled). outcome (settledAnswer x) g) (sym e) ∙ h
+settled-refused q r g o e h = ap (λ (z : Settled). outcome (settledAnswer z) g) (sym e) ∙ h
 
 pub loaded-graph : (q : Loaded) (i n m : ℕ) (ns os : List ℕ) (o : Outcome) → q ≡ loaded.Graph i n m
     → outcome (loadedAnswer q) (loadedGraph q ns os) ≡ o → outcome (accepted (i ∷ n ∷ m ∷ [])) (graphOf i n m ns os) ≡ o

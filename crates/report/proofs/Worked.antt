@@ -14,7 +14,9 @@ use Rattle.moves.specs.Rows.{rows, firstRow, arity, flag, movesAt}
 use Rattle.moves.specs.Apply.{at, put, seen, own, turns, outputTurns, apply}
 use Rattle.moves.specs.Tree.{isRoot, last, place, reader, rootIn, rootOf, members, tree}
 use Rattle.moves.specs.Call.{moved, movedC, bestAt, rewrite, isNode, nodeFault, wordFault, rootFault, scratchFault, nodeNumber, nodeCall, namedBy, pairNumber, pairRewrite, pairCall, treeNumber, treeCall}
-use Rattle.rounds.specs.Round.{savingOf, start, after, each, treeAt, nodeAt, pairAt, pairsAt, round}
+use Rattle.graph.specs.Difference.{difference}
+use Rattle.moves.specs.Split.{among, ownAdds, otherAdds, split}
+use Rattle.rounds.specs.Round.{start, after, each, treeAt, nodeAt, pairAt, pairsAt, round}
 use Rattle.rounds.specs.Settle.{settleIn, settle, settleNumber, settleCall}
 use Rattle.file_checks.specs.File.{be2, be4, payloadOf, dueNumber, nodeSize, third, headNumber, endNumber, fileNumber}
 use Rattle.file_checks.specs.File as file
@@ -51,9 +53,9 @@ abbrev refused6 : List ℕ
 refused6 = 114 ∷ 101 ∷ 102 ∷ 117 ∷ 115 ∷ 101 ∷ 100 ∷ 32 ∷ 54 ∷ 10 ∷ []
 
 pub p1-report : textOf (settledFile p1 (0 ∷ 0 ∷ 0 ∷ []) (0 ∷ []) 8) ≡ text1 ++ (text2 ++ (text3 ++ text4))
-unfolding flatMap tab sum count ifLess ifEqual first firstOf turn isXor isEdge adds wordAdds nodeAdds outputAdds C named outputNamed nodeReaders readers tablesNumber roomNumber wordNumber outputNumber literalNumber admissionNumber guarded decimalIn decimal from choices unlessLess least best rows firstRow arity flag movesAt at put seen own turns outputTurns turnedTable turnedBy apply isRoot last place reader rootIn rootOf members tree moved movedC bestAt rewrite isNode nodeFault wordFault rootFault scratchFault nodeNumber nodeCall namedBy pairNumber pairRewrite pairCall treeNumber treeCall savingOf start after each treeAt nodeAt pairAt pairsAt round settleIn settle settleNumber settleCall be2 be4 payloadOf dueNumber nodeSize third headNumber endNumber fileNumber file.nodeFieldNumber file.outputFieldNumber graphRead loadCall inputsText nodesText outputsText beforeText afterText roundsText nodeText majText xorText spaceText outText refusedText numbered line1 line2 line3 line4 sizesLine countsLine nodeLine outputLine nodeLineAt outputLineAt settledText textOf thenSettle settledFile
+unfolding flatMap tab sum count ifLess ifEqual first firstOf turn isXor isEdge adds wordAdds nodeAdds outputAdds C named outputNamed nodeReaders readers tablesNumber roomNumber wordNumber outputNumber literalNumber admissionNumber guarded decimalIn decimal from choices unlessLess least best rows firstRow arity flag movesAt at put seen own turns outputTurns turnedTable turnedBy apply isRoot last place reader rootIn rootOf members tree moved movedC bestAt rewrite isNode nodeFault wordFault rootFault scratchFault nodeNumber nodeCall namedBy pairNumber pairRewrite pairCall treeNumber treeCall difference among ownAdds otherAdds split start after each treeAt nodeAt pairAt pairsAt round settleIn settle settleNumber settleCall be2 be4 payloadOf dueNumber nodeSize third headNumber endNumber fileNumber file.nodeFieldNumber file.outputFieldNumber graphRead loadCall inputsText nodesText outputsText beforeText afterText roundsText nodeText majText xorText spaceText outText refusedText numbered line1 line2 line3 line4 sizesLine countsLine nodeLine outputLine nodeLineAt outputLineAt settledText textOf thenSettle settledFile
 p1-report = refl
 
 pub p1-longer : textOf (settledFile (p1 ++ (0 ∷ [])) (0 ∷ 0 ∷ 0 ∷ []) (0 ∷ []) 8) ≡ refused6
-unfolding flatMap tab sum count ifLess ifEqual first firstOf turn isXor isEdge adds wordAdds nodeAdds outputAdds C named outputNamed nodeReaders readers tablesNumber roomNumber wordNumber outputNumber literalNumber admissionNumber guarded decimalIn decimal from choices unlessLess least best rows firstRow arity flag movesAt at put seen own turns outputTurns turnedTable turnedBy apply isRoot last place reader rootIn rootOf members tree moved movedC bestAt rewrite isNode nodeFault wordFault rootFault scratchFault nodeNumber nodeCall namedBy pairNumber pairRewrite pairCall treeNumber treeCall savingOf start after each treeAt nodeAt pairAt pairsAt round settleIn settle settleNumber settleCall be2 be4 payloadOf dueNumber nodeSize third headNumber endNumber fileNumber file.nodeFieldNumber file.outputFieldNumber graphRead loadCall inputsText nodesText outputsText beforeText afterText roundsText nodeText majText xorText spaceText outText refusedText numbered line1 line2 line3 line4 sizesLine countsLine nodeLine outputLine nodeLineAt outputLineAt settledText textOf thenSettle settledFile
+unfolding flatMap tab sum count ifLess ifEqual first firstOf turn isXor isEdge adds wordAdds nodeAdds outputAdds C named outputNamed nodeReaders readers tablesNumber roomNumber wordNumber outputNumber literalNumber admissionNumber guarded decimalIn decimal from choices unlessLess least best rows firstRow arity flag movesAt at put seen own turns outputTurns turnedTable turnedBy apply isRoot last place reader rootIn rootOf members tree moved movedC bestAt rewrite isNode nodeFault wordFault rootFault scratchFault nodeNumber nodeCall namedBy pairNumber pairRewrite pairCall treeNumber treeCall difference among ownAdds otherAdds split start after each treeAt nodeAt pairAt pairsAt round settleIn settle settleNumber settleCall be2 be4 payloadOf dueNumber nodeSize third headNumber endNumber fileNumber file.nodeFieldNumber file.outputFieldNumber graphRead loadCall inputsText nodesText outputsText beforeText afterText roundsText nodeText majText xorText spaceText outText refusedText numbered line1 line2 line3 line4 sizesLine countsLine nodeLine outputLine nodeLineAt outputLineAt settledText textOf thenSettle settledFile
 p1-longer = refl

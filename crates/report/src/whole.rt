@@ -28,6 +28,7 @@ pub fn put_settling(
             rounds,
             before,
             after,
+            ..
         } => lines::put_settled(
             inputs,
             nodes,

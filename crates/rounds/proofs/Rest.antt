@@ -2,38 +2,33 @@
 use mathlib.Core.Path.{_≡_, refl, ap, _∙_}
 use Prim.Native.Nat.{ℕ, zero, suc, _+_, _≤_, _<_}
 use native.Mathlib.Omega.{arith}
-use Rattle.graph.specs.Graph.{Graph}
 use Rattle.graph.specs.Count.{C}
-use Rattle.rounds.specs.Round.{round}
+use Rattle.rounds.specs.Round.{Progress, round}
 use Rattle.rounds.specs.Settle.{Rounds, settleIn}
 use Rattle.rounds.proofs.Rounds.{settleIn-more, settleIn-last}
 
 -- k rounds more, before these
 unfoldable pub later : ℕ → Rounds → Rounds
 later zero r = r
-later (suc k) r = later k (record { rounds = suc (r .rounds); graph = r .graph })
+later (suc k) r = later k (record { rounds = suc (r .rounds); made = r .made })
 
 pub later-rounds : (k : ℕ) (r : Rounds) → later k r .rounds ≡ k + r .rounds
 unfolding later
 later-rounds zero r = omega arith
-later-rounds (suc k) r = omega (arith, later-rounds k (record { rounds = suc (r .rounds); graph = r .graph }))
+later-rounds (suc k) r = omega (arith, later-rounds k (record { rounds = suc (r .rounds); made = r .made }))
 
-pub later-graph : (k : ℕ) (r : Rounds) → later k r .graph ≡ r .graph
+pub later-made : (k : ℕ) (r : Rounds) → later k r .made ≡ r .made
 unfolding later
-later-graph zero r = refl
-later-graph (suc k) r = later-graph k (record { rounds = suc (r .rounds); graph = r .graph })
+later-made zero r = refl
+later-made (suc k) r = later-made k (record { rounds = suc (r .rounds); made = r .made })
 
-later-more : (k : ℕ) (r : Rounds) → later k (record { rounds = suc (r .rounds); graph = r .graph }) ≡ later (suc k) r
+later-more : (k : ℕ) (r : Rounds) → later k (record { rounds = suc (r .rounds); made = r .made }) ≡ later (suc k) r
 unfolding later
 later-more k r = refl
 
 -- what is left after a round, of fuel that is at least C before it
-pub left-more : (s k f : ℕ) (h h′ : Graph) → round s h .graph ≡ h′ → C h ≤ f → C h′ < C h → (f′ : ℕ) → f ≡ suc f′ → later k (settleIn (suc f) s h) ≡ later (suc k) (settleIn (suc f′) s h′)
-left-more s k f h h′ r l b f′ e =
-    let q : C (round s h .graph) < C h = omega (arith, ap C r) in
-    ap (later k) (settleIn-more f s h q ∙ rw (r, e)) ∙ later-more k (settleIn (suc f′) s h′)
+pub left-more : (s k f : ℕ) (p : Progress) → C (round s p .graph) < C (p .graph) → (f′ : ℕ) → f ≡ suc f′ → later k (settleIn (suc f) s p) ≡ later (suc k) (settleIn (suc f′) s (round s p))
+left-more s k f p b f′ e = ap (later k) (settleIn-more f s p b ∙ rw e) ∙ later-more k (settleIn (suc f′) s (round s p))
 
-pub left-last : (s k f : ℕ) (h h′ : Graph) → round s h .graph ≡ h′ → C h ≤ C h′ → later k (settleIn (suc f) s h) ≡ later (suc k) (record { rounds = 0; graph = h′ })
-left-last s k f h h′ r b =
-    let q : C h ≤ C (round s h .graph) = omega (arith, ap C r) in
-    ap (later k) (settleIn-last f s h q ∙ rw r) ∙ later-more k (record { rounds = 0; graph = h′ })
+pub left-last : (s k f : ℕ) (p : Progress) → C (p .graph) ≤ C (round s p .graph) → later k (settleIn (suc f) s p) ≡ later (suc k) (record { rounds = 0; made = round s p })
+left-last s k f p b = ap (later k) (settleIn-last f s p b) ∙ later-more k (record { rounds = 0; made = round s p })

@@ -1,20 +1,19 @@
 -- Settling looks at scratch only to see that it is long enough: with any two lengths of at least 8 × N words it gives the same
 -- rounds, the same C and the same graph. From the tree call's fault, and from the nodes that rounds keep (Rounds).
 use mathlib.Core.Path.{_≡_, refl, sym, ap, _∙_}
-use mathlib.Core.List.{[], _∷_}
 use Prim.Native.Nat.{ℕ, zero, suc, _*_, _≤_}
 use native.Mathlib.Omega.{arith}
 use Rattle.graph.specs.Finite.{first}
 use Rattle.graph.specs.Graph.{Graph, node}
 use Rattle.graph.specs.Count.{C}
 use Rattle.graph.specs.Admission.{Admitted, admissionNumber}
-use Rattle.graph.specs.Answer.{accepted, Outcome, outcome, guarded}
+use Rattle.graph.specs.Answer.{Outcome, guarded}
 use Rattle.graph.proofs.Tests.{no-less, both}
 use Rattle.graph.proofs.Admit.{admitted}
 use Rattle.moves.specs.Call.{scratchFault, treeNumber, treeCall}
 use Rattle.rounds.specs.Round.{Progress, start, after, each, treeAt, round}
-use Rattle.rounds.specs.Settle.{Rounds, settleIn, settle, settleNumber, settleCall}
-use Rattle.rounds.proofs.Rounds.{trees-sound, round-kept}
+use Rattle.rounds.specs.Settle.{settleIn, settle, settled, settleNumber, settleCall}
+use Rattle.rounds.proofs.Rounds.{trees-sound, round-moves}
 
 enough : (g : Graph) (s : ℕ) → 8 * g .N ≤ s → scratchFault g s ≡ 0
 unfolding scratchFault
@@ -36,25 +35,21 @@ module _ (s t : ℕ) where
       let k = trees-sound s n .moves p adm .keeps .same-N in
       treeAt-same n (each (treeAt s) n p) (omega (arith, k)) (omega (arith, k)) ∙ ap (treeAt t n) (trees-same n p adm l m)
 
-  round-same : (g : Graph) → Admitted g → 8 * g .N ≤ s → 8 * g .N ≤ t → round s g ≡ round t g
-  unfolding round start
-  round-same g adm l m = rw (trees-same (g .N) (start g) adm l m)
+  round-same : (p : Progress) → Admitted (p .graph) → 8 * p .graph .N ≤ s → 8 * p .graph .N ≤ t → round s p ≡ round t p
+  unfolding round
+  round-same p adm l m = rw (trees-same (p .graph .N) p adm l m)
 
-  settleIn-same : (f : ℕ) (g : Graph) → Admitted g → 8 * g .N ≤ s → 8 * g .N ≤ t → settleIn f s g ≡ settleIn f t g
+  settleIn-same : (f : ℕ) (p : Progress) → Admitted (p .graph) → 8 * p .graph .N ≤ s → 8 * p .graph .N ≤ t → settleIn f s p ≡ settleIn f t p
   unfolding settleIn
-  settleIn-same zero g adm l m = refl
-  settleIn-same (suc f) g adm l m =
-      let k = round-kept s g adm in
-      rw (← round-same g adm l m, settleIn-same f (round s g .graph) (k .admitted) (omega (arith, k .same-N)) (omega (arith, k .same-N)))
+  settleIn-same zero p adm l m = refl
+  settleIn-same (suc f) p adm l m =
+      let k = round-moves s p adm .keeps in
+      rw (← round-same p adm l m, settleIn-same f (round s p) (k .admitted) (omega (arith, k .same-N)) (omega (arith, k .same-N)))
 
 guarded-same : (g : Graph) (k : ℕ) (x y : Outcome) → (k ≡ 0 → x ≡ y) → guarded k g x ≡ guarded k g y
 unfolding guarded
 guarded-same g zero x y h = h refl
 guarded-same g (suc k) x y h = refl
-
--- the outcome of these rounds
-settled : Graph → Rounds → Outcome
-settled g r = outcome (accepted (r .rounds ∷ C g ∷ C (r .graph) ∷ [])) (r .graph)
 
 number-same : (g : Graph) (s : ℕ) → 8 * g .N ≤ s → settleNumber g s ≡ first (admissionNumber g) 0
 unfolding settleNumber
@@ -62,8 +57,8 @@ number-same g s l = ap (first (admissionNumber g)) (enough g s l)
 
 -- on every graph, for any two lengths of scratch that are long enough
 pub settle-same : (g : Graph) (s t : ℕ) → 8 * g .N ≤ s → 8 * g .N ≤ t → settleCall g s ≡ settleCall g t
-unfolding settleCall settle settled
+unfolding settleCall settle start
 settle-same g s t l m =
     rw (number-same g s l, number-same g t m)
     (guarded-same g (first (admissionNumber g) 0) _ _
-    (λ e. ap (settled g) (settleIn-same s t (suc (C g)) g (admitted g (both (admissionNumber g) 0 e .0)) l m)))
+    (λ e. ap (settled g) (settleIn-same s t (suc (C g)) (start g) (admitted g (both (admissionNumber g) 0 e .0)) l m)))

@@ -1,22 +1,30 @@
--- Calls made one after the other: what all have saved is what C has fallen by, and where all together have saved nothing, none
+-- Calls made one after the other: both sums of what they have saved add to what C has fallen by, and where C has not fallen, none
 -- changed the graph and each saw the last one. From what each call does (Calls).
-use mathlib.Core.Path.{_≡_, refl, _∙_}
+use mathlib.Core.Path.{_≡_, refl, ap, _∙_}
 use mathlib.Core.Bool.{Bool, true, false, cond}
 use mathlib.Core.Logic.{⊎-elim}
-use Prim.Native.Nat.{ℕ, zero, suc, _+_, _<_}
+use Prim.Native.Nat.{ℕ, zero, suc, _+_, _-_, _≤_, _<_}
 use native.Mathlib.Omega.{arith}
 use native.Mathlib.Nat.{not-suc-le-zero, eq-or-lt-of-le, le-of-suc-le-suc}
+use lib.IntN.{_+ℤ_}
 use Rattle.graph.specs.Graph.{Graph}
+use Rattle.graph.specs.Count.{C}
+use Rattle.graph.specs.Difference.{difference}
 use Rattle.graph.specs.Admission.{Admitted}
-use Rattle.graph.specs.Answer.{Outcome}
+use Rattle.graph.specs.Answer.{Outcome, ownOf, othersOf, savingOf}
+use Rattle.graph.proofs.DifferenceSum.{interchange, telescope}
 use Rattle.moves.proofs.Count.{clash}
 use Rattle.moves.proofs.Kept.{Kept, kept-none, kept-then}
-use Rattle.rounds.specs.Round.{savingOf, Progress, after, each}
+use Rattle.rounds.specs.Round.{Progress, after, each}
 use Rattle.rounds.proofs.Calls.{Honest}
 
--- a step from p to q that has saved so much
+-- both sums of p are together what C has fallen by from c
+abbrev pub Sums : ℕ → Progress → Type 0
+Sums c p = p .own +ℤ p .others ≡ difference c (C (p .graph))
+
+-- a step from p to q that has lowered C by so much
 pub record Moved (p q : Progress) (saved : ℕ) : Type 0 where
-  pub sums : q .saved ≡ p .saved + saved
+  pub sums : (c : ℕ) → Sums c p → Sums c q
   pub keeps : Kept (p .graph) (q .graph) saved
 
 -- what a step does, and P, which then holds of the graph, where it saves nothing
@@ -26,19 +34,29 @@ pub record Sound (step : Progress → Progress) (P : Graph → Type 0) : Type 0 
   pub still : (p : Progress) → Admitted (p .graph) → saves p ≡ 0 → (step p .graph ≡ p .graph) × P (p .graph)
 
 -- one call
-pub after-sound : (call : Graph → Outcome) → Honest call → Sound (after call) (λ g. savingOf (call g .answer) ≡ 0)
+pub after-sound : (call : Graph → Outcome) → Honest call → Sound (after call) (λ g. C g ≤ C (call g .graph))
 unfolding after
 after-sound call h =
     record {
-      saves = λ p. savingOf (call (p .graph) .answer);
-      moves = λ p adm. record { sums = refl; keeps = h .keeps (p .graph) adm };
-      still = λ p adm e. (h .still (p .graph) adm e, e);
+      saves = λ p. C (p .graph) - C (call (p .graph) .graph);
+      moves = λ p adm.
+          record {
+            sums = λ c e.
+                let g : Graph = p .graph in
+                let o : Outcome = call g in
+                interchange (p .own) (ownOf (o .answer)) (p .others) (othersOf (o .answer)) ∙
+                ap (λ x. x +ℤ savingOf (o .answer)) e ∙
+                ap (λ x. difference c (C g) +ℤ x) (h .adds g) ∙
+                telescope c (C g) (C (o .graph));
+            keeps = h .keeps (p .graph) adm;
+          };
+      still = λ p adm e. let l : C (p .graph) ≤ C (call (p .graph) .graph) = omega (arith, h .keeps (p .graph) adm .count) in (h .still (p .graph) adm l, l);
     }
 
 -- a call made only where a test passes
 cond-moved : (b : Bool) (p q : Progress) (s : ℕ) → Admitted (p .graph) → Moved p q s → Moved p (cond b q p) (cond b s 0)
 cond-moved true p q s adm m = m
-cond-moved false p q s adm m = record { sums = omega arith; keeps = kept-none (p .graph) adm }
+cond-moved false p q s adm m = record { sums = λ c e. e; keeps = kept-none (p .graph) adm }
 
 cond-still : (b : Bool) (p q : Progress) (s : ℕ) (P : Type 0) → (s ≡ 0 → (q .graph ≡ p .graph) × P) → cond b s 0 ≡ 0
     → (cond b q p .graph ≡ p .graph) × (b ≡ true → P)
@@ -62,7 +80,7 @@ then-sound a b P Q h k =
       moves = λ p adm.
           let m = h .moves p adm in
           let n = k .moves (a p) (m .keeps .admitted) in
-          record { sums = omega (arith, m .sums, n .sums); keeps = kept-then (p .graph) (a p .graph) (b (a p) .graph) (h .saves p) (k .saves (a p)) (m .keeps) (n .keeps) };
+          record { sums = λ c e. n .sums c (m .sums c e); keeps = kept-then (p .graph) (a p .graph) (b (a p) .graph) (h .saves p) (k .saves (a p)) (m .keeps) (n .keeps) };
       still = λ p adm e.
           let m = h .moves p adm in
           let x = h .still p adm (omega arith) in
@@ -77,7 +95,7 @@ module _ (step : ℕ → Progress → Progress) (P : ℕ → Graph → Type 0) (
   each-sound zero =
       record {
         saves = λ p. 0;
-        moves = λ p adm. record { sums = omega arith; keeps = kept-none (p .graph) adm };
+        moves = λ p adm. record { sums = λ c e. e; keeps = kept-none (p .graph) adm };
         still = λ p adm e. (refl, (λ v l. absurd (not-suc-le-zero l)));
       }
   each-sound (suc n) =

@@ -1,45 +1,56 @@
--- What each step of a round does to the graph, as the inner functions have it: the best moves at a node, at a pair, at a tree.
+-- What each step of a round does, as the inner functions have it: the best moves at a node, at a pair, at a tree.
 -- From the calls' definitions: on an admitted graph none of these calls is refused.
 use mathlib.Core.Path.{_≡_, ap}
 use mathlib.Core.Bool.{true, false}
 use mathlib.Core.List.{[], _∷_}
 use Prim.Native.Nat.{ℕ, _*_, _≤_, _<_}
 use borrow.Author.Tests.{eq-eqb, ne-eqb}
+use lib.IntN.{_+ℤ_}
 use Rattle.graph.specs.Graph.{Graph, node}
 use Rattle.graph.specs.Admission.{Admitted}
-use Rattle.graph.specs.Answer.{Outcome}
+use Rattle.graph.specs.Answer.{Outcome, othersOf}
 use Rattle.moves.specs.Tree.{isRoot, tree}
-use Rattle.moves.specs.Call.{moved, bestAt, rewrite, wordFault, nodeNumber, nodeCall, pairNumber, pairRewrite, pairCall, treeNumber, treeCall}
+use Rattle.moves.specs.Call.{rewrite, wordFault, nodeNumber, nodeCall, pairNumber, pairRewrite, pairCall, treeNumber, treeCall}
 use Rattle.rounds.specs.Round.{Progress, after, treeAt, nodeAt, pairAt}
 use Rattle.rounds.proofs.Calls.{guarded-none, node-passes, pair-passes, tree-passes}
 
+-- p becomes q by a call with the outcome o
+pub record Goes (p q : Progress) (o : Outcome) : Type 0 where
+  pub others : q .others ≡ p .others +ℤ othersOf (o .answer)
+  pub graph : q .graph ≡ o .graph
+
+after-goes : (call : Graph → Outcome) (p : Progress) (o : Outcome) → call (p .graph) ≡ o → Goes p (after call p) o
+unfolding after
+after-goes call p o e = record { others = ap (λ (x : Outcome). p .others +ℤ othersOf (x .answer)) e; graph = ap (λ (x : Outcome). x .graph) e }
+
 module _ (p : Progress) (adm : Admitted (p .graph)) where
-  pub nodeAt-graph : (v : ℕ) → v < p .graph .N
-      → nodeAt v p .graph ≡ moved (p .graph) (node (p .graph) v ∷ []) (bestAt (p .graph) (node (p .graph) v ∷ []))
-  unfolding nodeAt after nodeCall rewrite
-  nodeAt-graph v h =
+  pub nodeAt-goes : (v : ℕ) → v < p .graph .N → Goes p (nodeAt v p) (rewrite (p .graph) (node (p .graph) v ∷ []))
+  unfolding nodeAt nodeCall
+  nodeAt-goes v h =
       let g : Graph = p .graph in
-      ap (λ (o : Outcome). o .graph) (guarded-none (nodeNumber g (node g v)) g (rewrite g (node g v ∷ [])) (node-passes g adm v h))
+      after-goes (λ x. nodeCall x (node x v)) p (rewrite g (node g v ∷ [])) (guarded-none (nodeNumber g (node g v)) g (rewrite g (node g v ∷ [])) (node-passes g adm v h))
 
   pub treeAt-root : (s v : ℕ) → v < p .graph .N → isRoot (p .graph) (node (p .graph) v) ≡ true → 8 * p .graph .N ≤ s
-      → treeAt s v p .graph ≡ moved (p .graph) (tree (p .graph) (node (p .graph) v)) (bestAt (p .graph) (tree (p .graph) (node (p .graph) v)))
-  unfolding treeAt after treeCall rewrite
+      → Goes p (treeAt s v p) (rewrite (p .graph) (tree (p .graph) (node (p .graph) v)))
+  unfolding treeAt treeCall
   treeAt-root s v h r l =
       let g : Graph = p .graph in
-      rw r (ap (λ (o : Outcome). o .graph) (guarded-none (treeNumber g s (node g v)) g (rewrite g (tree g (node g v))) (tree-passes g adm s v h r l)))
+      rw r
+      (after-goes (λ x. treeCall x s (node x v)) p (rewrite g (tree g (node g v)))
+      (guarded-none (treeNumber g s (node g v)) g (rewrite g (tree g (node g v))) (tree-passes g adm s v h r l)))
 
-  pub treeAt-inner : (s v : ℕ) → isRoot (p .graph) (node (p .graph) v) ≡ false → treeAt s v p .graph ≡ p .graph
+  pub treeAt-inner : (s v : ℕ) → isRoot (p .graph) (node (p .graph) v) ≡ false → treeAt s v p ≡ p
   unfolding treeAt
   treeAt-inner s v r = rw r
 
-  pub pairAt-word : (v k : ℕ) → v < p .graph .N → wordFault (p .graph) (node (p .graph) v) k ≡ 0
-      → pairAt v k p .graph ≡ pairRewrite (p .graph) (node (p .graph) v) k .graph
-  unfolding pairAt after pairCall
+  pub pairAt-word : (v k : ℕ) → v < p .graph .N → wordFault (p .graph) (node (p .graph) v) k ≡ 0 → Goes p (pairAt v k p) (pairRewrite (p .graph) (node (p .graph) v) k)
+  unfolding pairAt pairCall
   pairAt-word v k h w =
       let g : Graph = p .graph in
       rw (eq-eqb (wordFault g (node g v) k) 0 w)
-      (ap (λ (o : Outcome). o .graph) (guarded-none (pairNumber g (node g v) k) g (pairRewrite g (node g v) k) (pair-passes g adm v k h w)))
+      (after-goes (λ x. pairCall x (node x v) k) p (pairRewrite g (node g v) k)
+      (guarded-none (pairNumber g (node g v) k) g (pairRewrite g (node g v) k) (pair-passes g adm v k h w)))
 
-  pub pairAt-none : (v k : ℕ) → (wordFault (p .graph) (node (p .graph) v) k ≡ 0 → ⊥) → pairAt v k p .graph ≡ p .graph
+  pub pairAt-none : (v k : ℕ) → (wordFault (p .graph) (node (p .graph) v) k ≡ 0 → ⊥) → pairAt v k p ≡ p
   unfolding pairAt
   pairAt-none v k w = rw (ne-eqb (wordFault (p .graph) (node (p .graph) v) k) 0 w)

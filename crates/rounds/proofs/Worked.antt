@@ -12,10 +12,12 @@ use Rattle.moves.specs.Rows.{rows, firstRow, arity, flag, movesAt}
 use Rattle.moves.specs.Apply.{at, put, seen, own, turns, outputTurns, apply}
 use Rattle.moves.specs.Tree.{isRoot, last, place, reader, rootIn, rootOf, members, tree}
 use Rattle.moves.specs.Call.{moved, movedC, bestAt, rewrite, isNode, nodeFault, wordFault, rootFault, scratchFault, nodeNumber, nodeCall, namedBy, pairNumber, pairRewrite, pairCall, treeNumber, treeCall}
-use Rattle.rounds.specs.Round.{savingOf, start, after, each, treeAt, nodeAt, pairAt, pairsAt, round}
+use Rattle.graph.specs.Difference.{difference}
+use Rattle.moves.specs.Split.{among, ownAdds, otherAdds, split}
+use Rattle.rounds.specs.Round.{start, after, each, treeAt, nodeAt, pairAt, pairsAt, round}
 use Rattle.rounds.specs.Settle.{settleIn, settle, settleNumber, settleCall}
 use Rattle.rounds.specs.Worked.{Settles}
 
 pub settles : Settles
-unfolding flatMap tab sum count ifLess first firstOf turn isXor isEdge adds wordAdds nodeAdds outputAdds C named outputNamed nodeReaders readers tablesNumber roomNumber wordNumber outputNumber literalNumber admissionNumber guarded from choices unlessLess least best rows firstRow arity flag movesAt at put seen own turns outputTurns turnedTable turnedBy apply isRoot last place reader rootIn rootOf members tree moved movedC bestAt rewrite isNode nodeFault wordFault rootFault scratchFault nodeNumber nodeCall namedBy pairNumber pairRewrite pairCall treeNumber treeCall savingOf start after each treeAt nodeAt pairAt pairsAt round settleIn settle settleNumber settleCall
+unfolding flatMap tab sum count ifLess first firstOf turn isXor isEdge adds wordAdds nodeAdds outputAdds C named outputNamed nodeReaders readers tablesNumber roomNumber wordNumber outputNumber literalNumber admissionNumber guarded from choices unlessLess least best rows firstRow arity flag movesAt at put seen own turns outputTurns turnedTable turnedBy apply isRoot last place reader rootIn rootOf members tree moved movedC bestAt rewrite isNode nodeFault wordFault rootFault scratchFault nodeNumber nodeCall namedBy pairNumber pairRewrite pairCall treeNumber treeCall difference among ownAdds otherAdds split start after each treeAt nodeAt pairAt pairsAt round settleIn settle settleNumber settleCall
 settles = refl

@@ -1,30 +1,29 @@
 -- A round (document 01's term): the tree call at each root by rising index, the node call at each node by rising index, then
 -- the pair call at each node by rising index with its words in order.
 use mathlib.Core.Bool.{cond}
-use Prim.Native.Nat.{ℕ, zero, suc, _+_}
+use Prim.Native.Nat.{ℕ, zero, suc}
 use lib.Dec.{eqb}
-use lib.ListN.{getD}
+use lib.IntN.{ℤ, pos, _+ℤ_}
 use Rattle.graph.specs.Graph.{Graph, node}
-use Rattle.graph.specs.Answer.{Answer, Outcome}
+use Rattle.graph.specs.Answer.{Outcome, ownOf, othersOf}
 use Rattle.moves.specs.Tree.{isRoot}
 use Rattle.moves.specs.Call.{nodeCall, pairCall, treeCall, wordFault}
 
--- the saving that a node, pair or tree call reports; a refused one reports none
-unfoldable pub savingOf : Answer → ℕ
-savingOf a = getD (a .values) 0 0
-
--- calls made one after the other: what they have saved so far, and the graph as they leave it
+-- calls made one after the other: what they have saved so far, over the words of the nodes that each names and over all other edges,
+-- and the graph as they leave it
 pub record Progress : Type 0 where
-  pub saved : ℕ
+  pub own : ℤ
+  pub others : ℤ
   pub graph : Graph
 
 unfoldable pub start : Graph → Progress
-start g = record { saved = 0; graph = g }
+start g = record { own = pos 0; others = pos 0; graph = g }
 
 -- one more call
 unfoldable pub after : (Graph → Outcome) → Progress → Progress
 after call p =
-    record { saved = p .saved + savingOf (call (p .graph) .answer); graph = call (p .graph) .graph }
+    let o = call (p .graph) in
+    record { own = p .own +ℤ ownOf (o .answer); others = p .others +ℤ othersOf (o .answer); graph = o .graph }
 
 -- a step for each of the first n nodes, by rising index
 unfoldable pub each : (ℕ → Progress → Progress) → ℕ → Progress → Progress
@@ -51,5 +50,5 @@ pairsAt v p = pairAt v 3 (pairAt v 2 (pairAt v 1 p))
 abbrev pub phases : ℕ → ℕ → Progress → Progress
 phases s n p = each pairsAt n (each nodeAt n (each (treeAt s) n p))
 
-unfoldable pub round : ℕ → Graph → Progress
-round s g = phases s (g .N) (start g)
+unfoldable pub round : ℕ → Progress → Progress
+round s p = phases s (p .graph .N) p

@@ -7,38 +7,42 @@ use Rattle.graph.specs.Finite.{ifLess, first}
 use Rattle.graph.specs.Graph.{Graph, node}
 use Rattle.graph.specs.Count.{C}
 use Rattle.graph.specs.Admission.{admissionNumber}
-use Rattle.graph.specs.Answer.{accepted, Outcome, outcome, guarded}
+use Rattle.graph.specs.Answer.{gained, Outcome, outcome, guarded}
 use Rattle.choice.specs.Choice.{Fits}
 use Rattle.moves.specs.Rows.{movesAt}
 use Rattle.moves.specs.Tree.{isRoot, tree}
 use Rattle.moves.specs.Call.{moved, scratchFault, isNode, wordFault, namedBy}
-use Rattle.rounds.specs.Round.{round}
+use Rattle.rounds.specs.Round.{Progress, start, round}
 
--- the rounds made, and the graph as they leave it
+-- how many rounds were made, and what they have saved and left
 pub record Rounds : Type 0 where
   pub rounds : ℕ
-  pub graph : Graph
+  pub made : Progress
 
--- g after a round that leaves h: it is the last, or at most f more follow
-unfoldable pub settleIn : ℕ → ℕ → Graph → Rounds
-settleIn zero s g = record { rounds = 0; graph = g }
-settleIn (suc f) s g =
-    let h = round s g .graph in
-    let more = settleIn f s h in
-    ifLess (C h) (C g) (record { rounds = suc (more .rounds); graph = more .graph }) (record { rounds = 1; graph = h })
+-- a round after p: it is the last, or at most f more follow
+unfoldable pub settleIn : ℕ → ℕ → Progress → Rounds
+settleIn zero s p = record { rounds = 0; made = p }
+settleIn (suc f) s p =
+    let q = round s p in
+    let more = settleIn f s q in
+    ifLess (C (q .graph)) (C (p .graph)) (record { rounds = suc (more .rounds); made = more .made }) (record { rounds = 1; made = q })
 
 -- each round but the last lowers C by one at least, so that C g + 1 rounds are enough
 unfoldable pub settle : ℕ → Graph → Rounds
-settle s g = settleIn (suc (C g)) s g
+settle s g = settleIn (suc (C g)) s (start g)
 
--- the call, with s words of scratch: the rounds made, that last one included, with C before and after
+-- the call, with s words of scratch: the rounds made, that last one included, with C before and after, and what all its calls saved
 unfoldable pub settleNumber : Graph → ℕ → ℕ
 settleNumber g s = first (admissionNumber g) (scratchFault g s)
 
+-- what it comes to after those rounds
+abbrev pub settled : Graph → Rounds → Outcome
+settled g r =
+    let p = r .made in
+    outcome (gained (r .rounds ∷ C g ∷ C (p .graph) ∷ []) (p .own) (p .others)) (p .graph)
+
 unfoldable pub settleCall : Graph → ℕ → Outcome
-settleCall g s =
-    let r = settle s g in
-    guarded (settleNumber g s) g (outcome (accepted (r .rounds ∷ C g ∷ C (r .graph) ∷ [])) (r .graph))
+settleCall g s = guarded (settleNumber g s) g (settled g (settle s g))
 
 -- no choice of moves at one node, on a pair or on a tree lowers C. A pair is a node with a node that one of its words names
 pub record NothingLowers (g : Graph) : Type 0 where

@@ -2,8 +2,9 @@
 -- phases in any other order two rounds would do, and end in the same graph; without pairs C would end at 4.
 use mathlib.Core.Path.{_≡_}
 use mathlib.Core.List.{[], _∷_}
+use lib.IntN.{pos}
 use Rattle.graph.specs.Graph.{Graph, graphOf, mark}
-use Rattle.graph.specs.Answer.{accepted, outcome}
+use Rattle.graph.specs.Answer.{gained, outcome}
 use Rattle.rounds.specs.Settle.{settleCall}
 
 abbrev before : Graph
@@ -13,4 +14,4 @@ abbrev settled : Graph
 settled = graphOf 2 3 1 (4 ∷ 4 ∷ mark ∷ 5 ∷ 6 ∷ 2 ∷ 8 ∷ 4 ∷ 8 ∷ []) (10 ∷ [])
 
 abbrev pub Settles : Type 0
-Settles = settleCall before 24 ≡ outcome (accepted (3 ∷ 7 ∷ 1 ∷ [])) settled
+Settles = settleCall before 24 ≡ outcome (gained (3 ∷ 7 ∷ 1 ∷ []) (pos 3) (pos 3)) settled

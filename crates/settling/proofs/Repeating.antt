@@ -1,90 +1,115 @@
 -- Rounds over a state, one after the other, are settling: what is left after a round is the whole. From what is left
 -- after a round (crate rounds, Rest) and from what the phases of a round make of a state.
-use mathlib.Core.Path.{_≡_, refl, ap, _∙_}
+use mathlib.Core.Path.{_≡_, refl, sym, ap, _∙_, subst}
 use mathlib.Core.List.{List}
-use Prim.Native.Nat.{ℕ, suc, _+_, _-_, _≤_, _<_}
+use Prim.Native.Nat.{ℕ, suc, _+_, _-_, _*_, _≤_, _<_}
 use native.Mathlib.Omega.{arith}
 use native.Mathlib.Numerals.{add-one}
 use lib.ListN.{length}
 use Rattle.graph.specs.Graph.{Graph}
-use Rattle.graph.specs.Turned.{turnedBy}
 use Rattle.graph.specs.Count.{C}
 use Rattle.graph.proofs.Adds.{C-le}
+use Rattle.graph.proofs.DifferenceSum.{no-difference}
 use Rattle.state.specs.State.{stands, Ordered}
-use Rattle.state.proofs.Stands.{stands-admitted}
-use Rattle.rounds.specs.Round.{start, phases, round}
+use Rattle.state.proofs.Stands.{stands-alike, stands-admitted}
+use Rattle.rounds.specs.Round.{Progress, start, phases, round}
 use Rattle.rounds.specs.Settle.{Rounds, settleIn, settle}
-use Rattle.settling.specs.Phase.{Phase, AllRounds}
-use Rattle.rounds.proofs.Rest.{later, later-rounds, later-graph, left-more, left-last}
+use Rattle.settling.specs.Phase.{Room, Carried, Phase, AllRounds}
+use Rattle.settling.specs.declared.phases.Tally.{Tally}
+use Rattle.rounds.proofs.Rest.{later, later-rounds, later-made, left-more, left-last}
 
--- so many rounds have been made, the last of which took C from c₁ to c₂: where that lowered C, the rest of settling follows, and
--- else nothing
-pub record Going (s : ℕ) (g₀ : Graph) (sc₀ : List ℕ) (g : Graph) (sc : List ℕ) (rounds c₁ c₂ : ℕ) : Type 0 where
+-- so many rounds have been made, the last of which took C from c to that of the tally t: where that lowered C, the rest of settling
+-- follows, and else nothing; the calls made are p
+pub record Going (s : ℕ) (g₀ : Graph) (sc₀ : List ℕ) (g : Graph) (sc : List ℕ) (rounds c : ℕ) (t : Tally) : Type 0 where
   pub fuel : ℕ
+  pub p : Progress
   pub ordered : Ordered g sc
   pub long : length sc ≡ length sc₀
-  pub here : c₂ ≡ C (stands g sc)
+  pub carried : Carried p g sc (t .before) (t .after)
+  pub here : t .count ≡ C (stands g sc)
   pub few : rounds ≤ C (stands g₀ sc₀) + 1
-  pub more : c₂ < c₁ → (settle s (stands g₀ sc₀) ≡ later rounds (settleIn (suc fuel) s (stands g sc))) × (C (stands g sc) ≤ fuel) × (rounds + c₂ ≤ C (stands g₀ sc₀))
-  pub done : c₁ ≤ c₂ → settle s (stands g₀ sc₀) ≡ later rounds (record { rounds = 0; graph = stands g sc })
+  pub sum : t .before ≤ rounds * 304097500000
+  pub sum-after : t .after ≤ rounds * 304097500000
+  pub more : t .count < c → (settle s (stands g₀ sc₀) ≡ later rounds (settleIn (suc fuel) s p)) × (C (stands g sc) ≤ fuel) × (rounds + t .count ≤ C (stands g₀ sc₀))
+  pub done : c ≤ t .count → settle s (stands g₀ sc₀) ≡ later rounds (record { rounds = 0; made = p })
 
 pub count-few : (g : Graph) (sc : List ℕ) → Ordered g sc → C (stands g sc) ≤ 304096
 count-few g sc o = let a = stands-admitted g sc (o .admitted) in omega (arith, C-le (stands g sc), a .few-nodes, a .few-outputs)
 
-module _ (s : ℕ) (g : Graph) (sc : List ℕ) (o : Ordered g sc) where
-  -- what the three phases make of a state is a round
-  round-here : (g′ : Graph) (sc′ : List ℕ) (c : ℕ) → Phase (phases s (g .N)) g sc g′ sc′ c → round s (stands g sc) .graph ≡ stands g′ sc′
-  unfolding round start stands turnedBy
-  round-here g′ sc′ c p = p .makes (start (stands g sc)) refl
+-- before the first round
+pub going-first : (s : ℕ) (g : Graph) (sc : List ℕ) → Ordered g sc → (t : Tally) → t .count ≡ C (stands g sc) → t .before ≡ 0 → t .after ≡ 0
+    → Going s g sc g sc 0 (t .count + 1) t
+unfolding settle later start
+going-first s g sc o t e x y =
+    record {
+      fuel = C (stands g sc);
+      p = start (stands g sc);
+      ordered = o;
+      long = refl;
+      carried = record { graph = refl; others = rw (x, y) (sym (no-difference 0)) };
+      here = e;
+      few = omega arith;
+      sum = omega arith;
+      sum-after = omega arith;
+      more = λ l. (refl, omega arith, omega arith);
+      done = λ l. absurd (omega arith);
+    }
 
-  -- before the first round
-  pub going-first : (c : ℕ) → c ≡ C (stands g sc) → Going s g sc g sc 0 (c + 1) c
-  unfolding settle later
-  going-first c e =
-      record {
-        fuel = C (stands g sc);
-        ordered = o;
-        long = refl;
-        here = e;
-        few = omega arith;
-        more = λ l. (refl, omega arith, omega arith);
-        done = λ l. absurd (omega arith);
-      }
+module _ (s : ℕ) (g₀ : Graph) (sc₀ : List ℕ) (g : Graph) (sc : List ℕ) (rounds c : ℕ) (t : Tally) where
+  pub going-few : Ordered g₀ sc₀ → Going s g₀ sc₀ g sc rounds c t → rounds ≤ 304097
+  going-few o w = omega (arith, w .few, count-few g₀ sc₀ o)
 
-module _ (s : ℕ) (g₀ : Graph) (sc₀ : List ℕ) (g : Graph) (sc : List ℕ) (rounds c₁ c₂ : ℕ) where
+  pub going-room : Ordered g₀ sc₀ → Going s g₀ sc₀ g sc rounds c t → Room t 100000000000000000
+  going-room o w = let r = going-few o w in record { low = omega (arith, w .sum, r); low-after = omega (arith, w .sum-after, r) }
+
   -- a round that does not lower C is the last
-  pub going-last : Going s g₀ sc₀ g sc rounds c₁ c₂ → c₁ ≤ c₂ → AllRounds s g₀ sc₀ g sc rounds c₂
-  going-last w l =
+  pub going-last : Ordered g₀ sc₀ → Going s g₀ sc₀ g sc rounds c t → c ≤ t .count
+      → AllRounds s g₀ sc₀ g sc (record { rounds = rounds; count = t .count; before = t .before; after = t .after })
+  going-last o w l =
       let q = w .done l in
+      let r = going-room o w in
+      let e : settle s (stands g₀ sc₀) .made ≡ w .p = ap (λ (x : Rounds). x .made) q ∙ later-made rounds _ in
       record {
         ordered = w .ordered;
         long = w .long;
-        graph = ap (λ (r : Rounds). r .graph) q ∙ later-graph rounds _;
-        rounds = ap (λ (r : Rounds). r .rounds) q ∙ later-rounds rounds _ ∙ omega arith;
+        carried = rw e (w .carried);
+        rounds = ap (λ (x : Rounds). x .rounds) q ∙ later-rounds rounds _ ∙ omega arith;
         count = w .here;
+        few = r .low;
+        few-after = r .low-after;
       }
 
-  pub going-few : Ordered g₀ sc₀ → Going s g₀ sc₀ g sc rounds c₁ c₂ → rounds ≤ 304097
-  going-few o w = omega (arith, w .few, count-few g₀ sc₀ o)
+  -- what the three phases make of a state is a round
+  round-here : (w : Going s g₀ sc₀ g sc rounds c t) (g′ : Graph) (sc′ : List ℕ) (u : Tally) → Phase (phases s (g .N)) 500000 g sc t g′ sc′ u
+      → Carried (round s (w .p)) g′ sc′ (u .before) (u .after)
+  unfolding round
+  round-here w g′ sc′ u x =
+      let e : w .p .graph .N ≡ g .N = ap (λ (y : Graph). y .N) (w .carried .graph) ∙ stands-alike g sc (w .ordered .admitted) .same-N in
+      subst (λ (n : ℕ). Carried (phases s n (w .p)) g′ sc′ (u .before) (u .after)) (sym e) (x .makes (w .p) (w .carried))
 
   -- one that does is followed by another
-  pub going-more : Going s g₀ sc₀ g sc rounds c₁ c₂ → c₂ < c₁ → (g′ : Graph) (sc′ : List ℕ) (c₃ : ℕ) → Phase (phases s (g .N)) g sc g′ sc′ c₃
-      → Going s g₀ sc₀ g′ sc′ (rounds + 1) c₂ c₃
-  going-more w l g′ sc′ c₃ p =
+  pub going-more : Going s g₀ sc₀ g sc rounds c t → t .count < c → (g′ : Graph) (sc′ : List ℕ) (u : Tally) → Phase (phases s (g .N)) 500000 g sc t g′ sc′ u
+      → Going s g₀ sc₀ g′ sc′ (rounds + 1) (t .count) u
+  going-more w l g′ sc′ u x =
       let m = w .more l in
-      let r = round-here s g sc (w .ordered) g′ sc′ c₃ p in
-      let h : ℕ = C (stands g sc) in
+      let r = round-here w g′ sc′ u x in
+      let b : C (w .p .graph) ≡ t .count = ap C (w .carried .graph) ∙ sym (w .here) in
+      let a : C (round s (w .p) .graph) ≡ u .count = ap C (r .graph) ∙ sym (x .count) in
       record {
         fuel = w .fuel - 1;
-        ordered = p .ordered;
-        long = p .long ∙ w .long;
-        here = p .count;
+        p = round s (w .p);
+        ordered = x .ordered;
+        long = x .long ∙ w .long;
+        carried = r;
+        here = x .count;
         few = omega (arith, m .2);
-        more = λ b.
+        sum = omega (arith, w .sum, x .few);
+        sum-after = omega (arith, w .sum-after, x .few-after);
+        more = λ q.
             let f : w .fuel ≡ suc (w .fuel - 1) = omega (arith, m .1, w .here) in (
-              rw (add-one rounds) (m .0 ∙ left-more s rounds (w .fuel) (stands g sc) (stands g′ sc′) r (m .1) (omega (arith, w .here, p .count)) (w .fuel - 1) f),
-              omega (arith, m .1, w .here, p .count),
+              rw (add-one rounds) (m .0 ∙ left-more s rounds (w .fuel) (w .p) (omega (arith, a, b)) (w .fuel - 1) f),
+              omega (arith, m .1, w .here, x .count),
               omega (arith, m .2),
             );
-        done = λ b. rw (add-one rounds) (m .0 ∙ left-last s rounds (w .fuel) (stands g sc) (stands g′ sc′) r (omega (arith, w .here, p .count)));
+        done = λ q. rw (add-one rounds) (m .0 ∙ left-last s rounds (w .fuel) (w .p) (omega (arith, a, b)));
       }

@@ -9,48 +9,76 @@ use native.Mathlib.Omega.{arith}
 use native.Mathlib.Numerals.{add-one}
 use lib.Dec.{leb}
 use lib.ListN.{length}
+use lib.IntN.{ℤ, _+ℤ_}
+use Rattle.graph.specs.Answer.{Outcome, othersOf}
+use Rattle.graph.specs.Difference.{difference}
 use Rattle.graph.specs.Graph.{Graph, node, isXor, mark}
 use Rattle.graph.specs.Turned.{turnedBy}
 use Rattle.graph.specs.Count.{C}
 use Rattle.graph.specs.Admission.{Admitted}
 use Rattle.graph.proofs.Cases.{true-or-false}
+use Rattle.graph.proofs.DifferenceSum.{differences-add}
 use Rattle.moves.specs.Tree.{isRoot, place, tree}
-use Rattle.moves.specs.Call.{moved, bestAt, wordFault, pairRewrite}
+use Rattle.moves.specs.Call.{moved, bestAt, rewrite, wordFault, pairRewrite}
 use Rattle.moves.proofs.TreeBest.{reader-node}
 use Rattle.state.specs.State.{field, stands, Ordered}
-use Rattle.state.specs.Step.{Made}
-use Rattle.trees.specs.Stepping.{TreeMade}
+use Rattle.state.specs.Step.{Made, Parted}
+use Rattle.state.specs.declared.moving.Step.{Step}
+use Rattle.trees.specs.Stepping.{TreeMade, treeMoved}
 use Rattle.state.proofs.Alike.{alike-xor, alike-isRoot}
 use Rattle.state.proofs.Stands.{stands-alike, stands-admitted}
 use Rattle.rounds.specs.Round.{Progress, each, treeAt, nodeAt, pairAt, pairsAt}
-use Rattle.settling.specs.Phase.{Phase}
-use Rattle.rounds.proofs.Turns.{nodeAt-graph, treeAt-root, treeAt-inner, pairAt-word, pairAt-none}
+use Rattle.settling.specs.Phase.{Added, Phase}
+use Rattle.settling.specs.declared.phases.Tally.{Tally}
+use Rattle.rounds.proofs.Turns.{Goes, nodeAt-goes, treeAt-root, treeAt-inner, pairAt-word, pairAt-none}
 
 -- steps one after the other
-pub phase-then : (a b : Progress → Progress) (g g₁ g₂ : Graph) (sc sc₁ sc₂ : List ℕ) (c₁ c₂ : ℕ) → Phase a g sc g₁ sc₁ c₁ → Phase b g₁ sc₁ g₂ sc₂ c₂
-    → Phase (λ p. b (a p)) g sc g₂ sc₂ c₂
-phase-then a b g g₁ g₂ sc sc₁ sc₂ c₁ c₂ x y =
+pub phase-then : (a b : Progress → Progress) (m n : ℕ) (g g₁ g₂ : Graph) (sc sc₁ sc₂ : List ℕ) (t t₁ t₂ : Tally) → Phase a m g sc t g₁ sc₁ t₁ → Phase b n g₁ sc₁ t₁ g₂ sc₂ t₂
+    → Phase (λ p. b (a p)) (m + n) g sc t g₂ sc₂ t₂
+phase-then a b m n g g₁ g₂ sc sc₁ sc₂ t t₁ t₂ x y =
     record {
       ordered = y .ordered;
       long = y .long ∙ x .long;
       makes = λ p e. y .makes (a p) (x .makes p e);
       count = y .count;
+      few = omega (arith, x .few, y .few);
+      few-after = omega (arith, x .few-after, y .few-after);
+    }
+
+-- of at most so many calls
+pub phase-most : (a : Progress → Progress) (m n : ℕ) (g g₁ : Graph) (sc sc₁ : List ℕ) (t t₁ : Tally) → m ≤ n → Phase a m g sc t g₁ sc₁ t₁ → Phase a n g sc t g₁ sc₁ t₁
+phase-most a m n g g₁ sc sc₁ t t₁ l x =
+    record {
+      ordered = x .ordered;
+      long = x .long;
+      makes = x .makes;
+      count = x .count;
+      few = omega (arith, x .few);
+      few-after = omega (arith, x .few-after);
     }
 
 module _ (step : ℕ → Progress → Progress) (g : Graph) (sc : List ℕ) where
-  pub each-none : (c : ℕ) → Ordered g sc → c ≡ C (stands g sc) → Phase (each step 0) g sc g sc c
+  pub each-none : (t : Tally) → Ordered g sc → t .count ≡ C (stands g sc) → Phase (each step 0) 0 g sc t g sc t
   unfolding each
-  each-none c o e = record { ordered = o; long = refl; makes = λ p q. q; count = e }
+  each-none t o e = record { ordered = o; long = refl; makes = λ p q. q; count = e; few = omega arith; few-after = omega arith }
 
-  pub each-more : (n : ℕ) (g₁ g₂ : Graph) (sc₁ sc₂ : List ℕ) (c₁ c₂ : ℕ) → Phase (each step n) g sc g₁ sc₁ c₁ → Phase (step n) g₁ sc₁ g₂ sc₂ c₂
-      → Phase (each step (n + 1)) g sc g₂ sc₂ c₂
+  pub each-more : (n a b : ℕ) (g₁ g₂ : Graph) (sc₁ sc₂ : List ℕ) (t t₁ t₂ : Tally) → Phase (each step n) a g sc t g₁ sc₁ t₁ → Phase (step n) b g₁ sc₁ t₁ g₂ sc₂ t₂
+      → Phase (each step (n + 1)) (a + b) g sc t g₂ sc₂ t₂
   unfolding each
-  each-more n g₁ g₂ sc₁ sc₂ c₁ c₂ x y = rw (add-one n) (phase-then (each step n) (step n) g g₁ g₂ sc sc₁ sc₂ c₁ c₂ x y)
+  each-more n a b g₁ g₂ sc₁ sc₂ t t₁ t₂ x y = rw (add-one n) (phase-then (each step n) (step n) a b g g₁ g₂ sc sc₁ sc₂ t t₁ t₂ x y)
 
--- a step that leaves the graph as it is
-idle-phase : (made : Progress → Progress) (g : Graph) (sc : List ℕ) (c : ℕ) → Ordered g sc → c ≡ C (stands g sc)
-    → ((p : Progress) → p .graph ≡ stands g sc → made p .graph ≡ p .graph) → Phase made g sc g sc c
-idle-phase made g sc c o e h = record { ordered = o; long = refl; makes = λ p q. h p q ∙ q; count = e }
+-- a step that makes no call
+idle-phase : (made : Progress → Progress) (g : Graph) (sc : List ℕ) (t : Tally) → Ordered g sc → t .count ≡ C (stands g sc)
+    → ((p : Progress) → p .graph ≡ stands g sc → made p ≡ p) → Phase made 1 g sc t g sc t
+idle-phase made g sc t o e h =
+    record {
+      ordered = o;
+      long = refl;
+      makes = λ p q. rw (h p (q .graph)) q;
+      count = e;
+      few = omega arith;
+      few-after = omega arith;
+    }
 
 -- one step of a state in order
 module _ (g : Graph) (sc : List ℕ) (o : Ordered g sc) where
@@ -65,22 +93,39 @@ module _ (g : Graph) (sc : List ℕ) (o : Ordered g sc) where
   unfolding stands turnedBy
   same-node p e v = ap (λ (x : Graph). x .I + 1 + v) e
 
-  -- a step whose graph is h, once it is said of the state's graph
-  by-made : (made : Progress → Progress) (g′ : Graph) (sc′ : List ℕ) (h : Graph) (c : ℕ) → Made sc g′ sc′ h c
-      → ((p : Progress) → p .graph ≡ stands g sc → made p .graph ≡ h) → Phase made g sc g′ sc′ c
-  by-made made g′ sc′ h c m f =
+  -- a call, once its outcome is said of the state's graph
+  by-call : (made : Progress → Progress) (call : Graph → Outcome) (t : Tally) (g′ : Graph) (sc′ : List ℕ) (s : Step) (u : Tally) → Ordered g′ sc′ → length sc′ ≡ length sc
+      → stands g′ sc′ ≡ call (stands g sc) .graph → s .count ≡ C (call (stands g sc) .graph) → Parted (call (stands g sc)) s → Added t s u
+      → ((p : Progress) → p .graph ≡ stands g sc → Goes p (made p) (call (p .graph))) → Phase made 1 g sc t g′ sc′ u
+  by-call made call t g′ sc′ s u q l st c d a f =
       record {
-        ordered = m .became .ordered;
-        long = m .became .kept .long;
-        makes = λ p e. f p e ∙ sym (m .became .stands-for);
-        count = m .count ∙ ap C (sym (m .became .stands-for));
+        ordered = q;
+        long = l;
+        makes = λ p e.
+            let x = f p (e .graph) in
+            let y : call (p .graph) ≡ call (stands g sc) = ap call (e .graph) in
+            record {
+              graph = x .graph ∙ ap (λ (z : Outcome). z .graph) y ∙ sym st;
+              others =
+                  x .others ∙
+                  ap (λ (z : Outcome). p .others +ℤ othersOf (z .answer)) y ∙
+                  ap (λ (z : ℤ). z +ℤ othersOf (call (stands g sc) .answer)) (e .others) ∙
+                  ap (λ (z : ℤ). difference (t .before) (t .after) +ℤ z) (d .others) ∙
+                  differences-add (t .before) (t .after) (s .before) (s .after) ∙
+                  rw (← a .before, ← a .after);
+            };
+        count = a .count ∙ c ∙ ap C (sym st);
+        few = omega (arith, a .before, d .few);
+        few-after = omega (arith, a .after, d .few-after);
       }
 
-  pub node-phase : (v : ℕ) → v < g .N → (g′ : Graph) (sc′ : List ℕ) (c : ℕ)
-      → Made sc g′ sc′ (moved (stands g sc) (node g v ∷ []) (bestAt (stands g sc) (node g v ∷ []))) c → Phase (nodeAt v) g sc g′ sc′ c
-  node-phase v h g′ sc′ c m =
-      by-made (nodeAt v) g′ sc′ _ c m
-      (λ p e. nodeAt-graph p (here p e) v (omega (arith, same-N p e)) ∙ rw (same-node p e v) (ap (λ (x : Graph). moved x (node g v ∷ []) (bestAt x (node g v ∷ []))) e))
+  pub node-phase : (v : ℕ) → v < g .N → (t : Tally) (g′ : Graph) (sc′ : List ℕ) (s : Step) (u : Tally)
+      → Made sc g′ sc′ (moved (stands g sc) (node g v ∷ []) (bestAt (stands g sc) (node g v ∷ []))) (s .count) × Parted (rewrite (stands g sc) (node g v ∷ [])) s → Added t s u
+      → Phase (nodeAt v) 1 g sc t g′ sc′ u
+  unfolding rewrite
+  node-phase v h t g′ sc′ s u m a =
+      by-call (nodeAt v) (λ x. rewrite x (node g v ∷ [])) t g′ sc′ s u (m .0 .became .ordered) (m .0 .became .kept .long) (m .0 .became .stands-for) (m .0 .count) (m .1) a
+      (λ p e. rw (sym (same-node p e v)) (nodeAt-goes p (here p e) v (omega (arith, same-N p e))))
 
   same-fault : (p : Progress) → p .graph ≡ stands g sc → (v k : ℕ) → wordFault (p .graph) (node (p .graph) v) k ≡ wordFault g (node g v) k
   unfolding wordFault
@@ -90,16 +135,15 @@ module _ (g : Graph) (sc : List ℕ) (o : Ordered g sc) where
       let x : isXor (p .graph) v ≡ isXor g v = ap (λ (y : Graph). isXor y v) e ∙ alike-xor g (stands g sc) (stands-alike g sc (o .admitted)) v in
       rw (q, q′, x)
 
-  pub pair-phase : (v k : ℕ) → v < g .N → wordFault g (node g v) k ≡ 0 → (g′ : Graph) (sc′ : List ℕ) (c : ℕ)
-      → Made sc g′ sc′ (pairRewrite (stands g sc) (node g v) k .graph) c → Phase (pairAt v k) g sc g′ sc′ c
-  pair-phase v k h w g′ sc′ c m =
-      by-made (pairAt v k) g′ sc′ _ c m
-      (λ p e.
-      pairAt-word p (here p e) v k (omega (arith, same-N p e)) (same-fault p e v k ∙ w)
-      ∙ rw (same-node p e v) (ap (λ (x : Graph). pairRewrite x (node g v) k .graph) e))
+  pub pair-phase : (v k : ℕ) → v < g .N → wordFault g (node g v) k ≡ 0 → (t : Tally) (g′ : Graph) (sc′ : List ℕ) (s : Step) (u : Tally)
+      → Made sc g′ sc′ (pairRewrite (stands g sc) (node g v) k .graph) (s .count) × Parted (pairRewrite (stands g sc) (node g v) k) s → Added t s u
+      → Phase (pairAt v k) 1 g sc t g′ sc′ u
+  pair-phase v k h w t g′ sc′ s u m a =
+      by-call (pairAt v k) (λ x. pairRewrite x (node g v) k) t g′ sc′ s u (m .0 .became .ordered) (m .0 .became .kept .long) (m .0 .became .stands-for) (m .0 .count) (m .1) a
+      (λ p e. rw (sym (same-node p e v)) (pairAt-word p (here p e) v k (omega (arith, same-N p e)) (same-fault p e v k ∙ w)))
 
-  pub pair-idle : (v k c : ℕ) → (wordFault g (node g v) k ≡ 0 → ⊥) → c ≡ C (stands g sc) → Phase (pairAt v k) g sc g sc c
-  pair-idle v k c w e = idle-phase (pairAt v k) g sc c o e (λ p q. pairAt-none p (here p q) v k (λ z. w (sym (same-fault p q v k) ∙ z)))
+  pub pair-idle : (v k : ℕ) (t : Tally) → (wordFault g (node g v) k ≡ 0 → ⊥) → t .count ≡ C (stands g sc) → Phase (pairAt v k) 1 g sc t g sc t
+  pair-idle v k t w e = idle-phase (pairAt v k) g sc t o e (λ p q. pairAt-none p (here p q) v k (λ z. w (sym (same-fault p q v k) ∙ z)))
 
 -- which words a node has
 module _ (g : Graph) (v : ℕ) where
@@ -127,11 +171,11 @@ module _ (g : Graph) (v : ℕ) where
   no-third-word x z = omega (arith, rw (at-node, x) at z)
 
 -- the words of a node in order
-pub pairs-phase : (v : ℕ) (g g₁ g₂ g₃ : Graph) (sc sc₁ sc₂ sc₃ : List ℕ) (c₁ c₂ c₃ : ℕ) → Phase (pairAt v 1) g sc g₁ sc₁ c₁ → Phase (pairAt v 2) g₁ sc₁ g₂ sc₂ c₂
-    → Phase (pairAt v 3) g₂ sc₂ g₃ sc₃ c₃ → Phase (pairsAt v) g sc g₃ sc₃ c₃
+pub pairs-phase : (v : ℕ) (g g₁ g₂ g₃ : Graph) (sc sc₁ sc₂ sc₃ : List ℕ) (t t₁ t₂ t₃ : Tally) → Phase (pairAt v 1) 1 g sc t g₁ sc₁ t₁ → Phase (pairAt v 2) 1 g₁ sc₁ t₁ g₂ sc₂ t₂
+    → Phase (pairAt v 3) 1 g₂ sc₂ t₂ g₃ sc₃ t₃ → Phase (pairsAt v) 3 g sc t g₃ sc₃ t₃
 unfolding pairsAt
-pairs-phase v g g₁ g₂ g₃ sc sc₁ sc₂ sc₃ c₁ c₂ c₃ x y z =
-    phase-then (λ p. pairAt v 2 (pairAt v 1 p)) (pairAt v 3) g g₂ g₃ sc sc₂ sc₃ c₂ c₃ (phase-then (pairAt v 1) (pairAt v 2) g g₁ g₂ sc sc₁ sc₂ c₁ c₂ x y) z
+pairs-phase v g g₁ g₂ g₃ sc sc₁ sc₂ sc₃ t t₁ t₂ t₃ x y z =
+    phase-then (λ p. pairAt v 2 (pairAt v 1 p)) (pairAt v 3) 2 1 g g₂ g₃ sc sc₂ sc₃ t t₂ t₃ (phase-then (pairAt v 1) (pairAt v 2) 1 1 g g₁ g₂ sc sc₁ sc₂ t t₁ t₂ x y) z
 
 -- a node whose place of an only reader is the mark is a root
 module _ (g : Graph) (sc : List ℕ) (o : Ordered g sc) (v : ℕ) (h : v < g .N) where
@@ -151,19 +195,15 @@ module _ (g : Graph) (sc : List ℕ) (o : Ordered g sc) (v : ℕ) (h : v < g .N)
   same-root p e =
       rw (same-node g sc o p e v) (ap (λ (y : Graph). isRoot y (node g v)) e ∙ alike-isRoot g (stands g sc) (stands-alike g sc (o .admitted)) (node g v))
 
-  pub tree-idle : (c : ℕ) → c ≡ C (stands g sc) → isRoot g (node g v) ≡ false → Phase (treeAt (length sc) v) g sc g sc c
-  tree-idle c e r = idle-phase (treeAt (length sc) v) g sc c o e (λ p q. treeAt-inner p (here g sc o p q) (length sc) v (same-root p q ∙ r))
+  pub tree-idle : (t : Tally) → t .count ≡ C (stands g sc) → isRoot g (node g v) ≡ false → Phase (treeAt (length sc) v) 1 g sc t g sc t
+  tree-idle t e r = idle-phase (treeAt (length sc) v) g sc t o e (λ p q. treeAt-inner p (here g sc o p q) (length sc) v (same-root p q ∙ r))
 
-  pub tree-phase : isRoot g (node g v) ≡ true → (g′ : Graph) (sc′ : List ℕ) (c : ℕ)
-      → TreeMade sc g′ sc′ (moved (stands g sc) (tree (stands g sc) (node g v)) (bestAt (stands g sc) (tree (stands g sc) (node g v)))) c
-      → Phase (treeAt (length sc) v) g sc g′ sc′ c
-  tree-phase r g′ sc′ c m =
-      record {
-        ordered = m .ordered;
-        long = m .long;
-        makes = λ p e.
-            treeAt-root p (here g sc o p e) (length sc) v (omega (arith, same-N g sc o p e)) (same-root p e ∙ r) (omega (arith, same-N g sc o p e, o .long))
-            ∙ rw (same-node g sc o p e v) (ap (λ (x : Graph). moved x (tree x (node g v)) (bestAt x (tree x (node g v)))) e)
-            ∙ sym (m .stands-for);
-        count = m .count ∙ ap C (sym (m .stands-for));
-      }
+  pub tree-phase : isRoot g (node g v) ≡ true → (t : Tally) (g′ : Graph) (sc′ : List ℕ) (s : Step) (u : Tally)
+      → TreeMade sc g′ sc′ (treeMoved (stands g sc) (node g v)) (s .count) × Parted (rewrite (stands g sc) (tree (stands g sc) (node g v))) s → Added t s u
+      → Phase (treeAt (length sc) v) 1 g sc t g′ sc′ u
+  unfolding rewrite
+  tree-phase r t g′ sc′ s u m a =
+      by-call g sc o (treeAt (length sc) v) (λ x. rewrite x (tree x (node g v))) t g′ sc′ s u (m .0 .ordered) (m .0 .long) (m .0 .stands-for) (m .0 .count) (m .1) a
+      (λ p e.
+      rw (sym (same-node g sc o p e v))
+      (treeAt-root p (here g sc o p e) (length sc) v (omega (arith, same-N g sc o p e)) (same-root p e ∙ r) (omega (arith, same-N g sc o p e, o .long))))

@@ -1,33 +1,70 @@
 -- What the inner functions of settling make of a state. No promise to a caller.
 use mathlib.Core.Path.{_≡_}
-use mathlib.Core.List.{List}
-use Prim.Native.Nat.{ℕ}
+use mathlib.Core.List.{List, [], _∷_}
+use Prim.Native.Nat.{ℕ, _+_, _*_, _≤_}
 use lib.ListN.{length}
+use Rattle.graph.specs.Answer.{Answer, gained}
+use Rattle.graph.specs.Difference.{difference}
 use Rattle.graph.specs.Graph.{Graph}
 use Rattle.graph.specs.Count.{C}
 use Rattle.state.specs.State.{stands, Ordered}
+use Rattle.state.specs.declared.moving.Step.{Step}
 use Rattle.rounds.specs.Round.{Progress}
 use Rattle.rounds.specs.Settle.{settle}
+use Rattle.settling.specs.declared.all.Figures.{Figures}
+use Rattle.settling.specs.declared.all.RoundsMade.{RoundsMade}
+use Rattle.settling.specs.declared.phases.Tally.{Tally}
 
--- tables g and scratch sc became g′ and sc′, in order, as the steps `made` of a round make of the graph that they stood for; c is
--- C of the graph that they stand for now
-pub record Phase (made : Progress → Progress) (g : Graph) (sc : List ℕ) (g′ : Graph) (sc′ : List ℕ) (c : ℕ) : Type 0 where
+-- sums that are low enough to grow
+pub record Room (t : Tally) (m : ℕ) : Type 0 where
+  pub low : t .before ≤ m
+  pub low-after : t .after ≤ m
+
+-- u is the tally t after one more step
+pub record Added (t : Tally) (s : Step) (u : Tally) : Type 0 where
+  pub count : u .count ≡ s .count
+  pub before : u .before ≡ t .before + s .before
+  pub after : u .after ≡ t .after + s .after
+
+-- tables g, scratch sc and the sums of t stand for the calls p
+pub record Carried (p : Progress) (g : Graph) (sc : List ℕ) (before after : ℕ) : Type 0 where
+  pub graph : p .graph ≡ stands g sc
+  pub others : p .others ≡ difference before after
+
+-- tables g, scratch sc and tally t became g′, sc′ and t′, in order, as the steps `made` of a round, of at most k calls, make of the
+-- calls that they stood for; C is that of the graph that they stand for now
+pub record Phase (made : Progress → Progress) (k : ℕ) (g : Graph) (sc : List ℕ) (t : Tally) (g′ : Graph) (sc′ : List ℕ) (t′ : Tally) : Type 0 where
   pub ordered : Ordered g′ sc′
   pub long : length sc′ ≡ length sc
-  pub makes : (p : Progress) → p .graph ≡ stands g sc → made p .graph ≡ stands g′ sc′
-  pub count : c ≡ C (stands g′ sc′)
+  pub makes : (p : Progress) → Carried p g sc (t .before) (t .after) → Carried (made p) g′ sc′ (t′ .before) (t′ .after)
+  pub count : t′ .count ≡ C (stands g′ sc′)
+  pub few : t′ .before ≤ t .before + k * 608195
+  pub few-after : t′ .after ≤ t .after + k * 608195
 
--- they became what all rounds make of it, n of them, with s words of scratch
-pub record AllRounds (s : ℕ) (g : Graph) (sc : List ℕ) (g′ : Graph) (sc′ : List ℕ) (n c : ℕ) : Type 0 where
+-- they became what all rounds make of it, with s words of scratch
+pub record AllRounds (s : ℕ) (g : Graph) (sc : List ℕ) (g′ : Graph) (sc′ : List ℕ) (r : RoundsMade) : Type 0 where
   pub ordered : Ordered g′ sc′
   pub long : length sc′ ≡ length sc
-  pub graph : settle s (stands g sc) .graph ≡ stands g′ sc′
-  pub rounds : settle s (stands g sc) .rounds ≡ n
-  pub count : c ≡ C (stands g′ sc′)
+  pub carried : Carried (settle s (stands g sc) .made) g′ sc′ (r .before) (r .after)
+  pub rounds : settle s (stands g sc) .rounds ≡ r .rounds
+  pub count : r .count ≡ C (stands g′ sc′)
+  pub few : r .before ≤ 100000000000000000
+  pub few-after : r .after ≤ 100000000000000000
 
--- the tables of g became those of h by settling with s words of scratch: n rounds, from b to c
-pub record SettledTo (s : ℕ) (g h : Graph) (n b c : ℕ) : Type 0 where
-  pub graph : settle s g .graph ≡ h
-  pub rounds : settle s g .rounds ≡ n
-  pub before : b ≡ C g
-  pub after : c ≡ C h
+-- figures from which both sums can be made
+pub record Fair (r : Figures) : Type 0 where
+  pub few : r .odd ≤ 100000000000000000
+  pub few-after : r .later ≤ 100000000000000000
+
+-- the answer that they give
+abbrev pub figured : Figures → Answer
+figured r = gained (r .rounds ∷ r .before ∷ r .after ∷ []) (difference (r .before + r .later) (r .after + r .odd)) (difference (r .odd) (r .later))
+
+-- the tables of g became those of h by settling with s words of scratch
+pub record SettledTo (s : ℕ) (g h : Graph) (r : Figures) : Type 0 where
+  pub graph : settle s g .made .graph ≡ h
+  pub others : settle s g .made .others ≡ difference (r .odd) (r .later)
+  pub rounds : settle s g .rounds ≡ r .rounds
+  pub before : r .before ≡ C g
+  pub after : r .after ≡ C h
+  pub fair : Fair r

@@ -7,20 +7,25 @@ ghost use Rattle.graph.specs.Graph.{graphOf};
 ghost use Rattle.graph.specs.Count.{C};
 ghost use Rattle.state.specs.State.{stands, Ordered};
 ghost use Rattle.rounds.specs.Round.{phases};
-ghost use Rattle.settling.specs.Phase.{Phase, AllRounds, SettledTo};
+ghost use Rattle.settling.specs.Phase.{Room, Phase, AllRounds, SettledTo};
 use crate::phases;
+use crate::phases::Tally;
 
-// The rounds made, and C after them.
+// The rounds made, with C after them and the sums over all their calls.
 pub struct RoundsMade {
     pub rounds: u32,
     pub count: u32,
+    pub before: u64,
+    pub after: u64,
 }
 
-// The rounds made, with C before and after.
+// The rounds made, with C before and after, and the sums of the odd edges outside before and after each call.
 pub struct Figures {
     pub rounds: u32,
     pub before: u32,
     pub after: u32,
+    pub odd: u64,
+    pub later: u64,
 }
 
 pub fn one_round(
@@ -29,11 +34,11 @@ pub fn one_round(
     outputs: u32,
     node_table: &mut [u32],
     output_table: &[u32],
-    count: u32,
+    tally: Tally,
     scratch: &mut [u32],
-) -> u32
-    requires { ⌜ Ordered (graphOf inputs nodes outputs (now «node_table») (now «output_table»)) (now scratch) × (count ≡ C (stands (graphOf inputs nodes outputs (now «node_table») (now «output_table»)) (now scratch))) ⌝ }
-    ensures { λ r. ⌜ Phase (phases (length (now (scratch .entry))) nodes) (graphOf inputs nodes outputs (now («node_table» .entry)) (now («output_table» .entry))) (now (scratch .entry)) (graphOf inputs nodes outputs (now («node_table» .exit)) (now («output_table» .entry))) (now (scratch .exit)) r ⌝ }
+) -> Tally
+    requires { ⌜ Ordered (graphOf inputs nodes outputs (now «node_table») (now «output_table»)) (now scratch) × (tally .count ≡ C (stands (graphOf inputs nodes outputs (now «node_table») (now «output_table»)) (now scratch))) × Room tally 100000000000000000 ⌝ }
+    ensures { λ r. ⌜ Phase (phases (length (now (scratch .entry))) nodes) 500000 (graphOf inputs nodes outputs (now («node_table» .entry)) (now («output_table» .entry))) (now (scratch .entry)) tally (graphOf inputs nodes outputs (now («node_table» .exit)) (now («output_table» .entry))) (now (scratch .exit)) r ⌝ }
 {
     let a = phases::tree_calls(
         inputs,
@@ -41,7 +46,7 @@ pub fn one_round(
         outputs,
         node_table,
         output_table,
-        count,
+        tally,
         scratch,
     );
     let b = phases::single_calls(inputs, nodes, outputs, node_table, output_table, a, scratch);
@@ -59,27 +64,35 @@ pub fn all_rounds(
     scratch: &mut [u32],
 ) -> RoundsMade
     requires { ⌜ Ordered (graphOf inputs nodes outputs (now «node_table») (now «output_table»)) (now scratch) × (count ≡ C (stands (graphOf inputs nodes outputs (now «node_table») (now «output_table»)) (now scratch))) ⌝ }
-    ensures { λ r. ⌜ AllRounds (length (now (scratch .entry))) (graphOf inputs nodes outputs (now («node_table» .entry)) (now («output_table» .entry))) (now (scratch .entry)) (graphOf inputs nodes outputs (now («node_table» .exit)) (now («output_table» .entry))) (now (scratch .exit)) (r .rounds) (r .count) ⌝ }
+    ensures { λ r. ⌜ AllRounds (length (now (scratch .entry))) (graphOf inputs nodes outputs (now («node_table» .entry)) (now («output_table» .entry))) (now (scratch .entry)) (graphOf inputs nodes outputs (now («node_table» .exit)) (now («output_table» .entry))) (now (scratch .exit)) r ⌝ }
 {
     let mut rounds: u32 = 0;
     let mut before = count + 1;
+    let mut tally = Tally {
+        count,
+        before: 0,
+        after: 0,
+    };
     let mut after = count;
     while after < before {
         before = after;
-        after = one_round(
+        tally = one_round(
             inputs,
             nodes,
             outputs,
             node_table,
             output_table,
-            before,
+            tally,
             scratch,
         );
+        after = tally.count;
         rounds += 1;
     }
     RoundsMade {
         rounds,
-        count: after,
+        count: tally.count,
+        before: tally.before,
+        after: tally.after,
     }
 }
 
@@ -93,11 +106,11 @@ pub fn settle_admitted(
     scratch: &mut [u32],
 ) -> Figures
     requires { ⌜ Admitted (graphOf inputs nodes outputs (now «node_table») (now «output_table»)) × (8 * nodes ≤ length (now scratch)) ⌝ }
-    ensures { λ r. ⌜ SettledTo (length (now (scratch .entry))) (graphOf inputs nodes outputs (now («node_table» .entry)) (now («output_table» .entry))) (graphOf inputs nodes outputs (now («node_table» .exit)) (now («output_table» .exit))) (r .rounds) (r .before) (r .after) ⌝ }
+    ensures { λ r. ⌜ SettledTo (length (now (scratch .entry))) (graphOf inputs nodes outputs (now («node_table» .entry)) (now («output_table» .entry))) (graphOf inputs nodes outputs (now («node_table» .exit)) (now («output_table» .exit))) r ⌝ }
 {
     let before = graph::edges::complemented(inputs, nodes, outputs, node_table, output_table);
     trees::start::fill_scratch(inputs, nodes, outputs, node_table, output_table, scratch);
-    let tally = all_rounds(
+    let made = all_rounds(
         inputs,
         nodes,
         outputs,
@@ -108,8 +121,10 @@ pub fn settle_admitted(
     );
     state::writing::write_out(inputs, nodes, outputs, node_table, output_table, scratch);
     Figures {
-        rounds: tally.rounds,
+        rounds: made.rounds,
         before,
-        after: tally.count,
+        after: made.count,
+        odd: made.before,
+        later: made.after,
     }
 }

@@ -4,20 +4,44 @@ ghost use Rattle.graph.specs.Graph.{graphOf};
 ghost use Rattle.graph.specs.Answer.{outcome, ScratchKept};
 ghost use Rattle.rounds.specs.Settle.{settleCall};
 ghost use Rattle.settling.specs.Settle.{settledAnswer};
+ghost use Rattle.settling.specs.Phase.{Fair, figured};
 
 mod all;
 mod faults;
 mod phases;
 
+use graph::signed;
+
 // What settling answers.
 pub enum Settled {
-    // The rounds made, the last one included, with C before and after.
+    // The rounds made, the last one included, with C before and after, and what their calls saved, over the words of the nodes that
+    // each names and over all other edges.
     Rounds {
         rounds: u32,
         before: u32,
         after: u32,
+        own: i64,
+        others: i64,
     },
     Refused(graph::Refusal),
+}
+
+// Both sums from the figures: together they are what C has fallen by.
+fn settled_by(figures: all::Figures) -> Settled
+    requires { ⌜ Fair figures ⌝ }
+    ensures { λ r. ⌜ settledAnswer r ≡ figured figures ⌝ }
+{
+    let before = figures.before as u64 + figures.later;
+    let after = figures.after as u64 + figures.odd;
+    let own = signed::less(before, after);
+    let others = signed::less(figures.odd, figures.later);
+    Settled::Rounds {
+        rounds: figures.rounds,
+        before: figures.before,
+        after: figures.after,
+        own,
+        others,
+    }
 }
 
 // Rounds of tree, node and pair calls, until one does not lower C.
@@ -44,9 +68,5 @@ pub fn settle(
         return Settled::Refused(graph::faults::refused_by(refusal));
     }
     let figures = all::settle_admitted(inputs, nodes, outputs, node_table, output_table, scratch);
-    Settled::Rounds {
-        rounds: figures.rounds,
-        before: figures.before,
-        after: figures.after,
-    }
+    settled_by(figures)
 }

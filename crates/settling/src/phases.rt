@@ -1,13 +1,36 @@
 // The three phases of a round, over the state that crate state keeps in scratch.
 ghost use mathlib.Core.Path.{_≡_};
-ghost use Prim.Native.Nat.{_*_, _<_};
+ghost use Prim.Native.Nat.{_+_, _*_, _<_};
 ghost use lib.ListN.{length};
 ghost use Rattle.graph.specs.Graph.{graphOf};
 ghost use Rattle.graph.specs.Count.{C};
+ghost use Rattle.moves.specs.Call.{wordFault};
 ghost use Rattle.state.specs.State.{stands, Ordered};
-ghost use Rattle.rounds.specs.Round.{each, treeAt, nodeAt, pairsAt};
-ghost use Rattle.settling.specs.Phase.{Phase};
+ghost use Rattle.rounds.specs.Round.{each, treeAt, nodeAt, pairAt, pairsAt};
+ghost use Rattle.settling.specs.Phase.{Room, Added, Phase};
 use graph::literal::MARK;
+use state::moving::Step;
+
+// C as it stands, and the sums over all calls so far of the odd edges outside of each call's nodes, before and after the call.
+pub struct Tally {
+    pub count: u32,
+    pub before: u64,
+    pub after: u64,
+}
+
+// The tally after one more call.
+pub fn with_step(tally: Tally, step: Step) -> Tally
+    requires { ⌜ Room tally 300000000000000000 ⌝ }
+    ensures { λ r. ⌜ Added tally step r ⌝ }
+{
+    let before = tally.before + step.before as u64;
+    let after = tally.after + step.after as u64;
+    Tally {
+        count: step.count,
+        before,
+        after,
+    }
+}
 
 // The tree call at node v, where it is a root.
 pub fn tree_call_at(
@@ -17,26 +40,27 @@ pub fn tree_call_at(
     node_table: &mut [u32],
     output_table: &[u32],
     v: usize,
-    count: u32,
+    tally: Tally,
     scratch: &mut [u32],
-) -> u32
-    requires { ⌜ Ordered (graphOf inputs nodes outputs (now «node_table») (now «output_table»)) (now scratch) × (v < nodes) × (count ≡ C (stands (graphOf inputs nodes outputs (now «node_table») (now «output_table»)) (now scratch))) ⌝ }
-    ensures { λ r. ⌜ Phase (treeAt (length (now (scratch .entry))) v) (graphOf inputs nodes outputs (now («node_table» .entry)) (now («output_table» .entry))) (now (scratch .entry)) (graphOf inputs nodes outputs (now («node_table» .exit)) (now («output_table» .entry))) (now (scratch .exit)) r ⌝ }
+) -> Tally
+    requires { ⌜ Ordered (graphOf inputs nodes outputs (now «node_table») (now «output_table»)) (now scratch) × (v < nodes) × (tally .count ≡ C (stands (graphOf inputs nodes outputs (now «node_table») (now «output_table»)) (now scratch))) × Room tally 300000000000000000 ⌝ }
+    ensures { λ r. ⌜ Phase (treeAt (length (now (scratch .entry))) v) 1 (graphOf inputs nodes outputs (now («node_table» .entry)) (now («output_table» .entry))) (now (scratch .entry)) tally (graphOf inputs nodes outputs (now («node_table» .exit)) (now («output_table» .entry))) (now (scratch .exit)) r ⌝ }
 {
     let only = 8 * v + 3;
     if scratch[only] != MARK {
-        return count;
+        return tally;
     }
-    trees::making::tree_step(
+    let step = trees::making::tree_step(
         inputs,
         nodes,
         outputs,
         node_table,
         output_table,
         v,
-        count,
+        tally.count,
         scratch,
-    )
+    );
+    with_step(tally, step)
 }
 
 // The tree call at each root by rising index.
@@ -46,29 +70,56 @@ pub fn tree_calls(
     outputs: u32,
     node_table: &mut [u32],
     output_table: &[u32],
-    count: u32,
+    tally: Tally,
     scratch: &mut [u32],
-) -> u32
-    requires { ⌜ Ordered (graphOf inputs nodes outputs (now «node_table») (now «output_table»)) (now scratch) × (count ≡ C (stands (graphOf inputs nodes outputs (now «node_table») (now «output_table»)) (now scratch))) ⌝ }
-    ensures { λ r. ⌜ Phase (each (treeAt (length (now (scratch .entry)))) nodes) (graphOf inputs nodes outputs (now («node_table» .entry)) (now («output_table» .entry))) (now (scratch .entry)) (graphOf inputs nodes outputs (now («node_table» .exit)) (now («output_table» .entry))) (now (scratch .exit)) r ⌝ }
+) -> Tally
+    requires { ⌜ Ordered (graphOf inputs nodes outputs (now «node_table») (now «output_table»)) (now scratch) × (tally .count ≡ C (stands (graphOf inputs nodes outputs (now «node_table») (now «output_table»)) (now scratch))) × Room tally 200000000000000000 ⌝ }
+    ensures { λ r. ⌜ Phase (each (treeAt (length (now (scratch .entry)))) nodes) nodes (graphOf inputs nodes outputs (now («node_table» .entry)) (now («output_table» .entry))) (now (scratch .entry)) tally (graphOf inputs nodes outputs (now («node_table» .exit)) (now («output_table» .entry))) (now (scratch .exit)) r ⌝ }
 {
     let end = nodes as usize;
-    let mut c = count;
+    let mut t = tally;
     let mut left = end;
     while 0 < left {
-        c = tree_call_at(
+        t = tree_call_at(
             inputs,
             nodes,
             outputs,
             node_table,
             output_table,
             end - left,
-            c,
+            t,
             scratch,
         );
         left -= 1;
     }
-    c
+    t
+}
+
+// The node call at node v.
+pub fn node_call_at(
+    inputs: u32,
+    nodes: u32,
+    outputs: u32,
+    node_table: &mut [u32],
+    output_table: &[u32],
+    v: usize,
+    tally: Tally,
+    scratch: &mut [u32],
+) -> Tally
+    requires { ⌜ Ordered (graphOf inputs nodes outputs (now «node_table») (now «output_table»)) (now scratch) × (v < nodes) × (tally .count ≡ C (stands (graphOf inputs nodes outputs (now «node_table») (now «output_table»)) (now scratch))) × Room tally 300000000000000000 ⌝ }
+    ensures { λ r. ⌜ Phase (nodeAt v) 1 (graphOf inputs nodes outputs (now («node_table» .entry)) (now («output_table» .entry))) (now (scratch .entry)) tally (graphOf inputs nodes outputs (now («node_table» .exit)) (now («output_table» .entry))) (now (scratch .exit)) r ⌝ }
+{
+    let single = state::moving::node_step(
+        inputs,
+        nodes,
+        outputs,
+        node_table,
+        output_table,
+        v,
+        tally.count,
+        scratch,
+    );
+    with_step(tally, single)
 }
 
 // The node call at each node by rising index.
@@ -78,32 +129,61 @@ pub fn single_calls(
     outputs: u32,
     node_table: &mut [u32],
     output_table: &[u32],
-    count: u32,
+    tally: Tally,
     scratch: &mut [u32],
-) -> u32
-    requires { ⌜ Ordered (graphOf inputs nodes outputs (now «node_table») (now «output_table»)) (now scratch) × (count ≡ C (stands (graphOf inputs nodes outputs (now «node_table») (now «output_table»)) (now scratch))) ⌝ }
-    ensures { λ r. ⌜ Phase (each nodeAt nodes) (graphOf inputs nodes outputs (now («node_table» .entry)) (now («output_table» .entry))) (now (scratch .entry)) (graphOf inputs nodes outputs (now («node_table» .exit)) (now («output_table» .entry))) (now (scratch .exit)) r ⌝ }
+) -> Tally
+    requires { ⌜ Ordered (graphOf inputs nodes outputs (now «node_table») (now «output_table»)) (now scratch) × (tally .count ≡ C (stands (graphOf inputs nodes outputs (now «node_table») (now «output_table»)) (now scratch))) × Room tally 200000000000000000 ⌝ }
+    ensures { λ r. ⌜ Phase (each nodeAt nodes) nodes (graphOf inputs nodes outputs (now («node_table» .entry)) (now («output_table» .entry))) (now (scratch .entry)) tally (graphOf inputs nodes outputs (now («node_table» .exit)) (now («output_table» .entry))) (now (scratch .exit)) r ⌝ }
 {
     let end = nodes as usize;
-    let mut c = count;
+    let mut t = tally;
     let mut v: usize = 0;
     while v < end {
-        c = state::moving::node_step(
+        t = node_call_at(
             inputs,
             nodes,
             outputs,
             node_table,
             output_table,
             v,
-            c,
+            t,
             scratch,
         );
         v += 1;
     }
-    c
+    t
 }
 
-// The pair call at the words of node v in order; an XOR has two.
+// The pair call at word k of node v, which has one.
+pub fn pair_call_at(
+    inputs: u32,
+    nodes: u32,
+    outputs: u32,
+    node_table: &mut [u32],
+    output_table: &[u32],
+    v: usize,
+    k: usize,
+    tally: Tally,
+    scratch: &mut [u32],
+) -> Tally
+    requires { ⌜ Ordered (graphOf inputs nodes outputs (now «node_table») (now «output_table»)) (now scratch) × (v < nodes) × (wordFault (graphOf inputs nodes outputs (now «node_table») (now «output_table»)) (inputs + 1 + v) k ≡ 0) × (tally .count ≡ C (stands (graphOf inputs nodes outputs (now «node_table») (now «output_table»)) (now scratch))) × Room tally 300000000000000000 ⌝ }
+    ensures { λ r. ⌜ Phase (pairAt v k) 1 (graphOf inputs nodes outputs (now («node_table» .entry)) (now («output_table» .entry))) (now (scratch .entry)) tally (graphOf inputs nodes outputs (now («node_table» .exit)) (now («output_table» .entry))) (now (scratch .exit)) r ⌝ }
+{
+    let step = state::moving::pair_step(
+        inputs,
+        nodes,
+        outputs,
+        node_table,
+        output_table,
+        v,
+        k,
+        tally.count,
+        scratch,
+    );
+    with_step(tally, step)
+}
+
+// At the words of node v in order; an XOR has two.
 pub fn pair_calls_at(
     inputs: u32,
     nodes: u32,
@@ -111,13 +191,13 @@ pub fn pair_calls_at(
     node_table: &mut [u32],
     output_table: &[u32],
     v: usize,
-    count: u32,
+    tally: Tally,
     scratch: &mut [u32],
-) -> u32
-    requires { ⌜ Ordered (graphOf inputs nodes outputs (now «node_table») (now «output_table»)) (now scratch) × (v < nodes) × (count ≡ C (stands (graphOf inputs nodes outputs (now «node_table») (now «output_table»)) (now scratch))) ⌝ }
-    ensures { λ r. ⌜ Phase (pairsAt v) (graphOf inputs nodes outputs (now («node_table» .entry)) (now («output_table» .entry))) (now (scratch .entry)) (graphOf inputs nodes outputs (now («node_table» .exit)) (now («output_table» .entry))) (now (scratch .exit)) r ⌝ }
+) -> Tally
+    requires { ⌜ Ordered (graphOf inputs nodes outputs (now «node_table») (now «output_table»)) (now scratch) × (v < nodes) × (tally .count ≡ C (stands (graphOf inputs nodes outputs (now «node_table») (now «output_table»)) (now scratch))) × Room tally 250000000000000000 ⌝ }
+    ensures { λ r. ⌜ Phase (pairsAt v) 3 (graphOf inputs nodes outputs (now («node_table» .entry)) (now («output_table» .entry))) (now (scratch .entry)) tally (graphOf inputs nodes outputs (now («node_table» .exit)) (now («output_table» .entry))) (now (scratch .exit)) r ⌝ }
 {
-    let a = state::moving::pair_step(
+    let a = pair_call_at(
         inputs,
         nodes,
         outputs,
@@ -125,10 +205,10 @@ pub fn pair_calls_at(
         output_table,
         v,
         1,
-        count,
+        tally,
         scratch,
     );
-    let b = state::moving::pair_step(
+    let b = pair_call_at(
         inputs,
         nodes,
         outputs,
@@ -142,7 +222,7 @@ pub fn pair_calls_at(
     if moves::rows::is_xor(node_table, v) {
         return b;
     }
-    state::moving::pair_step(
+    pair_call_at(
         inputs,
         nodes,
         outputs,
@@ -162,27 +242,27 @@ pub fn pair_calls(
     outputs: u32,
     node_table: &mut [u32],
     output_table: &[u32],
-    count: u32,
+    tally: Tally,
     scratch: &mut [u32],
-) -> u32
-    requires { ⌜ Ordered (graphOf inputs nodes outputs (now «node_table») (now «output_table»)) (now scratch) × (count ≡ C (stands (graphOf inputs nodes outputs (now «node_table») (now «output_table»)) (now scratch))) ⌝ }
-    ensures { λ r. ⌜ Phase (each pairsAt nodes) (graphOf inputs nodes outputs (now («node_table» .entry)) (now («output_table» .entry))) (now (scratch .entry)) (graphOf inputs nodes outputs (now («node_table» .exit)) (now («output_table» .entry))) (now (scratch .exit)) r ⌝ }
+) -> Tally
+    requires { ⌜ Ordered (graphOf inputs nodes outputs (now «node_table») (now «output_table»)) (now scratch) × (tally .count ≡ C (stands (graphOf inputs nodes outputs (now «node_table») (now «output_table»)) (now scratch))) × Room tally 200000000000000000 ⌝ }
+    ensures { λ r. ⌜ Phase (each pairsAt nodes) (3 * nodes) (graphOf inputs nodes outputs (now («node_table» .entry)) (now («output_table» .entry))) (now (scratch .entry)) tally (graphOf inputs nodes outputs (now («node_table» .exit)) (now («output_table» .entry))) (now (scratch .exit)) r ⌝ }
 {
     let end = nodes as usize;
-    let mut c = count;
+    let mut t = tally;
     let mut v: usize = 0;
     while v < end {
-        c = pair_calls_at(
+        t = pair_calls_at(
             inputs,
             nodes,
             outputs,
             node_table,
             output_table,
             v,
-            c,
+            t,
             scratch,
         );
         v += 1;
     }
-    c
+    t
 }

@@ -93,7 +93,7 @@ module _ (g : Graph) (sc : List ℕ) (o : Ordered g sc) (v : ℕ) (l : v < g .N)
     pub first-fits : m < movesAt g (node g v)
     first-fits = omega (arith, f .below, moves-now n e)
 
-    first-now : FirstBelow (costOf (numbersOf (stands g sc) v)) (movesAt (stands g sc) (node (stands g sc) v)) m
+    pub first-now : FirstBelow (costOf (numbersOf (stands g sc) v)) (movesAt (stands g sc) (node (stands g sc) v)) m
     unfolding numbersOf
     first-now = subst (λ x. FirstBelow (costOf x) (x .moves) m) e f
 

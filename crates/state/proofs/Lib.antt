@@ -7,4 +7,5 @@ pub mod Stores
 pub mod Made
 pub mod Counting
 pub mod Pairs
+pub mod Parting
 pub mod Pending

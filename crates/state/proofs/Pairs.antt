@@ -8,12 +8,15 @@ use Prim.Native.Nat.{ℕ, _+_, _-_, _*_, _/_, _%_, _≤_, _<_}
 use native.Mathlib.Omega.{arith}
 use borrow.Author.Tests.{lt-ltb, le-ltb, leb-true, ne-eqb}
 use lib.Dec.{leb}
+use lib.IntN.{pos}
 use Rattle.graph.specs.Admission.{Admitted}
+use Rattle.graph.specs.Answer.{gained, outcome}
 use Rattle.graph.specs.Count.{C}
 use Rattle.graph.specs.Graph.{Graph, node, word, isEdge, isXor}
+use Rattle.graph.proofs.DifferenceSum.{no-difference}
 use Rattle.graph.proofs.Cases.{lt-or-le, eq-or-ne, true-or-false}
 use Rattle.moves.specs.Apply.{none, at, put, apply, compose, Permitted}
-use Rattle.moves.specs.Call.{moved, bestAt, isNode, namedBy, pairRewrite, wordFault}
+use Rattle.moves.specs.Call.{moved, bestAt, rewrite, isNode, namedBy, pairRewrite, wordFault}
 use Rattle.moves.specs.Decide.{numbersOf, naming, pairCost, FirstPair}
 use Rattle.moves.specs.Rows.{arity, movesAt, combined}
 use Rattle.moves.specs.declared.decide.NodeNumbers.{NodeNumbers}
@@ -24,7 +27,8 @@ use Rattle.moves.proofs.NodeBest.{pair-best}
 use Rattle.moves.proofs.Readers.{both-true}
 use Rattle.moves.proofs.Moves.{arity-pos, moves-pos, node-row}
 use Rattle.state.specs.State.{stands, Ordered}
-use Rattle.state.specs.Step.{Made}
+use Rattle.state.specs.Step.{Made, Parted}
+use Rattle.state.specs.declared.moving.Step.{Step}
 use Rattle.state.proofs.Alike.{alike-movesAt, alike-isNode}
 use Rattle.moves.proofs.Apply.{apply-alike}
 use Rattle.state.proofs.Stands.{stands-alike, stands-admitted}
@@ -83,7 +87,7 @@ module _ (g : Graph) (sc : List ℕ) (o : Ordered g sc) (p v : ℕ) (d : p < v) 
   abbrev pair : List ℕ
   pair = node g p ∷ node g v ∷ []
 
-  naming-now : naming h v (node h p) ≡ naming g v (node g p)
+  pub naming-now : naming h v (node h p) ≡ naming g v (node g p)
   unfolding naming
   naming-now =
       let a = stands-alike g sc (o .admitted) in
@@ -168,27 +172,32 @@ module _ (g : Graph) (sc : List ℕ) (o : Ordered g sc) (v k : ℕ) (l : v < g .
   unfolding isNode
   high-node q r = rw (lt-ltb (g .I) named q, lt-ltb named (node g (g .N)) r)
 
-  none-graph : named ≤ g .I → pairRewrite (stands g sc) (node g v) k .graph ≡ stands g sc
+  none-outcome : named ≤ g .I → pairRewrite (stands g sc) (node g v) k ≡ outcome (gained [] (pos 0) (pos 0)) (stands g sc)
   unfolding pairRewrite
-  none-graph q = rw (named-now, is-node named, low-none q)
+  none-outcome q = rw (named-now, is-node named, low-none q)
 
-  pair-graph : (p : ℕ) → p < g .N → named ≡ node g p
-      → pairRewrite (stands g sc) (node g v) k .graph ≡ moved (stands g sc) (node g p ∷ node g v ∷ []) (bestAt (stands g sc) (node g p ∷ node g v ∷ []))
+  pair-outcome : (p : ℕ) → p < g .N → named ≡ node g p → pairRewrite (stands g sc) (node g v) k ≡ rewrite (stands g sc) (node g p ∷ node g v ∷ [])
   unfolding pairRewrite
-  pair-graph p q e =
-      rw (named-now, is-node named, high-node (omega arith) (omega arith), e)
-      (rewrite-graph (stands g sc) (stands-admitted g sc (o .admitted)) (node g p ∷ node g v ∷ []))
+  pair-outcome p q e = rw (named-now, is-node named, high-node (omega arith) (omega arith), e)
 
   -- it names none: nothing changes
-  pub pair-none : named ≤ g .I → (c : ℕ) → c ≡ C (stands g sc) → Made sc g sc (pairRewrite (stands g sc) (node g v) k .graph) c
-  pair-none q c e =
-      subst (λ x. Made sc g sc x c) (sym (none-graph q)) (record { became = record { ordered = o; stands-for = refl; kept = kept-same sc }; count = e })
+  pub pair-none : named ≤ g .I → (s : Step) → s .count ≡ C (stands g sc) → s .before ≡ 0 → s .after ≡ 0
+      → Made sc g sc (pairRewrite (stands g sc) (node g v) k .graph) (s .count) × Parted (pairRewrite (stands g sc) (node g v) k) s
+  pair-none q s e x y =
+      rw (none-outcome q) (
+        record { became = record { ordered = o; stands-for = refl; kept = kept-same sc }; count = e },
+        record { others = rw (x, y) (sym (no-difference 0)); few = omega arith; few-after = omega arith },
+      )
 
   -- it names node p: the pair's best
-  pub pair-is : (p : ℕ) → p < g .N → named ≡ node g p → (g′ : Graph) (sc′ : List ℕ) (c : ℕ)
-      → Made sc g′ sc′ (moved (stands g sc) (node g p ∷ node g v ∷ []) (bestAt (stands g sc) (node g p ∷ node g v ∷ []))) c
-      → Made sc g′ sc′ (pairRewrite (stands g sc) (node g v) k .graph) c
-  pair-is p q e g′ sc′ c m = subst (λ x. Made sc g′ sc′ x c) (sym (pair-graph p q e)) m
+  pub pair-is : (p : ℕ) → p < g .N → named ≡ node g p → (g′ : Graph) (sc′ : List ℕ) (s : Step)
+      → Made sc g′ sc′ (moved (stands g sc) (node g p ∷ node g v ∷ []) (bestAt (stands g sc) (node g p ∷ node g v ∷ []))) (s .count) × Parted (rewrite (stands g sc) (node g p ∷ node g v ∷ [])) s
+      → Made sc g′ sc′ (pairRewrite (stands g sc) (node g v) k .graph) (s .count) × Parted (pairRewrite (stands g sc) (node g v) k) s
+  pair-is p q e g′ sc′ s m =
+      rw (pair-outcome p q e) (
+        subst (λ x. Made sc g′ sc′ x (s .count)) (sym (rewrite-graph (stands g sc) (stands-admitted g sc (o .admitted)) (node g p ∷ node g v ∷ []))) (m .0),
+        m .1,
+      )
 
   test : wordFault g (node g v) k ≡ 0 → leb 1 k && leb k (cond (isXor g v) 2 3) ≡ true
   unfolding wordFault

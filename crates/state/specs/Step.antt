@@ -3,12 +3,15 @@ use mathlib.Core.Path.{_≡_}
 use mathlib.Core.Bool.{cond}
 use mathlib.Core.Logic.{_≢_}
 use mathlib.Core.List.{List}
-use Prim.Native.Nat.{ℕ, _*_, _<_}
+use Prim.Native.Nat.{ℕ, _*_, _≤_, _<_}
 use lib.ListN.{length}
+use Rattle.graph.specs.Answer.{Outcome, othersOf}
+use Rattle.graph.specs.Difference.{difference}
 use Rattle.graph.specs.Graph.{Graph}
 use Rattle.graph.specs.Count.{C, named, outputNamed}
 use Rattle.graph.specs.Turned.{turnedBy, upTo, only, never}
 use Rattle.state.specs.State.{field, stands, Ordered}
+use Rattle.state.specs.declared.moving.Step.{Step}
 
 -- g, the word at place j of its node table turned f times
 abbrev pub wordTurned : Graph → ℕ → ℕ → Graph
@@ -40,3 +43,9 @@ pub record Became (before : List ℕ) (g : Graph) (after : List ℕ) (h : Graph)
 pub record Made (before : List ℕ) (g : Graph) (after : List ℕ) (h : Graph) (c : ℕ) : Type 0 where
   pub became : Became before g after h
   pub count : c ≡ C h
+
+-- what a call with outcome o saves on other edges, by the odd ones that its step tells
+pub record Parted (o : Outcome) (s : Step) : Type 0 where
+  pub others : othersOf (o .answer) ≡ difference (s .before) (s .after)
+  pub few : s .before ≤ 608195
+  pub few-after : s .after ≤ 608195

@@ -6,17 +6,33 @@ ghost use Rattle.graph.specs.Graph.{graphOf};
 ghost use Rattle.graph.specs.Count.{C};
 ghost use Rattle.moves.specs.Rows.{movesAt};
 ghost use Rattle.moves.specs.Apply.{none, at, apply};
-ghost use Rattle.moves.specs.Call.{moved, bestAt, wordFault, pairRewrite};
+ghost use Rattle.moves.specs.Call.{moved, bestAt, rewrite, wordFault, pairRewrite};
 ghost use Rattle.moves.specs.Decide.{costOf, Counted};
 ghost use Rattle.state.specs.State.{stands, Ordered};
-ghost use Rattle.state.specs.Step.{Made};
+ghost use Rattle.state.specs.Step.{Made, Parted};
 use crate::now;
 use crate::turning;
 use graph::table;
 use moves::decide;
 use moves::decide::NodeNumbers;
-use moves::decide::PairMoves;
+use moves::gains;
 use moves::words;
+
+// What a call leaves: C after it, and the odd edges outside of its nodes that name one of them, before and after, or both up to
+// one number.
+pub struct Step {
+    pub count: u32,
+    pub before: u32,
+    pub after: u32,
+}
+
+// The moves of a pair, with those odd edges.
+pub struct PairChoice {
+    pub named: u32,
+    pub node: u32,
+    pub before: u32,
+    pub after: u32,
+}
 
 // C after the move m of a node, from C before it.
 pub fn count_after(node: NodeNumbers, m: u32, count: u32) -> u32
@@ -73,14 +89,15 @@ pub fn node_step(
     v: usize,
     count: u32,
     scratch: &mut [u32],
-) -> u32
+) -> Step
     requires { ⌜ Ordered (graphOf inputs nodes outputs (now «node_table») (now «output_table»)) (now scratch) × (v < nodes) × (count ≡ C (stands (graphOf inputs nodes outputs (now «node_table») (now «output_table»)) (now scratch))) ⌝ }
-    ensures { λ r. ⌜ Made (now (scratch .entry)) (graphOf inputs nodes outputs (now («node_table» .exit)) (now («output_table» .entry))) (now (scratch .exit)) (moved (stands (graphOf inputs nodes outputs (now («node_table» .entry)) (now («output_table» .entry))) (now (scratch .entry))) ((inputs + 1 + v) ∷ []) (bestAt (stands (graphOf inputs nodes outputs (now («node_table» .entry)) (now («output_table» .entry))) (now (scratch .entry))) ((inputs + 1 + v) ∷ []))) r ⌝ }
+    ensures { λ r. ⌜ Made (now (scratch .entry)) (graphOf inputs nodes outputs (now («node_table» .exit)) (now («output_table» .entry))) (now (scratch .exit)) (moved (stands (graphOf inputs nodes outputs (now («node_table» .entry)) (now («output_table» .entry))) (now (scratch .entry))) ((inputs + 1 + v) ∷ []) (bestAt (stands (graphOf inputs nodes outputs (now («node_table» .entry)) (now («output_table» .entry))) (now (scratch .entry))) ((inputs + 1 + v) ∷ []))) (r .count) × Parted (rewrite (stands (graphOf inputs nodes outputs (now («node_table» .entry)) (now («output_table» .entry))) (now (scratch .entry))) ((inputs + 1 + v) ∷ [])) r ⌝ }
 {
     let node = now::numbers_now(inputs, nodes, outputs, node_table, output_table, v, scratch);
     let z = node.costs;
     let m = decide::first_least(node.xor, node.moves, z, node.readers, node.odd);
-    make_move(
+    let odds = gains::node_odds(node, m);
+    let after = make_move(
         inputs,
         nodes,
         outputs,
@@ -90,7 +107,12 @@ pub fn node_step(
         m,
         count,
         scratch,
-    )
+    );
+    Step {
+        count: after,
+        before: odds.before,
+        after: odds.after,
+    }
 }
 
 // The moves that the pair of node p and a higher node v is best with.
@@ -103,14 +125,21 @@ pub fn pair_moves(
     p: usize,
     v: usize,
     scratch: &[u32],
-) -> PairMoves
+) -> PairChoice
     requires { ⌜ Ordered (graphOf inputs nodes outputs (now «node_table») (now «output_table»)) (now scratch) × (p < v) × (v < nodes) ⌝ }
-    ensures { λ r. ⌜ (r .named < movesAt (graphOf inputs nodes outputs (now («node_table» .entry)) (now («output_table» .entry))) (inputs + 1 + p)) × (r .node < movesAt (graphOf inputs nodes outputs (now («node_table» .entry)) (now («output_table» .entry))) (inputs + 1 + v)) × (r .named ∷ r .node ∷ [] ≡ bestAt (stands (graphOf inputs nodes outputs (now («node_table» .entry)) (now («output_table» .entry))) (now (scratch .entry))) ((inputs + 1 + p) ∷ (inputs + 1 + v) ∷ [])) ⌝ }
+    ensures { λ r. ⌜ (r .named < movesAt (graphOf inputs nodes outputs (now («node_table» .entry)) (now («output_table» .entry))) (inputs + 1 + p)) × (r .node < movesAt (graphOf inputs nodes outputs (now («node_table» .entry)) (now («output_table» .entry))) (inputs + 1 + v)) × (r .named ∷ r .node ∷ [] ≡ bestAt (stands (graphOf inputs nodes outputs (now («node_table» .entry)) (now («output_table» .entry))) (now (scratch .entry))) ((inputs + 1 + p) ∷ (inputs + 1 + v) ∷ [])) × Parted (rewrite (stands (graphOf inputs nodes outputs (now («node_table» .entry)) (now («output_table» .entry))) (now (scratch .entry))) ((inputs + 1 + p) ∷ (inputs + 1 + v) ∷ [])) (record { count = 0; before = r .before; after = r .after }) ⌝ }
 {
     let named = now::numbers_now(inputs, nodes, outputs, node_table, output_table, p, scratch);
     let node = now::numbers_now(inputs, nodes, outputs, node_table, output_table, v, scratch);
     let which = words::which_name(node_table, v, inputs + 1 + p as u32);
-    decide::first_pair(named, node, which)
+    let best = decide::first_pair(named, node, which);
+    let odds = gains::pair_odds(named, node, which, best.named, best.node);
+    PairChoice {
+        named: best.named,
+        node: best.node,
+        before: odds.before,
+        after: odds.after,
+    }
 }
 
 // The best moves of the pair of node p and a higher node v, made.
@@ -124,9 +153,9 @@ pub fn move_pair(
     v: usize,
     count: u32,
     scratch: &mut [u32],
-) -> u32
+) -> Step
     requires { ⌜ Ordered (graphOf inputs nodes outputs (now «node_table») (now «output_table»)) (now scratch) × (p < v) × (v < nodes) × (count ≡ C (stands (graphOf inputs nodes outputs (now «node_table») (now «output_table»)) (now scratch))) ⌝ }
-    ensures { λ r. ⌜ Made (now (scratch .entry)) (graphOf inputs nodes outputs (now («node_table» .exit)) (now («output_table» .entry))) (now (scratch .exit)) (moved (stands (graphOf inputs nodes outputs (now («node_table» .entry)) (now («output_table» .entry))) (now (scratch .entry))) ((inputs + 1 + p) ∷ (inputs + 1 + v) ∷ []) (bestAt (stands (graphOf inputs nodes outputs (now («node_table» .entry)) (now («output_table» .entry))) (now (scratch .entry))) ((inputs + 1 + p) ∷ (inputs + 1 + v) ∷ []))) r ⌝ }
+    ensures { λ r. ⌜ Made (now (scratch .entry)) (graphOf inputs nodes outputs (now («node_table» .exit)) (now («output_table» .entry))) (now (scratch .exit)) (moved (stands (graphOf inputs nodes outputs (now («node_table» .entry)) (now («output_table» .entry))) (now (scratch .entry))) ((inputs + 1 + p) ∷ (inputs + 1 + v) ∷ []) (bestAt (stands (graphOf inputs nodes outputs (now («node_table» .entry)) (now («output_table» .entry))) (now (scratch .entry))) ((inputs + 1 + p) ∷ (inputs + 1 + v) ∷ []))) (r .count) × Parted (rewrite (stands (graphOf inputs nodes outputs (now («node_table» .entry)) (now («output_table» .entry))) (now (scratch .entry))) ((inputs + 1 + p) ∷ (inputs + 1 + v) ∷ [])) r ⌝ }
 {
     let both = pair_moves(
         inputs,
@@ -138,7 +167,7 @@ pub fn move_pair(
         v,
         scratch,
     );
-    let after = make_move(
+    let middle = make_move(
         inputs,
         nodes,
         outputs,
@@ -149,7 +178,7 @@ pub fn move_pair(
         count,
         scratch,
     );
-    make_move(
+    let after = make_move(
         inputs,
         nodes,
         outputs,
@@ -157,9 +186,14 @@ pub fn move_pair(
         output_table,
         v,
         both.node,
-        after,
+        middle,
         scratch,
-    )
+    );
+    Step {
+        count: after,
+        before: both.before,
+        after: both.after,
+    }
 }
 
 // The pair call at word k (1 to 3) of node v.
@@ -173,14 +207,18 @@ pub fn pair_step(
     k: usize,
     count: u32,
     scratch: &mut [u32],
-) -> u32
+) -> Step
     requires { ⌜ Ordered (graphOf inputs nodes outputs (now «node_table») (now «output_table»)) (now scratch) × (v < nodes) × (wordFault (graphOf inputs nodes outputs (now «node_table») (now «output_table»)) (inputs + 1 + v) k ≡ 0) × (count ≡ C (stands (graphOf inputs nodes outputs (now «node_table») (now «output_table»)) (now scratch))) ⌝ }
-    ensures { λ r. ⌜ Made (now (scratch .entry)) (graphOf inputs nodes outputs (now («node_table» .exit)) (now («output_table» .entry))) (now (scratch .exit)) (pairRewrite (stands (graphOf inputs nodes outputs (now («node_table» .entry)) (now («output_table» .entry))) (now (scratch .entry))) (inputs + 1 + v) k .graph) r ⌝ }
+    ensures { λ r. ⌜ Made (now (scratch .entry)) (graphOf inputs nodes outputs (now («node_table» .exit)) (now («output_table» .entry))) (now (scratch .exit)) (pairRewrite (stands (graphOf inputs nodes outputs (now («node_table» .entry)) (now («output_table» .entry))) (now (scratch .entry))) (inputs + 1 + v) k .graph) (r .count) × Parted (pairRewrite (stands (graphOf inputs nodes outputs (now («node_table» .entry)) (now («output_table» .entry))) (now (scratch .entry))) (inputs + 1 + v) k) r ⌝ }
 {
     let at = 3 * v + (k - 1);
     let u = table::index_at(node_table, at);
     if u <= inputs {
-        return count;
+        return Step {
+            count,
+            before: 0,
+            after: 0,
+        };
     }
     let p = (u - (inputs + 1)) as usize;
     move_pair(

@@ -1,5 +1,5 @@
 -- Which number refuses a tree call, and what is known where none does. From the laws on tests and on admission.
-use mathlib.Core.Path.{_≡_, refl, _∙_}
+use mathlib.Core.Path.{_≡_, refl, ap, _∙_}
 use mathlib.Core.Bool.{true, and-false}
 use mathlib.Core.Logic.{_≢_}
 use Prim.Native.Nat.{ℕ, _*_, _≤_, _<_}
@@ -10,7 +10,7 @@ use Rattle.graph.specs.Graph.{Graph}
 use Rattle.graph.specs.Count.{readers, nodeReaders}
 use Rattle.graph.specs.Admission.{admissionNumber, Admitted}
 use Rattle.graph.proofs.Admit.{admitted}
-use Rattle.graph.specs.Answer.{IsRefusal, Outcome, outcome, refused}
+use Rattle.graph.specs.Answer.{Answer, IsRefusal, Outcome, outcome, refused}
 use Rattle.graph.proofs.Answers.{first-le, ifLess-le, admission-le, refused-outcome, accepted-outcome}
 use Rattle.graph.proofs.Cases.{cond-le}
 use Rattle.graph.proofs.Tests.{off, both, fault, none, passes, less, no-less}
@@ -97,3 +97,7 @@ refused-call g s r k e d = refused-outcome k (treeNumber g s r) g (rewrite g (tr
 pub accepted-call : (g : Graph) (s r : ℕ) (o : Outcome) → treeNumber g s r ≡ 0 → o ≡ rewrite g (tree g r) → o ≡ treeCall g s r
 unfolding treeCall
 accepted-call g s r o e q = q ∙ accepted-outcome (treeNumber g s r) g (rewrite g (tree g r)) e
+
+pub accepted-number : (g : Graph) (r : ℕ) (a : Answer) (h : Graph) → outcome a h ≡ rewrite g (tree g r) → a .number ≡ 0
+unfolding rewrite
+accepted-number g r a h e = ap (λ (o : Outcome). o .answer .number) e

@@ -1,15 +1,20 @@
 -- What a tree call leaves and saves, from what the state stands for after its moves.
-use mathlib.Core.Path.{_≡_, ap, _∙_}
+use mathlib.Core.Path.{_≡_, sym, ap, _∙_}
 use mathlib.Core.Bool.{true}
-use mathlib.Core.List.{List, [], _∷_}
+use mathlib.Core.List.{List}
 use Prim.Native.Nat.{ℕ, _+_, _-_, _<_}
 use native.Mathlib.Omega.{arith}
 use Rattle.graph.specs.Graph.{Graph, node}
 use Rattle.graph.specs.Count.{C}
-use Rattle.graph.specs.Answer.{outcome, accepted}
+use Rattle.graph.specs.Answer.{Answer, othersOf, outcome}
+use Rattle.graph.specs.Difference.{difference}
 use Rattle.moves.specs.Call.{rewrite}
+use Rattle.moves.specs.Outside.{savedBy}
 use Rattle.moves.specs.Tree.{isRoot, IsRoot, tree}
+use Rattle.moves.proofs.Split.{rewrite-others, saved-outcome}
 use Rattle.state.specs.State.{stands}
+use Rattle.state.specs.Step.{Parted}
+use Rattle.state.specs.declared.moving.Step.{Step}
 use Rattle.trees.specs.Stepping.{treeMoved, TreeMade}
 
 -- the root's own number
@@ -19,12 +24,15 @@ root-node g r v i e =
     (omega (arith, e, i .after-inputs, i .within), rw q (i .root))
 
 -- g filled, stepped to g′ and written out as h
-pub rewrite-is : (g g′ h : Graph) (sc sc′ : List ℕ) (r v b a x : ℕ) → IsRoot g r → v ≡ r - (g .I + 1) → stands g sc ≡ g → TreeMade sc g′ sc′ (treeMoved (stands g sc) (node g v)) a → h ≡ stands g′ sc′
-    → b ≡ C g → x ≡ b - a → outcome (accepted (x ∷ [])) h ≡ rewrite g (tree g r)
-unfolding rewrite
-rewrite-is g g′ h sc sc′ r v b a x i e s m w p q =
+pub rewrite-is : (g g′ h : Graph) (sc sc′ : List ℕ) (r v b : ℕ) (s : Step) (x : Answer) → IsRoot g r → v ≡ r - (g .I + 1) → stands g sc ≡ g
+    → TreeMade sc g′ sc′ (treeMoved (stands g sc) (node g v)) (s .count) × Parted (rewrite (stands g sc) (tree (stands g sc) (node g v))) s → h ≡ stands g′ sc′
+    → b ≡ C g → x ≡ savedBy b (s .count) (s .before) (s .after) → outcome x h ≡ rewrite g (tree g r)
+rewrite-is g g′ h sc sc′ r v b s x i e z m w p q =
     let n : node g v ≡ r = omega (arith, e, i .after-inputs) in
-    let k : treeMoved (stands g sc) (node g v) ≡ treeMoved g r = ap (λ y. treeMoved y (node g v)) s ∙ ap (treeMoved g) n in
-    let t : h ≡ treeMoved g r = w ∙ m .stands-for ∙ k in
-    let c : a ≡ C (treeMoved g r) = m .count ∙ ap C k in
-    rw (q, p, c, t)
+    let k : treeMoved (stands g sc) (node g v) ≡ treeMoved g r = ap (λ y. treeMoved y (node g v)) z ∙ ap (treeMoved g) n in
+    let t : h ≡ treeMoved g r = w ∙ m .0 .stands-for ∙ k in
+    let c : s .count ≡ C (treeMoved g r) = m .0 .count ∙ ap C k in
+    let d : othersOf (rewrite g (tree g r) .answer) ≡ difference (s .before) (s .after) =
+    ap (λ (u : ℕ). othersOf (rewrite g (tree g u) .answer)) (sym n) ∙ ap (λ (y : Graph). othersOf (rewrite y (tree y (node g v)) .answer)) (sym z) ∙ m .1 .others in
+    ap (λ (y : Answer). outcome y h) q ∙
+    saved-outcome g (tree g r) h b (s .count) (s .before) (s .after) t (omega (arith, p, c, ap C t)) (rw t (sym (rewrite-others g (tree g r)) ∙ d))

@@ -35,7 +35,7 @@ pub fn tree_call(
     if number != 0 {
         return Saving::Refused(refused_by(number));
     }
-    Saving::Saved(rewrite::rewrite_tree(
+    rewrite::rewrite_tree(
         inputs,
         nodes,
         outputs,
@@ -43,5 +43,5 @@ pub fn tree_call(
         output_table,
         root,
         scratch,
-    ))
+    )
 }

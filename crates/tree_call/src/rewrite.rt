@@ -1,15 +1,16 @@
 // The tree call in the state: scratch filled, the tree decided and its moves made, and what is pending written out.
 ghost use mathlib.Core.Path.{_≡_};
-ghost use mathlib.Core.List.{[], _∷_};
 ghost use Prim.Native.Nat.{_*_, _≤_};
 ghost use lib.ListN.{length};
 ghost use Rattle.graph.specs.Admission.{Admitted};
-ghost use Rattle.graph.specs.Answer.{accepted, outcome};
+ghost use Rattle.graph.specs.Answer.{outcome};
 ghost use Rattle.graph.specs.Graph.{graphOf};
-ghost use Rattle.moves.specs.Call.{rewrite};
+ghost use Rattle.moves.specs.Call.{savingAnswer, rewrite};
 ghost use Rattle.moves.specs.Tree.{IsRoot, tree};
 use graph::edges::complemented;
-use moves::words::over;
+use moves::Saving;
+use moves::gains::Odds;
+use moves::gains::saved_by;
 use moves::words::wide;
 use state::writing::write_out;
 use trees::making::tree_step;
@@ -24,14 +25,14 @@ pub fn rewrite_tree(
     output_table: &mut [u32],
     root: u32,
     scratch: &mut [u32],
-) -> u32
+) -> Saving
     requires { ⌜ Admitted (graphOf inputs nodes outputs (now «node_table») (now «output_table»)) × IsRoot (graphOf inputs nodes outputs (now «node_table») (now «output_table»)) root × (8 * nodes ≤ length (now scratch)) ⌝ }
-    ensures { λ r. ⌜ outcome (accepted (r ∷ [])) (graphOf inputs nodes outputs (now («node_table» .exit)) (now («output_table» .exit))) ≡ rewrite (graphOf inputs nodes outputs (now («node_table» .entry)) (now («output_table» .entry))) (tree (graphOf inputs nodes outputs (now («node_table» .entry)) (now («output_table» .entry))) root) ⌝ }
+    ensures { λ r. ⌜ outcome (savingAnswer r) (graphOf inputs nodes outputs (now («node_table» .exit)) (now («output_table» .exit))) ≡ rewrite (graphOf inputs nodes outputs (now («node_table» .entry)) (now («output_table» .entry))) (tree (graphOf inputs nodes outputs (now («node_table» .entry)) (now («output_table» .entry))) root) ⌝ }
 {
     let before = complemented(inputs, nodes, outputs, node_table, output_table);
     fill_scratch(inputs, nodes, outputs, node_table, output_table, scratch);
     let v = wide(root - (inputs + 1));
-    let after = tree_step(
+    let step = tree_step(
         inputs,
         nodes,
         outputs,
@@ -42,5 +43,9 @@ pub fn rewrite_tree(
         scratch,
     );
     write_out(inputs, nodes, outputs, node_table, output_table, scratch);
-    over(before, after)
+    let odds = Odds {
+        before: step.before,
+        after: step.after,
+    };
+    saved_by(before, step.count, odds)
 }

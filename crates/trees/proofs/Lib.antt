@@ -11,3 +11,4 @@ pub mod Falling
 pub mod Shown
 pub mod DecidePass
 pub mod MakePass
+pub mod Parting

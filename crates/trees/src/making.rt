@@ -4,9 +4,10 @@ ghost use mathlib.Core.Bool.{true};
 ghost use Prim.Native.Nat.{_+_, _<_};
 ghost use Rattle.graph.specs.Graph.{graphOf};
 ghost use Rattle.graph.specs.Count.{C};
-ghost use Rattle.moves.specs.Tree.{isRoot};
+ghost use Rattle.moves.specs.Call.{rewrite};
+ghost use Rattle.moves.specs.Tree.{isRoot, tree};
 ghost use Rattle.state.specs.State.{stands, Ordered};
-ghost use Rattle.state.specs.Step.{Made};
+ghost use Rattle.state.specs.Step.{Made, Parted};
 ghost use Rattle.trees.specs.Deciding.{TreeDecided};
 ghost use Rattle.trees.specs.Stepping.{TreeMade, treeMoved};
 use crate::deciding;
@@ -15,6 +16,7 @@ use graph::literal::MARK;
 use moves::words::narrow;
 use moves::words::wide;
 use state::moving;
+use state::moving::Step;
 
 // The moves of the tree of node `root`, which stand in scratch, made one by one; count is C before, and C after is returned.
 pub fn make_moves(
@@ -51,7 +53,7 @@ pub fn make_moves(
     c
 }
 
-// The tree call at node `root`, in the state; count is C before, and C after is returned.
+// The tree call at node `root`, in the state; count is C before. Of all the tree only the root has readers outside of it.
 pub fn tree_step(
     inputs: u32,
     nodes: u32,
@@ -61,10 +63,11 @@ pub fn tree_step(
     root: usize,
     count: u32,
     scratch: &mut [u32],
-) -> u32
+) -> Step
     requires { ⌜ Ordered (graphOf inputs nodes outputs (now «node_table») (now «output_table»)) (now scratch) × (root < nodes) × (isRoot (graphOf inputs nodes outputs (now «node_table») (now «output_table»)) (inputs + 1 + root) ≡ true) × (count ≡ C (stands (graphOf inputs nodes outputs (now «node_table») (now «output_table»)) (now scratch))) ⌝ }
-    ensures { λ r. ⌜ TreeMade (now (scratch .entry)) (graphOf inputs nodes outputs (now («node_table» .exit)) (now («output_table» .entry))) (now (scratch .exit)) (treeMoved (stands (graphOf inputs nodes outputs (now («node_table» .entry)) (now («output_table» .entry))) (now (scratch .entry))) (inputs + 1 + root)) r ⌝ }
+    ensures { λ r. ⌜ TreeMade (now (scratch .entry)) (graphOf inputs nodes outputs (now («node_table» .exit)) (now («output_table» .entry))) (now (scratch .exit)) (treeMoved (stands (graphOf inputs nodes outputs (now («node_table» .entry)) (now («output_table» .entry))) (now (scratch .entry))) (inputs + 1 + root)) (r .count) × Parted (rewrite (stands (graphOf inputs nodes outputs (now («node_table» .entry)) (now («output_table» .entry))) (now (scratch .entry))) (tree (stands (graphOf inputs nodes outputs (now («node_table» .entry)) (now («output_table» .entry))) (now (scratch .entry))) (inputs + 1 + root))) r ⌝ }
 {
+    let before = read(scratch, root, 1);
     deciding::decide_tree(
         inputs,
         nodes,
@@ -74,7 +77,7 @@ pub fn tree_step(
         root,
         scratch,
     );
-    make_moves(
+    let made = make_moves(
         inputs,
         nodes,
         outputs,
@@ -83,5 +86,11 @@ pub fn tree_step(
         root,
         count,
         scratch,
-    )
+    );
+    let after = read(scratch, root, 1);
+    Step {
+        count: made,
+        before,
+        after,
+    }
 }

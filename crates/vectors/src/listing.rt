@@ -7,7 +7,7 @@ use replay::Replayed;
 pub fn list(file: &[u8], node_table: &mut [u32], output_table: &mut [u32]) {
     let mut calls = [0u32; 128];
     let mut scratch = [77u32; 4096];
-    let mut answers = [77u32; 128];
+    let mut answers = [77i64; 192];
     lend(
         file,
         node_table,
@@ -24,12 +24,12 @@ fn lend(
     output_table: &mut [u32],
     calls: &mut [u32],
     scratch: &mut [u32],
-    answers: &mut [u32],
+    answers: &mut [i64],
 ) {
     read::fill_words(calls);
     let calls_end = read::room_words(read::size(), calls);
     let scratch_end = read::room_words(read::size(), scratch);
-    let answers_end = read::room_words(read::size(), answers);
+    let answers_end = read::room_signed(read::size(), answers);
     run(
         file,
         node_table,
@@ -46,11 +46,11 @@ fn run(
     output_table: &mut [u32],
     calls: &[u32],
     scratch: &mut [u32],
-    answers: &mut [u32],
+    answers: &mut [i64],
 ) {
     let answer = replay::replay(file, calls, node_table, output_table, scratch, answers);
     replayed(answer, scratch);
-    print::words(answers);
+    print::size(answers.len());
 }
 
 // A replay that was not made has the number 1 here, whatever refused it, and its scratch is shown.

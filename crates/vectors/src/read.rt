@@ -1,5 +1,7 @@
 // Big-endian numbers from standard input. What is not there reads as 0.
+ghost use mathlib.Core.Path.{_≡_};
 ghost use Prim.Native.Nat.{_≤_, _<_};
+ghost use lib.ListN.{length, take};
 ghost use Rattle.io.specs.Counts.{Counts};
 use graph::table::set_word;
 
@@ -35,6 +37,12 @@ pub fn room_bytes(wanted: usize, space: &[u8]) -> usize
 
 pub fn room_words(wanted: usize, space: &[u32]) -> usize
     ensures { λ r. ⌜ Counts r (now (space .entry)) ⌝ }
+{
+    least(wanted, space.len())
+}
+
+pub fn room_signed(wanted: usize, space: &[i64]) -> usize
+    ensures { λ r. ⌜ (r ≤ length (now (space .entry))) × (r ≡ length (take r (now (space .entry)))) ⌝ }
 {
     least(wanted, space.len())
 }

@@ -42,7 +42,7 @@ returns-2 c =
     let g : Graph = graphOf (a .inputs) (a .nodes) (a .outputs) (a .node-table .now) (a .output-table .now) in
     let t = c .before .before .before .before .preview-tree .ensures in
     let f = told-preview g (a .bytes .now) _ (length (a .scratch .now)) (a .root) _ (sym (c .before .before .before .before .before .before .before .before .preview-number .ensures) ∙ c .before .before .before .before .before .before .before .if1 .left) (t .0) (t .1) in
-    (f .0, (f .1, λ z. absurd (z refl)))
+    (f .0, (f .1, λ z. absurd (z (f .2))))
 
 pub preview-spec : {M : Type 1} → statement M
 preview-spec =

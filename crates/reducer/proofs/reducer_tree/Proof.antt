@@ -1,7 +1,7 @@
 -- `reducer_tree` meets its contract. From those of `tree_call` and of its answer's number and value.
-use mathlib.Core.Path.{ap, _∙_}
+use mathlib.Core.Path.{refl, ap, _∙_}
 use Rattle.graph.specs.Answer.{Outcome}
-use Rattle.answers.proofs.Same.{same-one}
+use Rattle.answers.proofs.Same.{same-signed}
 use Rattle.reducer.proofs.Left.{same-kept}
 use borrow.Author.Needs.{needs}
 use Rattle.reducer.proofs.reducer_tree.Statement.{statement}
@@ -14,7 +14,7 @@ returns c =
       c .saving-number .ensures ∙ ap (λ (o : Outcome). o .answer .number) e,
       (
         ap (λ (o : Outcome). o .graph) e,
-        (c .before .saving-told .ensures ∙ same-one _ (ap (λ (o : Outcome). o .answer) e), same-kept _ _ (ap (λ (o : Outcome). o .answer) e) (t .1)),
+        (c .before .saving-told .ensures ∙ same-signed (ap (λ (o : Outcome). o .answer) e) refl, same-kept _ _ (ap (λ (o : Outcome). o .answer) e) (t .1)),
       ),
     )
 

@@ -1,7 +1,8 @@
 -- `replay` meets its contract: what is refused is refused at the words or at the file, and else every call is made. From the laws of Whole.
 use mathlib.Core.Path.{sym, _∙_}
 use native.Mathlib.Omega.{arith}
-use Rattle.replay.proofs.Refusing.{code-left, code-kinds, code-short, code-none}
+use lib.ListN.{length}
+use Rattle.replay.proofs.Refusing.{code-left, code-kinds, code-short, code-none, usable-le}
 use Rattle.replay.proofs.Whole.{at-case, refused-words, refused-file, replays}
 use borrow.Author.Needs.{needs}
 use Rattle.replay.proofs.replay.Statement.{statement}
@@ -16,21 +17,35 @@ returns-2 c =
 
 returns-3 : tie.Need-returns-3
 returns-3 c =
-    let k = sym (c .before .before .kinds-number .ensures) ∙ c .before .if2 .left in
-    refused-words _ _ _ _ _ _ 4 (code-short _ _ (c .before .before .before .if1 .left) k (omega arith)) (λ z. omega arith)
+    let u = c .before in
+    let e = u .before in
+    let k = sym (e .before .kinds-number .ensures) ∙ e .if2 .left in
+    refused-words _ _ _ _ _ _ 4 (code-short _ _ (e .before .before .if1 .left) k (omega (arith, u .usable-room .ensures))) (λ z. omega arith)
 
 returns-4 : tie.Need-returns-4
 returns-4 c =
     let l = c .before .before .before .before .before .before .before in
-    let e = l .before .before .before in
-    refused-file _ _ _ _ _ _ (c .before .answer .given .0 .0) _ _ (code-none _ _ (e .before .before .before .if1 .left) (sym (e .before .before .kinds-number .ensures) ∙ e .before .if2 .left) (omega (arith, e .if3 .left))) (at-case _ _ _ _ _ (c .before .answer .given .1) (l .load .ensures))
+    let t = l .before .before .before in
+    let u = t .before in
+    let e = u .before in
+    refused-file _ _ _ _ _ _ (c .before .answer .given .0 .0) _ _ (code-none _ _ (e .before .before .if1 .left) (sym (e .before .kinds-number .ensures) ∙ e .if2 .left) (omega (arith, t .if3 .left, u .usable-room .ensures))) (at-case _ _ _ _ _ (c .before .answer .given .1) (l .load .ensures))
+
+make-calls-requires : tie.Need-make-calls-requires
+make-calls-requires c κs =
+    let l = c .before .before .before .before .before .before .before .before .before .before .before in
+    let t = l .before .before .before in
+    let u = t .before in
+    let b = usable-le (length (u .before .before .before .before .before .before .before .before .before .args .answers .now)) in
+    (omega (arith, t .if3 .left, u .usable-room .ensures, b), omega (arith, t .if3 .left, u .usable-room .ensures, b))
 
 returns-5 : tie.Need-returns-5
 returns-5 c =
-    let m = c .before .before .before .before .before .before .before .before in
+    let m = c .before .before .before .before .before .before .before in
     let l = m .before .before .before .before .before .before .before .before .before .before .before .before in
-    let e = l .before .before .before in
-    replays _ _ _ _ _ _ _ _ _ _ _ _ _ _ (code-none _ _ (e .before .before .before .if1 .left) (sym (e .before .before .kinds-number .ensures) ∙ e .before .if2 .left) (omega (arith, e .if3 .left))) (at-case _ _ _ _ _ (m .before .before .before .before .before .before .answer2 .given .1) (l .load .ensures)) (m .make-calls .ensures .0) (m .make-calls .ensures .1)
+    let t = l .before .before .before in
+    let u = t .before in
+    let e = u .before in
+    replays _ _ _ _ _ _ _ _ _ _ _ _ _ _ (code-none _ _ (e .before .before .if1 .left) (sym (e .before .kinds-number .ensures) ∙ e .if2 .left) (omega (arith, t .if3 .left, u .usable-room .ensures))) (at-case _ _ _ _ _ (m .before .before .before .before .before .before .answer2 .given .1) (l .load .ensures)) (m .make-calls .ensures .0) (m .make-calls .ensures .1)
 
 pub replay-spec : {M : Type 1} → statement M
 replay-spec =
@@ -39,11 +54,12 @@ replay-spec =
     returns
     (λ c κs. search needs)
     returns-2
+    (λ c κs. search needs)
     returns-3
     (λ c κs. search needs)
     (λ c. search needs)
     (λ c. search needs)
-    (λ c κs. search needs)
+    make-calls-requires
     (λ c. search needs)
     (λ c. search needs)
     returns-4

@@ -4,7 +4,7 @@ use lib.ListN.{length}
 use Rattle.graph.specs.Graph.{Graph, graphOf}
 use Prim.Native.Nat.{ℕ}
 use Rattle.moves.specs.Call.{treeNumber}
-use Rattle.tree_call.proofs.Refused.{tree-range, accepted-by, refused-call, accepted-call}
+use Rattle.tree_call.proofs.Refused.{tree-range, accepted-by, refused-call, accepted-call, accepted-number}
 use borrow.Author.Needs.{needs}
 use Rattle.tree_call.proofs.tree_call.Statement.{statement}
 use Rattle.tree_call.proofs.tree_call.Tie as tie
@@ -42,7 +42,8 @@ returns-2 c =
     let n : ℕ = c .before .before .before .before .before .before .before .before .before .before .before .tree-number .result in
     let e : n ≡ treeNumber g (length (a .scratch .now)) (a .root) = c .before .before .before .before .before .before .before .before .before .before .before .tree-number .ensures in
     let z : n ≡ 0 = c .before .before .before .before .before .before .before .before .before .before .if1 .left in
-    (accepted-call g (length (a .scratch .now)) (a .root) _ (sym e ∙ z) (c .before .before .before .before .before .before .rewrite-tree .ensures), λ y. absurd (y refl))
+    let t = c .before .before .before .before .before .before .rewrite-tree .ensures in
+    (accepted-call g (length (a .scratch .now)) (a .root) _ (sym e ∙ z) t, λ y. absurd (y (accepted-number g (a .root) _ _ t)))
 
 pub tree-call-spec : {M : Type 1} → statement M
 tree-call-spec =

@@ -1,9 +1,8 @@
 -- `rewrite_node` meets its contract. From the laws of decisions and outcomes.
-use native.Mathlib.Omega.{arith}
 use borrow.Author.Needs.{needs}
 use Rattle.graph.specs.Graph.{Graph, graphOf}
 use Rattle.moves.proofs.Moves.{arity-pos, moves-row}
-use Rattle.node_call.proofs.Outcomes.{counted, move-fits, no-more, node-outcome}
+use Rattle.node_call.proofs.Outcomes.{counted, move-fits, node-outcome}
 use Rattle.node_call.proofs.rewrite.rewrite_node.Statement.{statement}
 use Rattle.node_call.proofs.rewrite.rewrite_node.Tie as tie
 
@@ -33,30 +32,35 @@ move-cost-requires-2 c κs =
     let k = counted g (a .v) (n .result) (s .pre .0) (n .ensures) in
     (k .numbers, moves-row _ _ _ (k .has) (c .before .first-least .ensures .below))
 
+node-odds-requires : tie.Need-node-odds-requires
+node-odds-requires c κs =
+    let s = c .before .before .before .before .before .before .before .before .before in
+    let a = s .args in
+    let g : Graph = graphOf (a .inputs) (a .nodes) (a .outputs) (a .node-table .now) (a .output-table .now) in
+    let n = c .before .before .before .before .numbers-of in
+    (counted g (a .v) (n .result) (s .pre .0) (n .ensures), c .before .before .first-least .ensures .below)
+
 make-moves-requires : tie.Need-make-moves-requires
 make-moves-requires c κs =
-    let s = c .before .before .before .before .before .before .before .before .before .before .before in
+    let s = c .before .before .before .before .before .before .before .before .before .before .before .before in
     let a = s .args in
     let g : Graph = graphOf (a .inputs) (a .nodes) (a .outputs) (a .node-table .now) (a .output-table .now) in
-    let n = c .before .before .before .before .before .before .numbers-of in
-    let m = move-fits g (s .pre .0) (a .v) (s .pre .1) (n .result) (n .ensures) _ (c .before .before .before .before .first-least .ensures) in
+    let n = c .before .before .before .before .before .before .before .numbers-of in
+    let m = move-fits g (s .pre .0) (a .v) (s .pre .1) (n .result) (n .ensures) _ (c .before .before .before .before .before .first-least .ensures) in
     (s .pre .0, s .pre .1, s .pre .1, m, m)
-
-sub-result : tie.Need-sub-result
-sub-result c =
-    let s = c .before .before .before .before .before .before .before .before .before .before .before .before .before .before .before .before in
-    let a = s .args in
-    let g : Graph = graphOf (a .inputs) (a .nodes) (a .outputs) (a .node-table .now) (a .output-table .now) in
-    let n = c .before .before .before .before .before .before .before .before .before .before .before .numbers-of in
-    omega (arith, c .before .before .before .before .before .before .before .before .move-cost .ensures .0, c .before .before .before .before .before .before .before .move-cost2 .ensures .0, no-more g (s .pre .0) (a .v) (s .pre .1) (n .result) (n .ensures) _ (c .before .before .before .before .before .before .before .before .before .first-least .ensures))
 
 returns : tie.Need-returns
 returns c =
-    let s = c .before .before .before .before .before .before .before .before .before .before .before .before .before .before .before .before in
+    let made = c .before .before .before .before .before in
+    let odds = made .before .before .before in
+    let later = odds .before in
+    let least = later .before .before in
+    let numbers = least .before .before in
+    let s = numbers .before .before .before .before .before in
     let a = s .args in
     let g : Graph = graphOf (a .inputs) (a .nodes) (a .outputs) (a .node-table .now) (a .output-table .now) in
-    let n = c .before .before .before .before .before .before .before .before .before .before .before .numbers-of in
-    node-outcome g (s .pre .0) (a .v) (s .pre .1) (n .result) (n .ensures) _ (c .before .before .before .before .before .before .before .before .before .first-least .ensures) _ _ (c .before .before .before .before .make-moves .ensures) (rw (c .before .before .before .before .before .before .before .before .move-cost .ensures .0, c .before .before .before .before .before .before .before .move-cost2 .ensures .0))
+    let n = numbers .numbers-of in
+    node-outcome g (s .pre .0) (a .v) (s .pre .1) (n .result) (n .ensures) _ (least .first-least .ensures) _ _ _ (odds .node-odds .result) (made .make-moves .ensures) (later .before .move-cost .ensures .0) (later .move-cost2 .ensures .0) (odds .node-odds .ensures) _ (c .saved-by .ensures)
 
 pub rewrite-node-spec : {M : Type 1} → statement M
 rewrite-node-spec =
@@ -66,8 +70,9 @@ rewrite-node-spec =
     first-least-requires
     move-cost-requires
     move-cost-requires-2
+    node-odds-requires
     make-moves-requires
-    sub-result
+    (λ c κs. search needs)
     (λ c. search needs)
     (λ c. search needs)
     returns)

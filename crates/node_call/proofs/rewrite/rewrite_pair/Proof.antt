@@ -20,9 +20,22 @@ best-pair-requires c κs =
     let wn = w .ensures (a .inputs) (a .nodes) (a .outputs) (a .output-table .now) in
     (counted g (a .p) (p .result) (s .pre .0) (p .ensures), counted g (a .v) (n .result) (s .pre .0) (n .ensures), naming-bits g (a .v) _ (w .result) wn)
 
+pair-odds-requires : tie.Need-pair-odds-requires
+pair-odds-requires c κs =
+    let three = c .before in
+    let two = three .before .before in
+    let one = two .before .before .before in
+    let s = one .before .before .before .before .before in
+    let a = s .args in
+    let g : Graph = graphOf (a .inputs) (a .nodes) (a .outputs) (a .node-table .now) (a .output-table .now) in
+    let p = one .numbers-of in
+    let n = two .numbers-of2 in
+    let b = c .best-pair .ensures .greatest in
+    (counted g (a .p) (p .result) (s .pre .0) (p .ensures), counted g (a .v) (n .result) (s .pre .0) (n .ensures), b .below, b .fits)
+
 make-moves-requires : tie.Need-make-moves-requires
 make-moves-requires c κs =
-    let best = c .before .before in
+    let best = c .before .before .before in
     let three = best .before in
     let two = three .before .before in
     let one = two .before .before .before in
@@ -39,8 +52,9 @@ make-moves-requires c κs =
 
 returns : tie.Need-returns
 returns c =
-    let made = c .before .before .before .before in
-    let best = made .before .before .before in
+    let made = c .before .before .before .before .before in
+    let odds = made .before .before .before in
+    let best = odds .before in
     let three = best .before in
     let two = three .before .before in
     let one = two .before .before .before in
@@ -52,7 +66,7 @@ returns c =
     let w = three .which-name in
     let wn = w .ensures (a .inputs) (a .nodes) (a .outputs) (a .output-table .now) in
     let b = best .best-pair .ensures in
-    pair-outcome g (s .pre .0) (a .p) (a .v) (s .pre .1) (s .pre .2) (p .result) (n .result) (w .result) (p .ensures) (n .ensures) wn _ _ (b .greatest) _ _ (made .make-moves .ensures) (b .saving)
+    pair-outcome g (s .pre .0) (a .p) (a .v) (s .pre .1) (s .pre .2) (p .result) (n .result) (w .result) (p .ensures) (n .ensures) wn _ _ (b .greatest) _ _ (odds .pair-odds .result) (made .make-moves .ensures) (b .saving) (odds .pair-odds .ensures) _ (c .saved-by .ensures)
 
 pub rewrite-pair-spec : {M : Type 1} → statement M
 rewrite-pair-spec =
@@ -64,7 +78,9 @@ rewrite-pair-spec =
     (λ c. search needs)
     (λ c κs. search needs)
     best-pair-requires
+    pair-odds-requires
     make-moves-requires
+    (λ c κs. search needs)
     (λ c. search needs)
     (λ c. search needs)
     returns)

@@ -2,7 +2,7 @@
 use native.Mathlib.Omega.{arith}
 use borrow.Author.Needs.{needs}
 use Rattle.trees.proofs.Ready.{ordered-costs}
-use Rattle.preview.proofs.ToldMoves.{told-tree, told-says, still-decided}
+use Rattle.preview.proofs.ToldMoves.{told-tree, told-says, told-root, still-decided}
 use Rattle.preview.proofs.deciding.tell_tree.Statement.{statement}
 use Rattle.preview.proofs.deciding.tell_tree.Tie as tie
 
@@ -25,7 +25,7 @@ returns c =
     let d = c .before .before .before .before .before .before .before .before .before .before .before .decide-tree .ensures in
     let cl = c .before .before .before .before .before .before .before .clear .ensures in
     let to = c .before .before .tell .ensures in
-    (told-tree _ _ _ _ _ _ _ (f .1) (d .0) (d .1) cl to, told-says _ _ _ _ _ _ _ (f .1) (d .0) (d .1) cl to (p .0) (p .4))
+    (told-tree _ _ _ _ _ _ _ (f .1) (d .0) (d .1) cl to, told-says _ _ _ _ _ _ _ (f .1) (d .0) (d .1) cl to (p .0) (p .4), told-root _ _ _ _ _ _ _ (f .1) (d .0) (d .1) cl to (ordered-costs _ _ _ (d .1) (f .0)) (p .1))
 
 pub tell-tree-spec : {M : Type 1} → statement M
 tell-tree-spec =

@@ -1,7 +1,7 @@
 -- `one_call` tells what the call of its kind answers. From the contracts of the four calls.
 use Rattle.moves.specs.Call.{savingAnswer}
 use Rattle.settling.specs.Settle.{settledAnswer}
-use Rattle.replay.proofs.One.{told-node, told-pair, told-tree, told-settling, settling-falls}
+use Rattle.replay.proofs.One.{told-node, told-pair, told-tree, told-settling}
 use borrow.Author.Needs.{needs}
 use Rattle.replay.proofs.calls.one_call.Statement.{statement}
 use Rattle.replay.proofs.calls.one_call.Tie as tie
@@ -20,11 +20,6 @@ returns-3 : tie.Need-returns-3
 returns-3 c =
     let t = c .before .before .before .before .before .before .before in
     told-tree _ _ _ _ _ _ (savingAnswer (t .tree-call .result)) _ (t .before .before .before .before .before .before .if1 .left) (t .before .before .before .before .before .if2 .left) (t .before .before .before .before .if3 .taken) (t .tree-call .ensures .0) (c .saving-answer3 .ensures)
-
-settled-answer-requires : tie.Need-settled-answer-requires
-settled-answer-requires c κs =
-    let s = c .before .before .before .before .before .before in
-    settling-falls _ _ _ (settledAnswer (s .settle .result)) (s .settle .ensures .0)
 
 returns-4 : tie.Need-returns-4
 returns-4 c =
@@ -52,7 +47,7 @@ one-call-spec =
     (λ c. search needs)
     returns-3
     (λ c κs. search needs)
-    settled-answer-requires
+    (λ c κs. search needs)
     (λ c. search needs)
     (λ c. search needs)
     (λ c. search needs)

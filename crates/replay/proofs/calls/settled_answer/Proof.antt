@@ -1,21 +1,18 @@
--- `settled_answer` meets its contract. From those of its answer's number and values.
-use mathlib.Core.Path.{refl}
-use native.Mathlib.Omega.{arith}
+-- `settled_answer` meets its contract. From those of its answer's number and of both numbers of its saving.
+use mathlib.Core.Path.{_∙_}
 use Rattle.settling.specs.Settle.{settledAnswer}
-use Rattle.replay.proofs.One.{figures}
+use Rattle.graph.proofs.Difference.{read-as}
+use Rattle.replay.proofs.One.{answers-told}
 use borrow.Author.Needs.{needs}
 use Rattle.replay.proofs.calls.settled_answer.Statement.{statement}
 use Rattle.replay.proofs.calls.settled_answer.Tie as tie
 
-sub-t12 : tie.Need-sub-t12
-sub-t12 c =
-    let f = figures (settledAnswer (c .before .before .args .answer)) _ (c .before .settled-told .ensures) in
-    omega (arith, f .0, f .1)
-
 returns : tie.Need-returns
 returns c =
-    let f = figures (settledAnswer (c .before .before .args .answer)) _ (c .before .settled-told .ensures) in
-    (c .settled-number .ensures, rw (f .0, f .1) refl)
+    let t = c .before .before in
+    let n = t .before in
+    let a = answers-told (settledAnswer (n .before .args .answer)) _ (t .settled-sums .result) (n .settled-number .ensures) (t .settled-sums .ensures) in
+    record { number = a .number; own = read-as _ (c .before .t8 .given) ∙ a .own; others = read-as _ (c .t11 .given) ∙ a .others }
 
 pub settled-answer-spec : {M : Type 1} → statement M
 settled-answer-spec =
@@ -25,5 +22,4 @@ settled-answer-spec =
     (λ c κs. search needs)
     (λ c. search needs)
     (λ c. search needs)
-    sub-t12
     returns)

@@ -10,12 +10,12 @@ put-settled-requires : tie.Need-put-settled-requires
 put-settled-requires c κs =
     let a = c .before .before .before .before .before .before .before .before .before .before .before .before .before .before .before .before .before .before .before .before .args in
     let g : Graph = graphOf (a .inputs) (a .nodes) (a .outputs) (a .node-table .now) (a .output-table .now) in
-    let m = settled-admitted g _ _ _ (settled-rounds _ _ _ _ _ _ (c .before .before .before .before .rounds .given .1) (c .before .before .before .before .before .before .before .before .before .before .before .before .settle .ensures .0)) in
+    let m = settled-admitted g _ _ _ _ _ (settled-rounds _ _ _ _ _ _ _ _ (c .before .before .before .before .rounds .given .1) (c .before .before .before .before .before .before .before .before .before .before .before .before .settle .ensures .0)) in
     ((m .few-inputs, m .few-nodes, omega arith, omega arith), omega arith)
 
 returns : tie.Need-returns
 returns c =
-    settled-printed _ _ _ _ _ _ _ _ (settled-rounds _ _ _ _ _ _ (c .before .before .before .before .before .before .before .rounds .given .1) (c .before .before .before .before .before .before .before .before .before .before .before .before .before .before .before .settle .ensures .0))
+    settled-printed _ _ _ _ _ _ _ _ _ _ (settled-rounds _ _ _ _ _ _ _ _ (c .before .before .before .before .before .before .before .rounds .given .1) (c .before .before .before .before .before .before .before .before .before .before .before .before .before .before .before .settle .ensures .0))
     (c .before .before .put-settled .ensures)
 
 returns-2 : tie.Need-returns-2

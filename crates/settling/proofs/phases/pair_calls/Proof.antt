@@ -1,6 +1,6 @@
 -- `pair_calls` makes the pair calls at each node: its loop has made those at the nodes below v.
 use mathlib.Core.Path.{_≡_, refl, _∙_}
-use Prim.Native.Nat.{_-_, _≤_}
+use Prim.Native.Nat.{_+_, _*_, _-_, _≤_}
 use native.Mathlib.Omega.{arith}
 use lib.ListN.{length}
 use Rattle.graph.specs.Graph.{graphOf}
@@ -11,24 +11,29 @@ use Rattle.settling.proofs.phases.pair_calls.Statement.{statement}
 use Rattle.settling.proofs.phases.pair_calls.Tie as tie
 
 abbrev Inv-loop : tie.InvT-loop
-Inv-loop inputs nodes outputs node-table₀ output-table count scratch₀ end c₀ v₀ node-table scratch c v =
+Inv-loop inputs nodes outputs node-table₀ output-table scratch₀ end t₀ v₀ node-table scratch t v =
     (v ≤ nodes) × (end ≡ nodes) × (length node-table ≡ length node-table₀)
-    × Phase (each pairsAt v) (graphOf inputs nodes outputs node-table₀ output-table) scratch₀ (graphOf inputs nodes outputs node-table output-table) scratch c
+    × Phase (each pairsAt v) (3 * v) (graphOf inputs nodes outputs node-table₀ output-table) scratch₀ t₀ (graphOf inputs nodes outputs node-table output-table) scratch t
 
 abbrev μ-loop : tie.MeasureT-loop
-μ-loop inputs nodes outputs node-table₀ output-table count scratch₀ end c₀ v₀ node-table scratch c v = end - v
+μ-loop inputs nodes outputs node-table₀ output-table scratch₀ end t₀ v₀ node-table scratch t v = end - v
 
 loop-holds : tie.Need-loop-holds Inv-loop μ-loop
 loop-holds c = let s = c .before .before .before in (omega arith, refl, refl, each-none pairsAt _ _ _ (s .pre .0) (s .pre .1))
 
 pair-calls-at-requires : tie.Need-pair-calls-at-requires Inv-loop μ-loop
-pair-calls-at-requires c κs = let l = c .before .before .before in (l .loop .inv .3 .ordered, omega arith, l .loop .inv .3 .count)
+pair-calls-at-requires c κs =
+    let l = c .before .before .before in
+    let s = l .before .before .before .before in
+    let i = l .loop .inv .3 in
+    let n = s .pre .0 .admitted .few-nodes in
+    (i .ordered, omega arith, i .count, record { low = omega (arith, i .few, s .pre .2 .low, n); low-after = omega (arith, i .few-after, s .pre .2 .low-after, n) })
 
 loop-again : tie.Need-loop-again Inv-loop μ-loop
 loop-again c =
     let t = c .before .before .before .before in
     let l = t .before .before .before .before in
-    (omega arith, refl, t .pair-calls-at .kept .1 .1 .1 .0 ∙ l .loop .inv .2, each-more pairsAt _ _ (l .loop .v) _ _ _ _ _ _ (l .loop .inv .3) (t .pair-calls-at .ensures))
+    (omega arith, refl, t .pair-calls-at .kept .1 .1 .1 .0 ∙ l .loop .inv .2, let e : 3 * (l .loop .v + 1) ≡ 3 * l .loop .v + 3 = omega arith in rw e (each-more pairsAt _ _ (l .loop .v) (3 * l .loop .v) 3 _ _ _ _ _ _ _ (l .loop .inv .3) (t .pair-calls-at .ensures)))
 
 same-length : tie.Need-same-length Inv-loop μ-loop
 same-length c = c .before .loop .inv .2

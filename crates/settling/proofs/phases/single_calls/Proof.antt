@@ -6,29 +6,34 @@ use lib.ListN.{length}
 use Rattle.graph.specs.Graph.{graphOf}
 use Rattle.rounds.specs.Round.{each, nodeAt}
 use Rattle.settling.specs.Phase.{Phase}
-use Rattle.settling.proofs.Stepping.{each-none, each-more, node-phase}
+use Rattle.settling.proofs.Stepping.{each-none, each-more}
 use Rattle.settling.proofs.phases.single_calls.Statement.{statement}
 use Rattle.settling.proofs.phases.single_calls.Tie as tie
 
 abbrev Inv-loop : tie.InvT-loop
-Inv-loop inputs nodes outputs node-table₀ output-table count scratch₀ end c₀ v₀ node-table scratch c v =
+Inv-loop inputs nodes outputs node-table₀ output-table scratch₀ end t₀ v₀ node-table scratch t v =
     (v ≤ nodes) × (end ≡ nodes) × (length node-table ≡ length node-table₀)
-    × Phase (each nodeAt v) (graphOf inputs nodes outputs node-table₀ output-table) scratch₀ (graphOf inputs nodes outputs node-table output-table) scratch c
+    × Phase (each nodeAt v) v (graphOf inputs nodes outputs node-table₀ output-table) scratch₀ t₀ (graphOf inputs nodes outputs node-table output-table) scratch t
 
 abbrev μ-loop : tie.MeasureT-loop
-μ-loop inputs nodes outputs node-table₀ output-table count scratch₀ end c₀ v₀ node-table scratch c v = end - v
+μ-loop inputs nodes outputs node-table₀ output-table scratch₀ end t₀ v₀ node-table scratch t v = end - v
 
 loop-holds : tie.Need-loop-holds Inv-loop μ-loop
 loop-holds c = let s = c .before .before .before in (omega arith, refl, refl, each-none nodeAt _ _ _ (s .pre .0) (s .pre .1))
 
-node-step-requires : tie.Need-node-step-requires Inv-loop μ-loop
-node-step-requires c κs = let l = c .before .before .before in (l .loop .inv .3 .ordered, omega arith, l .loop .inv .3 .count)
+node-call-at-requires : tie.Need-node-call-at-requires Inv-loop μ-loop
+node-call-at-requires c κs =
+    let l = c .before .before .before in
+    let s = l .before .before .before .before in
+    let i = l .loop .inv .3 in
+    let n = s .pre .0 .admitted .few-nodes in
+    (i .ordered, omega arith, i .count, record { low = omega (arith, i .few, s .pre .2 .low, n); low-after = omega (arith, i .few-after, s .pre .2 .low-after, n) })
 
 loop-again : tie.Need-loop-again Inv-loop μ-loop
 loop-again c =
     let t = c .before .before .before .before in
     let l = t .before .before .before .before in
-    (omega arith, refl, t .node-step .kept .1 .1 .1 .0 ∙ l .loop .inv .2, each-more nodeAt _ _ (l .loop .v) _ _ _ _ _ _ (l .loop .inv .3) (node-phase _ _ (l .loop .inv .3 .ordered) (l .loop .v) (omega arith) _ _ _ (t .node-step .ensures)))
+    (omega arith, refl, t .node-call-at .kept .1 .1 .1 .0 ∙ l .loop .inv .2, each-more nodeAt _ _ (l .loop .v) (l .loop .v) 1 _ _ _ _ _ _ _ (l .loop .inv .3) (t .node-call-at .ensures))
 
 same-length : tie.Need-same-length Inv-loop μ-loop
 same-length c = c .before .loop .inv .2
@@ -49,7 +54,7 @@ single-calls-spec =
     Inv-loop
     μ-loop
     loop-holds
-    node-step-requires
+    node-call-at-requires
     (λ c. omega arith)
     (λ c. omega arith)
     loop-again

@@ -11,12 +11,12 @@ use Rattle.settling.proofs.phases.tree_calls.Statement.{statement}
 use Rattle.settling.proofs.phases.tree_calls.Tie as tie
 
 abbrev Inv-loop : tie.InvT-loop
-Inv-loop inputs nodes outputs node-table₀ output-table count scratch₀ end c₀ left₀ node-table scratch c left =
+Inv-loop inputs nodes outputs node-table₀ output-table scratch₀ end t₀ left₀ node-table scratch t left =
     (left ≤ nodes) × (end ≡ nodes) × (length node-table ≡ length node-table₀)
-    × Phase (each (treeAt (length scratch₀)) (nodes - left)) (graphOf inputs nodes outputs node-table₀ output-table) scratch₀ (graphOf inputs nodes outputs node-table output-table) scratch c
+    × Phase (each (treeAt (length scratch₀)) (nodes - left)) (nodes - left) (graphOf inputs nodes outputs node-table₀ output-table) scratch₀ t₀ (graphOf inputs nodes outputs node-table output-table) scratch t
 
 abbrev μ-loop : tie.MeasureT-loop
-μ-loop inputs nodes outputs node-table₀ output-table count scratch₀ end c₀ left₀ node-table scratch c left = left
+μ-loop inputs nodes outputs node-table₀ output-table scratch₀ end t₀ left₀ node-table scratch t left = left
 
 loop-holds : tie.Need-loop-holds Inv-loop μ-loop
 loop-holds c =
@@ -25,7 +25,12 @@ loop-holds c =
     (omega arith, refl, refl, rw e (each-none (treeAt _) _ _ _ (s .pre .0) (s .pre .1)))
 
 tree-call-at-requires : tie.Need-tree-call-at-requires Inv-loop μ-loop
-tree-call-at-requires c κs = let l = c .before .before .before in (l .loop .inv .3 .ordered, omega arith, l .loop .inv .3 .count)
+tree-call-at-requires c κs =
+    let l = c .before .before .before in
+    let s = l .before .before .before .before in
+    let i = l .loop .inv .3 in
+    let n = s .pre .0 .admitted .few-nodes in
+    (i .ordered, omega arith, i .count, record { low = omega (arith, i .few, s .pre .2 .low, n); low-after = omega (arith, i .few-after, s .pre .2 .low-after, n) })
 
 loop-again : tie.Need-loop-again Inv-loop μ-loop
 loop-again c =
@@ -34,7 +39,7 @@ loop-again c =
     let a = l .before .before .before .before .args in
     let n : ℕ = a .nodes - l .loop .left in
     let e : a .nodes - (l .loop .left - 1) ≡ n + 1 = omega arith in
-    (omega arith, refl, t .tree-call-at .kept .1 .1 .1 .0 ∙ l .loop .inv .2, rw e (each-more (treeAt (length (a .scratch .now))) _ _ n _ _ _ _ _ _ (l .loop .inv .3) (rw (l .loop .inv .3 .long) at (t .tree-call-at .ensures))))
+    (omega arith, refl, t .tree-call-at .kept .1 .1 .1 .0 ∙ l .loop .inv .2, rw e (each-more (treeAt (length (a .scratch .now))) _ _ n n 1 _ _ _ _ _ _ _ (l .loop .inv .3) (rw (l .loop .inv .3 .long) at (t .tree-call-at .ensures))))
 
 same-length : tie.Need-same-length Inv-loop μ-loop
 same-length c = c .before .loop .inv .2

@@ -1,6 +1,7 @@
 -- `move_pair` makes both moves of a pair: one after the other they are the pair's choice.
 use Rattle.graph.specs.Graph.{Graph, graphOf}
 use Rattle.state.proofs.Pairs.{still-fits, still-counts, pair-made}
+use Rattle.state.proofs.Parting.{same-parted}
 use borrow.Author.Needs.{needs}
 use Rattle.state.proofs.moving.move_pair.Statement.{statement}
 use Rattle.state.proofs.moving.move_pair.Tie as tie
@@ -35,9 +36,11 @@ returns c =
     let r = f .make-move in
     let q = t .make-move2 in
     let g₁ = graphOf (a .inputs) (a .nodes) (a .outputs) (r .last .1 .1 .1 .0) (a .output-table .now) in
-    let g₂ = graphOf (a .inputs) (a .nodes) (a .outputs) (q .last .1 .1 .1 .0) (a .output-table .now) in
-    pair-made (graph-of s) (a .scratch .now) (s .pre .0) (a .p) (a .v) (s .pre .1) (s .pre .2) (m .result .named) (m .result .node) (m .ensures .0) (m .ensures .1)
-    g₁ (r .last .1 .1 .1 .1 .1 .1 .1 .1 .0) (r .result) (r .ensures) (m .ensures .2) g₂ (q .last .1 .1 .1 .1 .1 .1 .1 .1 .0) (q .result) (q .ensures)
+    let g₂ = graphOf (a .inputs) (a .nodes) (a .outputs) (q .last .1 .1 .1 .0) (a .output-table .now) in (
+      pair-made (graph-of s) (a .scratch .now) (s .pre .0) (a .p) (a .v) (s .pre .1) (s .pre .2) (m .result .named) (m .result .node) (m .ensures .0) (m .ensures .1)
+          g₁ (r .last .1 .1 .1 .1 .1 .1 .1 .1 .0) (r .result) (r .ensures) (m .ensures .2) g₂ (q .last .1 .1 .1 .1 .1 .1 .1 .1 .0) (q .result) (q .ensures),
+      same-parted _ _ (q .result) (m .ensures .3),
+    )
 
 pub move-pair-spec : {M : Type 1} → statement M
 move-pair-spec =

@@ -8,6 +8,7 @@ use Rattle.moves.specs.Decide.{naming}
 use Rattle.moves.proofs.Deciding.{naming-le}
 use Rattle.state.proofs.Counting.{counted-now}
 use Rattle.state.proofs.Pairs.{pair-fits, best-pair}
+use Rattle.state.proofs.Parting.{pair-parted}
 use borrow.Author.Needs.{needs}
 use Rattle.state.proofs.moving.pair_moves.Statement.{statement}
 use Rattle.state.proofs.moving.pair_moves.Tie as tie
@@ -30,20 +31,39 @@ first-pair-requires c κs =
       λ i. subst (λ w. getD w i 0 ≤ 1) (sym (which-are c)) (naming-le g (a .v) (node g (a .p)) i),
     )
 
+pair-odds-requires : tie.Need-pair-odds-requires
+pair-odds-requires c κs =
+    let m = c .before .before in
+    let n = m .before in
+    let s = n .before .before .before .before in
+    let a = s .args in
+    let g = graph-of s in (
+      counted-now g (a .scratch .now) (s .pre .0) (a .p) (omega (arith, s .pre .1, s .pre .2)) (n .numbers-now .result) (n .numbers-now .ensures),
+      counted-now g (a .scratch .now) (s .pre .0) (a .v) (s .pre .2) (m .numbers-now2 .result) (m .numbers-now2 .ensures),
+      c .first-pair .ensures .below,
+      c .first-pair .ensures .fits,
+    )
+
 returns : tie.Need-returns
 returns c =
-    let w = c .before in
+    let f = c .before in
+    let w = f .before in
     let m = w .before in
     let n = m .before in
     let s = n .before .before .before .before in
     let a = s .args in
+    let k = f .first-pair .result in
     let fits =
     pair-fits (graph-of s) (a .scratch .now) (s .pre .0) (a .p) (a .v) (s .pre .1) (s .pre .2) (n .numbers-now .result) (m .numbers-now2 .result) (w .which-name .result)
-    (n .numbers-now .ensures) (m .numbers-now2 .ensures) (which-are w) (c .first-pair .result .named) (c .first-pair .result .node) (c .first-pair .ensures) in (
+    (n .numbers-now .ensures) (m .numbers-now2 .ensures) (which-are w) (k .named) (k .node) (f .first-pair .ensures) in
+    let best =
+    best-pair (graph-of s) (a .scratch .now) (s .pre .0) (a .p) (a .v) (s .pre .1) (s .pre .2) (n .numbers-now .result) (m .numbers-now2 .result) (w .which-name .result)
+    (n .numbers-now .ensures) (m .numbers-now2 .ensures) (which-are w) (k .named) (k .node) (f .first-pair .ensures) in (
       fits .0,
       fits .1,
-      best-pair (graph-of s) (a .scratch .now) (s .pre .0) (a .p) (a .v) (s .pre .1) (s .pre .2) (n .numbers-now .result) (m .numbers-now2 .result) (w .which-name .result)
-          (n .numbers-now .ensures) (m .numbers-now2 .ensures) (which-are w) (c .first-pair .result .named) (c .first-pair .result .node) (c .first-pair .ensures),
+      best,
+      pair-parted (graph-of s) (a .scratch .now) (s .pre .0) (a .p) (a .v) (s .pre .1) (s .pre .2) (n .numbers-now .result) (m .numbers-now2 .result) (w .which-name .result)
+          (n .numbers-now .ensures) (m .numbers-now2 .ensures) (which-are w) (k .named) (k .node) best (c .pair-odds .result) (c .pair-odds .ensures) 0,
     )
 
 pub pair-moves-spec : {M : Type 1} → statement M
@@ -57,4 +77,5 @@ pair-moves-spec =
     (λ c. search needs)
     (λ c κs. search needs)
     first-pair-requires
+    pair-odds-requires
     returns)

@@ -1,4 +1,5 @@
 -- `pair_step` is the pair call at a word that the node has: it names a node below, or none.
+use mathlib.Core.Path.{refl}
 use Prim.Native.Nat.{_+_, _-_, _*_, _/_, _≤_, _<_}
 use native.Mathlib.Omega.{arith}
 use lib.ListN.{length, getD}
@@ -46,7 +47,7 @@ returns c =
     let x = c .before .index-at in
     let s = c .before .before .before .before .before .before in
     let a = s .args in
-    pair-none (graph-of s) (a .scratch .now) (s .pre .0) (a .v) (a .k) (s .pre .1) (omega (arith, x .ensures, c .if1 .taken)) (a .count) (s .pre .3)
+    pair-none (graph-of s) (a .scratch .now) (s .pre .0) (a .v) (a .k) (s .pre .1) (omega (arith, x .ensures, c .if1 .taken)) (record { count = a .count; before = 0; after = 0 }) (s .pre .3) refl refl
 
 move-pair-requires : tie.Need-move-pair-requires
 move-pair-requires c κs =

@@ -13,7 +13,7 @@ tree-step-requires c κs =
     (f .0, n .0, n .1, c .before .before .before .before .before .before .before .before .before .before .complemented .ensures .0 ∙ ap C (sym (f .1)))
 
 returns : tie.Need-returns
-returns c = rewrite-is _ _ _ _ _ _ _ _ _ _ (c .before .before .before .before .before .before .before .before .before .before .before .before .before .before .before .before .before .before .before .before .before .before .before .before .before .before .before .before .before .before .pre .1) (c .before .before .before .before .before .before .before .before .before .before .before .before .before .before .before .before .before .wide .ensures) (c .before .before .before .before .before .before .before .before .before .before .before .before .before .before .before .before .before .before .before .before .fill-scratch .ensures .1) (c .before .before .before .before .before .before .before .before .before .before .before .before .before .tree-step .ensures) (c .before .before .before .before .before .write-out .ensures) (c .before .before .before .before .before .before .before .before .before .before .before .before .before .before .before .before .before .before .before .before .before .before .before .before .complemented .ensures .0) (c .over .ensures)
+returns c = rewrite-is _ _ _ _ _ _ _ _ _ _ (c .before .before .before .before .before .before .before .before .before .before .before .before .before .before .before .before .before .before .before .before .before .before .before .before .before .before .before .before .before .before .pre .1) (c .before .before .before .before .before .before .before .before .before .before .before .before .before .before .before .before .before .wide .ensures) (c .before .before .before .before .before .before .before .before .before .before .before .before .before .before .before .before .before .before .before .before .fill-scratch .ensures .1) (c .before .before .before .before .before .before .before .before .before .before .before .before .before .tree-step .ensures) (c .before .before .before .before .before .write-out .ensures) (c .before .before .before .before .before .before .before .before .before .before .before .before .before .before .before .before .before .before .before .before .before .before .before .before .complemented .ensures .0) (c .saved-by .ensures)
 
 pub rewrite-tree-spec : {M : Type 1} → statement M
 rewrite-tree-spec =

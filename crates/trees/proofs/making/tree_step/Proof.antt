@@ -1,8 +1,9 @@
 -- `tree_step` meets its contract: deciding changes nothing of what the state stands for. From the laws on states.
-use mathlib.Core.Path.{_≡_, sym, ap, _∙_}
+use mathlib.Core.Path.{_≡_, refl, sym, ap, _∙_}
 use mathlib.Core.List.{List}
 use Prim.Native.Nat.{ℕ}
-use Rattle.graph.specs.Graph.{Graph}
+use native.Mathlib.Omega.{arith}
+use Rattle.graph.specs.Graph.{Graph, graphOf}
 use Rattle.graph.specs.Count.{C}
 use Rattle.moves.specs.Tree.{tree}
 use Rattle.moves.specs.Call.{moved, bestAt}
@@ -12,6 +13,7 @@ use Rattle.trees.specs.Costing.{CostsOnly}
 use Rattle.trees.specs.Deciding.{TreeDecided}
 use Rattle.trees.specs.Stepping.{TreeMade}
 use Rattle.trees.proofs.Ready.{ordered-costs, stands-costs, field-kept}
+use Rattle.trees.proofs.Parting.{tree-parted}
 use borrow.Author.Needs.{needs}
 use Rattle.trees.proofs.making.tree_step.Statement.{statement}
 use Rattle.trees.proofs.making.tree_step.Tie as tie
@@ -35,15 +37,43 @@ module _ (g : Graph) (sc sc₁ : List ℕ) (co : CostsOnly sc sc₁) where
         count = mk .count ∙ ap C e;
       }
 
+read-requires : tie.Need-read-requires
+read-requires c κs =
+    let p = c .before .before .before .before .pre in
+    omega (arith, p .1, p .0 .admitted .few-nodes, p .0 .long)
+
 make-moves-requires : tie.Need-make-moves-requires
 make-moves-requires c κs =
-    let p = c .before .before .before .before .before .before .before .before .before .before .pre in
-    let f = c .before .before .before .before .decide-tree .ensures in
+    let d = c .before .before .before .before in
+    let p = d .before .before .before .before .before .before .before .before .pre in
+    let f = d .decide-tree .ensures in
     (ordered-costs _ _ _ (f .1) (p .0), p .1, p .2, same-count _ _ _ (f .1) _ (p .3), same-decided _ _ _ (f .1) _ (f .0))
 
+read-requires-2 : tie.Need-read-requires-2
+read-requires-2 c κs =
+    let m = c .before .before .before .before .before in
+    let d = m .before .before .before .before .before in
+    let p = d .before .before .before .before .before .before .before .before .pre in
+    omega (arith, p .1, p .0 .admitted .few-nodes, m .make-moves .ensures .became .ordered .long)
+
 returns : tie.Need-returns
-returns c = after _ _ _ (c .before .before .before .before .before .before .before .before .before .decide-tree .ensures .1) _ _ _ _ (c .before .before .before .before .make-moves .ensures)
+returns c =
+    let m = c .before .before .before .before .before .before in
+    let d = m .before .before .before .before .before in
+    let r = d .before .before .before in
+    let s = r .before .before .before .before .before in
+    let a = s .args in
+    let made = after _ _ _ (d .decide-tree .ensures .1) _ _ _ _ (m .make-moves .ensures) in
+    (made, tree-parted (graphOf (a .inputs) (a .nodes) (a .outputs) (a .node-table .now) (a .output-table .now)) (a .scratch .now) (s .pre .0) (a .root) (s .pre .1) (s .pre .2) _ _ _ refl refl made _ _ (r .read .ensures) (c .read2 .ensures))
 
 pub tree-step-spec : {M : Type 1} → statement M
 tree-step-spec =
-    tie.close (tie.spec (λ c κs. search needs) make-moves-requires (λ c. search needs) (λ c. search needs) returns)
+    tie.close
+    (tie.spec
+    read-requires
+    (λ c κs. search needs)
+    make-moves-requires
+    read-requires-2
+    (λ c. search needs)
+    (λ c. search needs)
+    returns)
