@@ -1,7 +1,7 @@
 //! Lists of calls, made one after the other on one graph.
 
 use crate::graph::{Graph, Number};
-use crate::moves::{node_call, pair_call, tree_call_by};
+use crate::moves::{node_call, pair_call, tree_call_by, Saving};
 use crate::settling::{settle, Settled, MOST_TRIED};
 use crate::trees::best_within;
 
@@ -15,12 +15,12 @@ pub enum Call {
 
 #[derive(Clone, Copy, Debug, PartialEq, Eq)]
 pub enum Answer {
-    Saving(u32),
+    Saving(Saving),
     Settled(Settled),
     Refused(Number),
 }
 
-fn saving(result: Result<u32, Number>) -> Answer {
+fn saving(result: Result<Saving, Number>) -> Answer {
     match result {
         Ok(saved) => Answer::Saving(saved),
         Err(number) => Answer::Refused(number),

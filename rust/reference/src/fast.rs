@@ -2,7 +2,7 @@
 //! wiring, and a move's effect on C is counted where it turns something. No checks: an admitted graph.
 
 use crate::graph::{adds, index_of, turned, Graph, Place};
-use crate::moves::rows;
+use crate::moves::{rows, Saving};
 use crate::settling::Settled;
 
 pub struct Fast {
@@ -73,44 +73,62 @@ impl Fast {
         places.iter().map(|&place| adds(self.g.at(place))).sum()
     }
 
-    pub fn node_call(&mut self, node: u32) -> u32 {
-        let mut places = self.own(node);
-        places.extend(&self.readers[node as usize]);
-        let before = self.count(&places);
-        let mut least = (before, 0);
+    /// What of C the words of the nodes named are, and what the others that such a call can turn.
+    fn count_both(&self, [own, others]: &[Vec<Place>; 2]) -> [u32; 2] {
+        [self.count(own), self.count(others)]
+    }
+
+    /// What has been saved of these counts since.
+    fn saved(&self, places: &[Vec<Place>; 2], before: [u32; 2]) -> Saving {
+        let after = self.count_both(places);
+        Saving {
+            own: i64::from(before[0]) - i64::from(after[0]),
+            others: i64::from(before[1]) - i64::from(after[1]),
+        }
+    }
+
+    pub fn node_call(&mut self, node: u32) -> Saving {
+        let places = [self.own(node), self.readers[node as usize].clone()];
+        let before = self.count_both(&places);
+        let mut least = (before.iter().sum(), 0);
         for number in 1..rows(&self.g, node).len() {
             self.make(node, number);
-            let c = self.count(&places);
+            let c: u32 = self.count_both(&places).iter().sum();
             self.make(node, number);
             if c < least.0 {
                 least = (c, number);
             }
         }
         self.make(node, least.1);
-        before - least.0
+        self.saved(&places, before)
     }
 
-    pub fn pair_call(&mut self, node: u32, word: u32) -> u32 {
-        let named = index_of(self.g.word(node, word as usize - 1));
-        if named <= self.g.inputs {
-            return 0;
-        }
-        // Every word that either can turn, once: the node's own are the named node's readers at times.
-        let mut places = self.own(named);
-        places.extend(self.own(node));
-        places.extend(&self.readers[node as usize]);
+    /// Every word that a pair can turn, once: the node's own words are the named node's readers at times.
+    fn places_of_pair(&self, named: u32, node: u32) -> [Vec<Place>; 2] {
+        let mut own = self.own(named);
+        own.extend(self.own(node));
+        let mut others = self.readers[node as usize].clone();
         for &place in &self.readers[named as usize] {
             if !matches!(place, Place::OfNode(reader, _) if reader == node) {
-                places.push(place);
+                others.push(place);
             }
         }
-        let before = self.count(&places);
-        let mut least = (before, 0, 0);
+        [own, others]
+    }
+
+    pub fn pair_call(&mut self, node: u32, word: u32) -> Saving {
+        let named = index_of(self.g.word(node, word as usize - 1));
+        if named <= self.g.inputs {
+            return Saving::default();
+        }
+        let places = self.places_of_pair(named, node);
+        let before = self.count_both(&places);
+        let mut least = (before.iter().sum(), 0, 0);
         for first in 0..rows(&self.g, named).len() {
             for second in 0..rows(&self.g, node).len() {
                 self.make(named, first);
                 self.make(node, second);
-                let c = self.count(&places);
+                let c: u32 = self.count_both(&places).iter().sum();
                 self.make(node, second);
                 self.make(named, first);
                 if c < least.0 {
@@ -120,7 +138,7 @@ impl Fast {
         }
         self.make(named, least.1);
         self.make(node, least.2);
-        before - least.0
+        self.saved(&places, before)
     }
 
     /// A word and all below it, the word as its own node's move leaves it.
@@ -170,16 +188,15 @@ impl Fast {
     }
 
     /// The best moves of a tree made: the tree by falling index with the move of each, and what they save.
-    fn make_tree(&mut self, root: u32) -> (Vec<(u32, usize)>, u32) {
+    fn make_tree(&mut self, root: u32) -> (Vec<(u32, usize)>, Saving) {
         let tree = self.trees[root as usize].clone();
         for &node in tree.iter().rev() {
             self.fill_costs(node);
         }
-        let mut places = self.readers[root as usize].clone();
-        for &node in &tree {
-            places.extend(self.own(node));
-        }
-        let before = self.count(&places);
+        // An inner node's only reader is in the tree.
+        let own = tree.iter().flat_map(|&node| self.own(node)).collect();
+        let places = [own, self.readers[root as usize].clone()];
+        let before = self.count_both(&places);
         let mut made = Vec::new();
         for &node in &tree {
             // The nodes above are done and the costs below are those of the words as they were, which a
@@ -188,15 +205,15 @@ impl Fast {
             self.make(node, number);
             made.push((node, number));
         }
-        (made, before - self.count(&places))
+        (made, self.saved(&places, before))
     }
 
-    pub fn tree_call(&mut self, root: u32) -> u32 {
+    pub fn tree_call(&mut self, root: u32) -> Saving {
         self.make_tree(root).1
     }
 
     /// What the tree call saves, and a byte a node with its move. Each move is made once more, which takes it back.
-    pub fn preview(&mut self, root: u32) -> (u32, Vec<u8>) {
+    pub fn preview(&mut self, root: u32) -> (Saving, Vec<u8>) {
         let (made, saved) = self.make_tree(root);
         let mut moves = vec![0; self.g.nodes as usize];
         for (node, number) in made {
@@ -206,8 +223,8 @@ impl Fast {
         (saved, moves)
     }
 
-    fn round(&mut self) -> u32 {
-        let mut saved = 0;
+    fn round(&mut self) -> Saving {
+        let mut saved = Saving::default();
         for node in self.g.node_indices() {
             if self.root[node as usize] {
                 saved += self.tree_call(node);
@@ -226,17 +243,19 @@ impl Fast {
 
     pub fn settle(&mut self) -> Settled {
         let before = self.g.c();
-        let mut after = before;
+        let mut all = Saving::default();
         let mut rounds = 0;
         loop {
             let saved = self.round();
             rounds += 1;
-            after -= saved;
-            if saved == 0 {
+            all += saved;
+            if saved.total() == 0 {
                 return Settled {
                     rounds,
                     before,
-                    after,
+                    after: self.g.c(),
+                    own: all.own,
+                    others: all.others,
                 };
             }
         }

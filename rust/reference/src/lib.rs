@@ -24,4 +24,6 @@ mod aiger_tests;
 #[cfg(test)]
 mod preview_tests;
 #[cfg(test)]
+mod saving_tests;
+#[cfg(test)]
 mod tests;

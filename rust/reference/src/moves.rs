@@ -1,6 +1,51 @@
 //! The six rows, and the node, pair and tree calls by trying every list of moves.
 
-use crate::graph::{admit, index_of, Graph, Number, Place};
+use std::ops::AddAssign;
+
+use crate::graph::{adds, admit, index_of, Graph, Number, Place};
+
+/// What a call saves: over the words of the nodes that it names, and over all other edges.
+#[derive(Clone, Copy, Debug, Default, PartialEq, Eq)]
+pub struct Saving {
+    pub own: i64,
+    pub others: i64,
+}
+
+impl Saving {
+    /// C before less C after.
+    pub fn total(self) -> i64 {
+        self.own + self.others
+    }
+}
+
+impl AddAssign for Saving {
+    fn add_assign(&mut self, more: Saving) {
+        self.own += more.own;
+        self.others += more.others;
+    }
+}
+
+/// What of C the words of these nodes make up, and what all other edges.
+fn parts(g: &Graph, nodes: &[u32]) -> Saving {
+    let mut counted = Saving::default();
+    for place in g.edges() {
+        let odd = i64::from(adds(g.at(place)));
+        match place {
+            Place::OfNode(node, _) if nodes.contains(&node) => counted.own += odd,
+            _ => counted.others += odd,
+        }
+    }
+    counted
+}
+
+/// What a call that names these nodes has saved, from the graphs before and after it.
+pub fn saving(before: &Graph, after: &Graph, nodes: &[u32]) -> Saving {
+    let (old, new) = (parts(before, nodes), parts(after, nodes));
+    Saving {
+        own: old.own - new.own,
+        others: old.others - new.others,
+    }
+}
 
 /// What a move turns: words 1 to 3, and every reader.
 pub struct Row {
@@ -92,13 +137,13 @@ pub fn how_many(g: &Graph, nodes: &[u32]) -> Option<u64> {
     })
 }
 
-fn make_best(g: &mut Graph, nodes: &[u32], list: &[usize]) -> u32 {
-    let before = g.c();
+fn make_best(g: &mut Graph, nodes: &[u32], list: &[usize]) -> Saving {
+    let before = g.clone();
     *g = after(g, nodes, list);
-    before - g.c()
+    saving(&before, g, nodes)
 }
 
-pub fn node_call(g: &mut Graph, node: u32) -> Result<u32, Number> {
+pub fn node_call(g: &mut Graph, node: u32) -> Result<Saving, Number> {
     admit(g)?;
     if !g.is_node(node) {
         return Err(7);
@@ -107,14 +152,14 @@ pub fn node_call(g: &mut Graph, node: u32) -> Result<u32, Number> {
     Ok(make_best(g, &[node], &list))
 }
 
-pub fn pair_call(g: &mut Graph, node: u32, word: u32) -> Result<u32, Number> {
+pub fn pair_call(g: &mut Graph, node: u32, word: u32) -> Result<Saving, Number> {
     admit(g)?;
     if !g.is_node(node) || word < 1 || word as usize > g.words_of(node) {
         return Err(7);
     }
     let named = index_of(g.word(node, word as usize - 1));
     if !g.is_node(named) {
-        return Ok(0);
+        return Ok(Saving::default());
     }
     let list = best(g, &[named, node]);
     Ok(make_best(g, &[named, node], &list))
@@ -190,7 +235,7 @@ pub fn check_scratch(g: &Graph, scratch: usize) -> Result<(), Number> {
 }
 
 /// The tree call by trying everything.
-pub fn tree_call(g: &mut Graph, root: u32, scratch: usize) -> Result<u32, Number> {
+pub fn tree_call(g: &mut Graph, root: u32, scratch: usize) -> Result<Saving, Number> {
     check_tree_call(g, root, scratch)?;
     let nodes = tree(g, root);
     let list = best(g, &nodes);
@@ -203,7 +248,7 @@ pub fn tree_call_by(
     root: u32,
     scratch: usize,
     find: &dyn Fn(&Graph, &[u32]) -> Vec<usize>,
-) -> Result<u32, Number> {
+) -> Result<Saving, Number> {
     check_tree_call(g, root, scratch)?;
     let nodes = tree(g, root);
     let list = find(g, &nodes);

@@ -1,7 +1,7 @@
 //! What a tree call would do, told without doing it.
 
 use crate::graph::{check_limits, check_tables, Graph, Number};
-use crate::moves::{after, check_tree_call, tree};
+use crate::moves::{after, check_tree_call, saving, tree, Saving};
 use crate::settling::MOST_TRIED;
 use crate::trees::best_within;
 
@@ -22,7 +22,7 @@ pub fn preview_by(
     scratch: usize,
     moves: &mut [u8],
     find: &dyn Fn(&Graph, &[u32]) -> Vec<usize>,
-) -> Result<u32, Number> {
+) -> Result<Saving, Number> {
     check_preview(g, root, scratch, moves.len())?;
     let nodes = tree(g, root);
     let list = find(g, &nodes);
@@ -30,12 +30,12 @@ pub fn preview_by(
         let chosen = nodes.iter().position(|&other| other == node);
         moves[(node - g.inputs - 1) as usize] = chosen.map_or(0, |at| list[at] as u8);
     }
-    Ok(g.c() - after(g, &nodes, &list).c())
+    Ok(saving(g, &after(g, &nodes, &list), &nodes))
 }
 
 /// What the tree call at a root would save, given so many words of scratch. The first bytes are filled with
 /// each node's move, 0 outside the tree; refused, the bytes are left alone.
-pub fn preview(g: &Graph, root: u32, scratch: usize, moves: &mut [u8]) -> Result<u32, Number> {
+pub fn preview(g: &Graph, root: u32, scratch: usize, moves: &mut [u8]) -> Result<Saving, Number> {
     let find = |g: &Graph, nodes: &[u32]| best_within(MOST_TRIED, g, nodes);
     preview_by(g, root, scratch, moves, &find)
 }

@@ -1,14 +1,18 @@
 use crate::fast::Fast;
 use crate::generate::{graph, small, with_tails, Shape};
 use crate::graph::{Graph, MARK};
-use crate::moves::{best, how_many, is_root, make, tree, tree_call, tree_call_by};
+use crate::moves::{best, how_many, is_root, make, tree, tree_call, tree_call_by, Saving};
 use crate::preview::{preview, preview_by};
 use crate::random::Random;
 use crate::trees::best_of_tree;
 use crate::vectors::samples::of;
 
+fn both(own: i64, others: i64) -> Saving {
+    Saving { own, others }
+}
+
 /// What a preview at a root tells, with just enough bytes and scratch.
-fn told(g: &Graph, root: u32) -> (u32, Vec<u8>) {
+fn told(g: &Graph, root: u32) -> (Saving, Vec<u8>) {
     let mut moves = vec![77; g.nodes as usize];
     let saving = preview(g, root, 8 * g.nodes as usize, &mut moves);
     (saving.unwrap(), moves)
@@ -16,45 +20,63 @@ fn told(g: &Graph, root: u32) -> (u32, Vec<u8>) {
 
 #[test]
 fn worked_graphs() {
-    assert_eq!(told(&of(3, &[[3, 5, 7]], &[9]), 4), (4, vec![1]));
+    assert_eq!(told(&of(3, &[[3, 5, 7]], &[9]), 4), (both(3, 1), vec![1]));
     let p2 = of(5, &[[3, 5, 6], [13, 8, 11]], &[14]);
-    assert_eq!(told(&p2, 7), (2, vec![1, 0]));
+    assert_eq!(told(&p2, 7), (both(2, 0), vec![1, 0]));
     let p3 = of(5, &[[3, 5, 6], [12, 9, 10]], &[15]);
-    assert_eq!(told(&p3, 7), (2, vec![1, 1]));
+    assert_eq!(told(&p3, 7), (both(1, 1), vec![1, 1]));
     let p8 = of(2, &[[2, 2, 5]], &[6]);
-    assert_eq!(told(&p8, 3), (0, vec![0]));
+    assert_eq!(told(&p8, 3), (both(0, 0), vec![0]));
     let p9 = of(3, &[[3, 5, 6]], &[9, 8]);
-    assert_eq!(told(&p9, 4), (1, vec![1]));
+    assert_eq!(told(&p9, 4), (both(1, 0), vec![1]));
 }
 
 #[test]
 fn moves_of_xor() {
-    assert_eq!(told(&of(2, &[[2, 4, MARK]], &[6]), 3), (0, vec![0]));
-    assert_eq!(told(&of(2, &[[3, 5, MARK]], &[6]), 3), (2, vec![1]));
-    assert_eq!(told(&of(2, &[[3, 4, MARK]], &[7]), 3), (2, vec![2]));
-    assert_eq!(told(&of(2, &[[2, 5, MARK]], &[7]), 3), (2, vec![3]));
+    assert_eq!(
+        told(&of(2, &[[2, 4, MARK]], &[6]), 3),
+        (both(0, 0), vec![0])
+    );
+    assert_eq!(
+        told(&of(2, &[[3, 5, MARK]], &[6]), 3),
+        (both(2, 0), vec![1])
+    );
+    assert_eq!(
+        told(&of(2, &[[3, 4, MARK]], &[7]), 3),
+        (both(1, 1), vec![2])
+    );
+    assert_eq!(
+        told(&of(2, &[[2, 5, MARK]], &[7]), 3),
+        (both(1, 1), vec![3])
+    );
     // No move lowers C; 1 and 2 keep it, and are not taken.
-    assert_eq!(told(&of(2, &[[3, 4, MARK]], &[6]), 3), (0, vec![0]));
+    assert_eq!(
+        told(&of(2, &[[3, 4, MARK]], &[6]), 3),
+        (both(0, 0), vec![0])
+    );
     // Nothing reads it.
-    assert_eq!(told(&of(2, &[[3, 5, MARK]], &[]), 3), (2, vec![1]));
+    assert_eq!(told(&of(2, &[[3, 5, MARK]], &[]), 3), (both(2, 0), vec![1]));
     // The one choice that leaves no complemented edge: an edge that two moves turn ends as it was.
     let four = [[3, 4, MARK], [7, 5, MARK], [8, 5, MARK], [10, 5, MARK]];
-    assert_eq!(told(&of(2, &four, &[13]), 6), (6, vec![2, 3, 1, 3]));
+    assert_eq!(
+        told(&of(2, &four, &[13]), 6),
+        (both(5, 1), vec![2, 3, 1, 3])
+    );
 }
 
 /// Node 4 is a root that node 6 reads; node 5 is of node 6's tree.
 #[test]
 fn trees_beside_each_other() {
     let g = of(3, &[[3, 5, 7], [3, 5, MARK], [10, 8, 4]], &[9, 12]);
-    assert_eq!(told(&g, 4), (3, vec![1, 0, 0]));
-    assert_eq!(told(&g, 6), (2, vec![0, 1, 0]));
+    assert_eq!(told(&g, 4), (both(3, 0), vec![1, 0, 0]));
+    assert_eq!(told(&g, 6), (both(2, 0), vec![0, 1, 0]));
 }
 
 #[test]
 fn later_bytes_stay() {
     let p2 = of(5, &[[3, 5, 6], [13, 8, 11]], &[14]);
     let mut moves = [9; 4];
-    assert_eq!(preview(&p2, 7, 16, &mut moves), Ok(2));
+    assert_eq!(preview(&p2, 7, 16, &mut moves), Ok(both(2, 0)));
     assert_eq!(moves, [1, 0, 9, 9]);
 }
 
@@ -79,7 +101,7 @@ fn refusals_in_order() {
         refused(&g, not, 15, 2, 7);
     }
     refused(&g, 7, 15, 2, 8);
-    assert_eq!(preview(&g, 7, 16, &mut [9; 2]), Ok(2));
+    assert_eq!(preview(&g, 7, 16, &mut [9; 2]), Ok(both(2, 0)));
     let no_nodes = of(1, &[], &[3]);
     refused(&no_nodes, 1, 0, 0, 7);
     refused(&no_nodes, 2, 0, 0, 7);

@@ -24,7 +24,10 @@ fn of(inputs: u32, nodes: &[[u32; 3]], outputs: &[u32]) -> Graph {
 fn goes(mut before: Graph, call: Call, after: Graph, from: u32, to: u32) {
     assert_eq!(before.c(), from);
     let scratch = 8 * before.nodes as usize;
-    assert_eq!(step(&mut before, call, scratch), Answer::Saving(from - to));
+    match step(&mut before, call, scratch) {
+        Answer::Saving(saved) => assert_eq!(saved.total(), i64::from(from) - i64::from(to)),
+        other => panic!("{other:?}"),
+    }
     assert_eq!(before, after);
     assert_eq!(before.c(), to);
 }
@@ -87,7 +90,13 @@ fn p1_to_p10() {
     );
     for output in [3, 1] {
         let mut no_nodes = of(1, &[], &[output]);
-        let settled = Settled { rounds: 1, before: 1, after: 1 };
+        let settled = Settled {
+            rounds: 1,
+            before: 1,
+            after: 1,
+            own: 0,
+            others: 0,
+        };
         assert_eq!(settle(&mut no_nodes, 0), Ok(settled));
         assert_eq!(no_nodes, of(1, &[], &[output]));
     }
@@ -101,7 +110,9 @@ fn the_report_of_p1() {
         Ok(Settled {
             rounds: 2,
             before: 4,
-            after: 0
+            after: 0,
+            own: 3,
+            others: 1
         })
     );
     assert_eq!(p1, of(3, &[[2, 4, 6]], &[8]));
@@ -202,7 +213,8 @@ fn the_blunders_of_the_paper() {
     // A pair's turned readers, all of them; the edge between the two is turned twice.
     let mut g = of(2, &[[3, 5, 3], [6, 3, 5]], &[7, 7, 7]);
     let before = g.c();
-    assert_eq!(pair_call(&mut g, 4, 1), Ok(before - g.c()));
+    let saved = pair_call(&mut g, 4, 1).unwrap();
+    assert_eq!(saved.total(), i64::from(before) - i64::from(g.c()));
     // The mark is no complemented edge.
     assert_eq!(complemented_edges(&of(2, &[[2, 4, MARK]], &[6])), Ok(0));
     // A node named twice by one reader is a root.
@@ -357,10 +369,14 @@ fn what_calls_promise() {
             let before = now.clone();
             let answer = step(&mut now, call, 64);
             match answer {
-                Answer::Saving(saved) => assert_eq!(before.c(), now.c() + saved),
+                Answer::Saving(saved) => {
+                    assert_eq!(i64::from(before.c()), i64::from(now.c()) + saved.total());
+                }
                 Answer::Settled(settled) => {
                     assert_eq!((settled.before, settled.after), (before.c(), now.c()));
-                    assert!(settled.rounds <= settled.before - settled.after + 1);
+                    let fall = settled.before - settled.after;
+                    assert_eq!(i64::from(fall), settled.own + settled.others);
+                    assert!(settled.rounds <= fall + 1);
                 }
                 Answer::Refused(_) => assert_eq!(before, now),
             }

@@ -55,34 +55,35 @@ fn decoded(words: &[u32]) -> Option<Call> {
     }
 }
 
-fn told(answer: Answer) -> [u32; 2] {
+/// The number of an answer, 0 where accepted, and both parts of the saving.
+pub fn told(answer: Answer) -> [i64; 3] {
     match answer {
-        Answer::Saving(saved) => [0, saved],
-        Answer::Settled(settled) => [0, settled.before - settled.after],
-        Answer::Refused(number) => [number, 0],
+        Answer::Saving(saved) => [0, saved.own, saved.others],
+        Answer::Settled(settled) => [0, settled.own, settled.others],
+        Answer::Refused(number) => [number.into(), 0, 0],
     }
 }
 
 /// A replay into the tables of `g`: None where it is not made.
-fn replayed(case: &Case, g: &mut Graph, answers: &mut [u32]) -> Option<[u32; 3]> {
+fn replayed(case: &Case, g: &mut Graph, answers: &mut [i64]) -> Option<[u32; 3]> {
     let calls: Option<Vec<Call>> = case.calls.chunks(3).map(decoded).collect();
-    let calls = calls.filter(|calls| 2 * calls.len() <= answers.len())?;
+    let calls = calls.filter(|calls| 3 * calls.len() <= answers.len())?;
     let head = load(&case.bytes, &mut g.node_table, &mut g.output_table).ok()?;
     (g.inputs, g.nodes, g.outputs) = head;
-    for (call, two) in calls.iter().zip(answers.chunks_mut(2)) {
-        two.copy_from_slice(&told(step(g, *call, case.scratch as usize)));
+    for (call, three) in calls.iter().zip(answers.chunks_mut(3)) {
+        three.copy_from_slice(&told(step(g, *call, case.scratch as usize)));
     }
     Some(head.into())
 }
 
 fn listed(line: &mut Line, case: &Case, g: &mut Graph) {
-    let mut answers = vec![SCRATCH; case.result as usize];
+    let mut answers = vec![i64::from(SCRATCH); case.result as usize];
     let done = replayed(case, g, &mut answers);
     line.answer(done.ok_or(1));
     if done.is_none() {
         line.words(&vec![SCRATCH; case.scratch as usize]);
     }
-    line.words(&answers);
+    line.put(answers.len() as u64);
 }
 
 pub fn answer(case: &Case) -> String {

@@ -147,10 +147,10 @@ fn settled_without(g: &Graph, part: u32) -> (u32, Graph) {
             .node_indices()
             .filter(|&node| part != 0 && is_root(g, node))
         {
-            saved += fast.tree_call(node);
+            saved += fast.tree_call(node).total();
         }
         for node in g.node_indices().filter(|_| part != 1) {
-            saved += fast.node_call(node);
+            saved += fast.node_call(node).total();
         }
         for node in g.node_indices().filter(|_| part != 2) {
             let words = if part == 3 {
@@ -159,7 +159,7 @@ fn settled_without(g: &Graph, part: u32) -> (u32, Graph) {
                 g.words_of(node) as u32
             };
             for word in 1..=words {
-                saved += fast.pair_call(node, word);
+                saved += fast.pair_call(node, word).total();
             }
         }
         rounds += 1;
@@ -245,7 +245,7 @@ pub fn list_cases(random: &mut Random) -> Vec<Case> {
         .map(|g| {
             let calls = calls_on(random, g, 20);
             let scratch = (8 * g.nodes).saturating_sub(random.one_in(6) as u32);
-            list_of(g, calls, scratch, 40 + random.below(3))
+            list_of(g, calls, scratch, 60 + random.below(3))
         })
         .collect();
     for way in 0..14 {
@@ -255,7 +255,7 @@ pub fn list_cases(random: &mut Random) -> Vec<Case> {
             1 => drop(case.calls.pop()),
             2 => case.calls[57] = 4,
             3 => case.calls[0] = MARK,
-            4 => case.result = 39,
+            4 => case.result = 59,
             5 => case.result = 0,
             6 => drop(case.bytes.pop()),
             7 => case.bytes.push(0),

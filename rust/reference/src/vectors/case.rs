@@ -62,7 +62,7 @@ impl Case {
     pub fn as_list(&self) -> Option<Case> {
         let calls = self.call()?.to_vec();
         admit(&self.g).ok()?;
-        Some(list_of(&self.g, calls, self.scratch, 2))
+        Some(list_of(&self.g, calls, self.scratch, 3))
     }
 
     /// The case as bytes, within the space that the program has.

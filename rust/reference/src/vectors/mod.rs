@@ -4,8 +4,8 @@
 //!
 //! A line has the answer's number (0 where it is accepted), three values of the answer, 0 where it has none, and then slices, each
 //! by its length and a checksum: the bytes and both tables. The field op shows the payload before all this, and writing the length
-//! after the values. A list of calls shows its answers there; one that is not replayed has the number 1, and shows scratch before
-//! the answers.
+//! after the values. A list of calls shows how many words of answers it has there. A list that is not replayed has the number 1, and shows
+//! scratch before that.
 //!
 //! The program makes a node, pair, tree or settling call as a list of one; on graphs that no file has, with scratch looked at after a
 //! refusal, and evaluation, the same cases are run through the C interface, by rust/differential.
