@@ -16,12 +16,14 @@ int main(void)
     uint32_t outputs[1] = {9};
     uint32_t scratch[REDUCER_SETTLE_SCRATCH(1)];
     uint32_t figures[3];
-    uint32_t number = reducer_settle(3, 1, 1, nodes, 3, outputs, 1, scratch, REDUCER_SETTLE_SCRATCH(1), figures);
+    int64_t savings[2];
+    uint32_t number = reducer_settle(3, 1, 1, nodes, 3, outputs, 1, scratch, REDUCER_SETTLE_SCRATCH(1), figures, savings);
     if (number != REDUCER_OK) {
         fprintf(stderr, "refused %" PRIu32 "\n", number);
         return 1;
     }
     printf("before %" PRIu32 " after %" PRIu32 " rounds %" PRIu32 "\n", figures[1], figures[2], figures[0]);
+    printf("own %" PRId64 " others %" PRId64 "\n", savings[0], savings[1]);
     printf("node %" PRIu32 " %" PRIu32 " %" PRIu32 " out %" PRIu32 "\n", nodes[0], nodes[1], nodes[2], outputs[0]);
     return 0;
 }

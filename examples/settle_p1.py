@@ -14,6 +14,7 @@ graph = panjerov.Graph(3, [3, 5, 7], [9])
 before = graph.evaluate([0xF0, 0xCC, 0xAA])
 settled = graph.settle()
 print(f"before {settled.before} after {settled.after} rounds {settled.rounds}")
+print(f"own {settled.own} others {settled.others}")
 print(f"node {graph.nodes} out {graph.outputs}")
 assert graph.evaluate([0xF0, 0xCC, 0xAA]) == before
 assert panjerov.load(graph.write()) == graph

@@ -4,7 +4,7 @@
  * Link the static library that `rt staticlib reducer` writes, target/staticlib/libreducer.a. It needs no other library,
  * keeps no state, allocates nothing and may be called from several threads on tables of their own. Proved, for all bytes, words
  * and numbers, is what is said here of answers: the number returned, and what then stands in the tables, results, moves, buffer
- * and answers, at the last pointer and, after a refusal, in scratch. The rest of this page is not part of the proof.
+ * and answers, at the last pointer or pointers and, after a refusal, in scratch. The rest of this page is not part of the proof.
  *
  * The graph
  *
@@ -17,18 +17,23 @@
  *
  * What a call answers
  *
- *   Every function returns 0 or the number of a refusal, below. What it answers beside that goes through its last pointer.
- *   A refused call has changed nothing: tables, scratch, results, moves, buffer, answers and that last number or array are as
- *   they were. The first fault is returned, in the order of the numbers 3, 4, 5, 7, 8, 9; loading meets its file from front to
- *   back, importing its text line by line, each line being tested for 10, 11, 12, 3, 4, 5 in that order, and a replay its calls
- *   and answers before its file.
+ *   Every function returns 0 or the number of a refusal, below. What it answers beside that goes through its last pointer, and
+ *   settling's figures and savings through its last two. A refused call has changed nothing: tables, scratch, results, moves,
+ *   buffer, answers and that last number or those arrays are as they were. The first fault is returned, in the order of the
+ *   numbers 3, 4, 5, 7, 8, 9; loading meets its file from front to back, importing its text line by line, each line being tested
+ *   for 10, 11, 12, 3, 4, 5 in that order, and a replay its calls and answers before its file.
  *   Scratch holds nothing of use before or after a call.
+ *
+ *   A saving is two numbers, of which either may be below 0: how many complemented edges fewer there are, first among the words
+ *   of the nodes that the call names, then among all other edges, words of other nodes and outputs. Together they are the
+ *   complemented edges before less those after. A node call names its node, a pair call its node and the one that the word
+ *   names, a tree call and its preview all nodes of the tree. A call that saves nothing has 0 for both.
  *
  * What a caller owes
  *
  *   A slice is a pointer and a length in elements. The pointer must not be null, even where the length is 0 (the address of
  *   any variable of the type will do), must be aligned for its type, and must be good for so many elements. Slices of one call
- *   must not overlap, and neither may the last pointer's target; two slices that the call only reads may.
+ *   must not overlap, and neither may what the last pointers lead to; two slices that the call only reads may.
  */
 #ifndef REDUCER_H
 #define REDUCER_H
@@ -62,7 +67,7 @@ extern "C" {
 
 /* Words of one call of a list, and of its answer. */
 #define REDUCER_CALL_WORDS 3
-#define REDUCER_ANSWER_WORDS 2
+#define REDUCER_ANSWER_WORDS 3
 
 /* The kinds of calls in a list. */
 enum reducer_kind {
@@ -179,17 +184,17 @@ uint32_t reducer_node(uint32_t inputs, uint32_t nodes, uint32_t outputs,
                       uint32_t *node_table, size_t node_table_length,
                       uint32_t *output_table, size_t output_table_length,
                       uint32_t node,
-                      uint32_t *saving);
+                      int64_t saving[2]);
 
 /*
  * Makes the best moves of a node and of the node that its word 1, 2 or 3 names; a word that names no node changes nothing and
- * saves 0. Refusals: 3, 4, 5, 7.
+ * saves nothing. Refusals: 3, 4, 5, 7.
  */
 uint32_t reducer_pair(uint32_t inputs, uint32_t nodes, uint32_t outputs,
                       uint32_t *node_table, size_t node_table_length,
                       uint32_t *output_table, size_t output_table_length,
                       uint32_t node, uint32_t word,
-                      uint32_t *saving);
+                      int64_t saving[2]);
 
 /*
  * What two moves would save, with nothing changed: named_move at the node that word 1, 2 or 3 of a node names, and node_move at
@@ -212,7 +217,7 @@ uint32_t reducer_tree(uint32_t inputs, uint32_t nodes, uint32_t outputs,
                       uint32_t *output_table, size_t output_table_length,
                       uint32_t root,
                       uint32_t *scratch, size_t scratch_length,
-                      uint32_t *saving);
+                      int64_t saving[2]);
 
 /*
  * Tells what reducer_tree would do at a root, and does none of it: both tables are only read. saving is what reducer_tree would
@@ -226,32 +231,34 @@ uint32_t reducer_preview(uint32_t inputs, uint32_t nodes, uint32_t outputs,
                          uint32_t root,
                          uint8_t *moves, size_t moves_length,
                          uint32_t *scratch, size_t scratch_length,
-                         uint32_t *saving);
+                         int64_t saving[2]);
 
 /*
  * Makes rounds of all tree, node and pair calls until one saves nothing. figures are the rounds made, that last one included,
- * and the complemented edges before and after. Refusals: 3, 4, 5, 8.
+ * and the complemented edges before and after. savings are the sums over all calls of all rounds: of what each saved among the
+ * words of the nodes that it names, and of what it saved among all other edges. Refusals: 3, 4, 5, 8.
  */
 uint32_t reducer_settle(uint32_t inputs, uint32_t nodes, uint32_t outputs,
                         uint32_t *node_table, size_t node_table_length,
                         uint32_t *output_table, size_t output_table_length,
                         uint32_t *scratch, size_t scratch_length,
-                        uint32_t figures[3]);
+                        uint32_t figures[3],
+                        int64_t savings[2]);
 
 /*
  * Loads a tagged file and makes a list of calls on the loaded graph, each on what the one before left. A call is three words:
- * its kind, a node's index and a word, of which those that the kind does not want are not looked at. Its answer is two words
- * at the front of answers: the number that its own function would return, and what it saves, for settling the complemented
- * edges before less those after; a refused call saves 0, changes nothing, and the list goes on. All calls are lent the same
- * scratch. numbers are I, N and O. Refusals: 101, 102, 4 (fewer than two words of answers a call), then those of reducer_load;
- * then no call is made.
+ * its kind, a node's index and a word, of which those that the kind does not want are not looked at. Its answer is three words
+ * at the front of answers: the number that its own function would return, and both numbers of its saving, for settling those of
+ * its savings; a refused call saves nothing, changes nothing, and the list goes on. All calls are lent the same scratch. numbers
+ * are I, N and O. Refusals: 101, 102, 4 (fewer than three words of answers a call), then those of reducer_load; then no call is
+ * made.
  */
 uint32_t reducer_replay(const uint8_t *file, size_t file_length,
                         const uint32_t *calls, size_t calls_length,
                         uint32_t *node_table, size_t node_table_length,
                         uint32_t *output_table, size_t output_table_length,
                         uint32_t *scratch, size_t scratch_length,
-                        uint32_t *answers, size_t answers_length,
+                        int64_t *answers, size_t answers_length,
                         uint32_t numbers[3]);
 
 #ifdef __cplusplus

@@ -25,7 +25,7 @@ from pathlib import Path
 from typing import Iterable, List, NamedTuple, Sequence, Tuple, Type
 
 __all__ = [
-    "Graph", "Preview", "Refused", "Settled", "Told", "load", "import_aiger", "field", "replay",
+    "Graph", "Preview", "Refused", "Saving", "Settled", "Told", "load", "import_aiger", "field", "replay",
     "NODE", "PAIR", "TREE", "SETTLE", "MARK", "MOST_INPUTS", "MOST_NODES", "MOST_OUTPUTS",
 ]
 
@@ -63,18 +63,34 @@ class Refused(Exception):
         self.number = number
 
 
+class Saving(NamedTuple):
+    """What a call saves in complemented edges: own among the words of the nodes that it names (the node, both of a pair, all of a
+    tree), others among all other edges. Either may be below 0."""
+
+    own: int
+    others: int
+
+    @property
+    def total(self) -> int:
+        """What it saves among all edges."""
+        return self.own + self.others
+
+
 class Settled(NamedTuple):
-    """What settling answers: the rounds made, and the complemented edges before and after."""
+    """What settling answers: the rounds made, the complemented edges before and after, and the sums of what its calls saved, each
+    among the words of the nodes that it names and among all other edges."""
 
     rounds: int
     before: int
     after: int
+    own: int
+    others: int
 
 
 class Preview(NamedTuple):
     """What a tree call would save, and a byte a node by rising index: its move there, and 0 outside the tree."""
 
-    saving: int
+    saving: Saving
     moves: bytes
 
 
@@ -82,7 +98,7 @@ class Told(NamedTuple):
     """What a call of a list answers: 0 or the number that refuses it, and what it saves."""
 
     number: int
-    saving: int
+    saving: Saving
 
 
 _ROOT = Path(__file__).resolve().parent.parent
@@ -113,6 +129,7 @@ _library = ctypes.CDLL(str(_link()))
 
 _U32 = ctypes.c_uint32
 _U64 = ctypes.c_uint64
+_I64 = ctypes.c_int64
 _SIZE = ctypes.c_size_t
 _WORDS = [ctypes.c_void_p, _SIZE]
 _GRAPH = [_U32, _U32, _U32] + _WORDS + _WORDS
@@ -137,7 +154,7 @@ _pair = _function("reducer_pair", _GRAPH + [_U32, _U32, ctypes.c_void_p])
 _trial = _function("reducer_trial", _GRAPH + [_U32] * 4 + [ctypes.c_void_p])
 _tree = _function("reducer_tree", _GRAPH + [_U32] + _WORDS + [ctypes.c_void_p])
 _preview = _function("reducer_preview", _GRAPH + [_U32] + _WORDS * 2 + [ctypes.c_void_p])
-_settle = _function("reducer_settle", _GRAPH + _WORDS + [ctypes.c_void_p])
+_settle = _function("reducer_settle", _GRAPH + _WORDS + [ctypes.c_void_p] * 2)
 _replay = _function("reducer_replay", _WORDS * 6 + [ctypes.c_void_p])
 
 
@@ -246,11 +263,11 @@ def replay(file: bytes, calls: Iterable[Sequence[int]]) -> Tuple["Graph", List[T
         raise ValueError("each of calls must be a kind, a node and a word")
     words, count = _numbers([word for call in listed for word in call], _U32, "calls")
     nodes, node_words, outputs, output_words = _room(bytes(file))
-    scratch_words, answer_words = 8 * (node_words // 3), 2 * len(listed)
-    scratch, answers, numbers = _array(_U32, scratch_words), _array(_U32, answer_words), (_U32 * 3)()
+    scratch_words, answer_words = 8 * (node_words // 3), 3 * len(listed)
+    scratch, answers, numbers = _array(_U32, scratch_words), _array(_I64, answer_words), (_U32 * 3)()
     tables = [nodes, node_words, outputs, output_words]
     _accept(_replay(array, length, words, count, *tables, scratch, scratch_words, answers, answer_words, numbers))
-    told = [Told(answers[at], answers[at + 1]) for at in range(0, answer_words, 2)]
+    told = [Told(answers[at], Saving(answers[at + 1], answers[at + 2])) for at in range(0, answer_words, 3)]
     return Graph(numbers[0], nodes[:node_words], outputs[:output_words]), told
 
 
@@ -328,47 +345,47 @@ class Graph:
         _accept(_count(*self._lent(), ctypes.byref(count)))
         return count.value
 
-    def node_call(self, node: int) -> int:
+    def node_call(self, node: int) -> Saving:
         """Makes the best move of one node, given by its index; what it saves."""
-        lent, saving = self._lent(), _U32()
-        _accept(_node(*lent, _number(node, 32, "node"), ctypes.byref(saving)))
+        lent, saving = self._lent(), (_I64 * 2)()
+        _accept(_node(*lent, _number(node, 32, "node"), saving))
         self._take(lent)
-        return saving.value
+        return Saving(*saving)
 
-    def pair_call(self, node: int, word: int) -> int:
+    def pair_call(self, node: int, word: int) -> Saving:
         """Makes the best moves of a node and of the one that its word (1 to 3) names; what they save."""
-        lent, saving = self._lent(), _U32()
-        _accept(_pair(*lent, _number(node, 32, "node"), _number(word, 32, "word"), ctypes.byref(saving)))
+        lent, saving = self._lent(), (_I64 * 2)()
+        _accept(_pair(*lent, _number(node, 32, "node"), _number(word, 32, "word"), saving))
         self._take(lent)
-        return saving.value
+        return Saving(*saving)
 
     def trial(self, node: int, word: int, named_move: int, node_move: int) -> int:
         """What a move at the node that a word (1 to 3) names and one at the node would save; less than 0 where they lose."""
         numbers = [("node", node), ("word", word), ("named_move", named_move), ("node_move", node_move)]
-        gain = ctypes.c_int64()
+        gain = _I64()
         _accept(_trial(*self._lent(), *(_number(value, 32, what) for what, value in numbers), ctypes.byref(gain)))
         return gain.value
 
-    def tree_call(self, root: int) -> int:
+    def tree_call(self, root: int) -> Saving:
         """Makes the best moves of the tree of a root; what they save."""
-        lent, saving = self._lent(), _U32()
+        lent, saving = self._lent(), (_I64 * 2)()
         room = 8 * lent[1]
-        _accept(_tree(*lent, _number(root, 32, "root"), _array(_U32, room), room, ctypes.byref(saving)))
+        _accept(_tree(*lent, _number(root, 32, "root"), _array(_U32, room), room, saving))
         self._take(lent)
-        return saving.value
+        return Saving(*saving)
 
     def preview(self, root: int) -> Preview:
         """What tree_call would save and which moves it would make; the graph stays as it is."""
-        lent, saving = self._lent(), _U32()
+        lent, saving = self._lent(), (_I64 * 2)()
         moves, room = _array(ctypes.c_uint8, lent[1]), 8 * lent[1]
         number = _number(root, 32, "root")
-        _accept(_preview(*lent, number, moves, lent[1], _array(_U32, room), room, ctypes.byref(saving)))
-        return Preview(saving.value, bytes(moves[: lent[1]]))
+        _accept(_preview(*lent, number, moves, lent[1], _array(_U32, room), room, saving))
+        return Preview(Saving(*saving), bytes(moves[: lent[1]]))
 
     def settle(self) -> Settled:
         """Makes rounds of tree, node and pair calls until one saves nothing."""
-        lent, figures = self._lent(), (_U32 * 3)()
+        lent, figures, savings = self._lent(), (_U32 * 3)(), (_I64 * 2)()
         room = 8 * lent[1]
-        _accept(_settle(*lent, _array(_U32, room), room, figures))
+        _accept(_settle(*lent, _array(_U32, room), room, figures, savings))
         self._take(lent)
-        return Settled(*figures)
+        return Settled(*figures, *savings)

@@ -63,6 +63,22 @@ def made(graph: Graph, moves: bytes) -> Graph:
     return Graph(graph.inputs, nodes, [turned(word) for word in graph.outputs])
 
 
+def one_round(graph: Graph) -> list:
+    """What the calls of a round save, each made by itself."""
+    nodes = range(graph.inputs + 1, graph.inputs + 1 + len(graph.nodes) // 3)
+    saved = []
+    for node in nodes:
+        try:
+            saved.append(graph.tree_call(node))
+        except Refused:
+            pass  # no root
+    saved += [graph.node_call(node) for node in nodes]
+    for node in nodes:
+        words = 2 if graph.nodes[3 * (node - graph.inputs - 1) + 2] == MARK else 3
+        saved += [graph.pair_call(node, word) for word in range(1, words + 1)]
+    return saved
+
+
 class Good(unittest.TestCase):
     def test_file_and_back(self) -> None:
         file = p1().write()
@@ -78,26 +94,39 @@ class Good(unittest.TestCase):
     def test_calls(self) -> None:
         graph = p1()
         self.assertEqual(graph.complemented_edges(), 4)
-        self.assertEqual(graph.node_call(4), 4)
+        self.assertEqual(graph.node_call(4), (3, 1))
         self.assertEqual(graph, Graph(3, [2, 4, 6], [8]))
         graph = Graph(5, [3, 5, 6, 12, 9, 10], [15])
-        self.assertEqual(graph.pair_call(7, 1), 2)
+        self.assertEqual(graph.pair_call(7, 1), (1, 1))
         self.assertEqual(graph, Graph(5, [2, 4, 7, 12, 8, 11], [14]))
         graph = Graph(5, [3, 5, 6, 13, 8, 11], [14])
-        self.assertEqual(graph.tree_call(7), 2)
+        self.assertEqual(graph.tree_call(7), (2, 0))
         self.assertEqual(graph, Graph(5, [2, 4, 7, 12, 8, 11], [14]))
+        self.assertEqual(Graph(2, [3, 4, MARK], [7]).node_call(3), (1, 1))
+        self.assertEqual(Graph(3, [3, 5, 6], [9, 8]).node_call(4), (1, 0))
+
+    def test_parts_of_savings(self) -> None:
+        """Either may be below 0; a word of a pair's node that names the other is own; a word that names no node saves nothing."""
+        lost = Graph(3, [2, 4, 7], [9, 9, 9]).node_call(4)
+        self.assertEqual((lost.own, lost.others, lost.total), (-1, 3, 2))
+        self.assertEqual(Graph(3, [3, 5, 7], [8]).tree_call(4), (3, -1))
+        self.assertEqual(Graph(5, [3, 5, 6, 13, 8, 11], [14]).pair_call(7, 1), (2, 0))
+        twice = [3, 5, 0, 7, 7, 2]
+        self.assertEqual(Graph(2, twice, [8, 7]).pair_call(4, 1), (3, 1))
+        self.assertEqual(Graph(2, twice, [8, 7]).node_call(3), (1, 3))
+        self.assertEqual(p1().pair_call(4, 1), (0, 0))
 
     def test_previews(self) -> None:
         graph = Graph(5, [3, 5, 6, 13, 8, 11], [14])
         told = graph.preview(7)
-        self.assertEqual((told.saving, list(told.moves)), (2, [1, 0]))
+        self.assertEqual((told.saving, list(told.moves)), ((2, 0), [1, 0]))
         self.assertEqual(graph, Graph(5, [3, 5, 6, 13, 8, 11], [14]))
-        self.assertEqual(Graph(2, [2, 2, 5], [6]).preview(3), (0, b"\0"))
+        self.assertEqual(Graph(2, [2, 2, 5], [6]).preview(3), ((0, 0), b"\0"))
         xors = Graph(2, [3, 4, MARK, 7, 5, MARK, 8, 5, MARK, 10, 5, MARK], [13])
-        self.assertEqual(xors.preview(6), (6, bytes([2, 3, 1, 3])))
+        self.assertEqual(xors.preview(6), ((5, 1), bytes([2, 3, 1, 3])))
         two_trees = Graph(3, [3, 5, 7, 3, 5, MARK, 10, 8, 4], [9, 12])
-        self.assertEqual(two_trees.preview(4), (3, bytes([1, 0, 0])))
-        self.assertEqual(two_trees.preview(6), (2, bytes([0, 1, 0])))
+        self.assertEqual(two_trees.preview(4), ((3, 0), bytes([1, 0, 0])))
+        self.assertEqual(two_trees.preview(6), ((2, 0), bytes([0, 1, 0])))
 
     def test_previews_are_what_tree_calls_do(self) -> None:
         generator = random.Random(5)
@@ -118,6 +147,7 @@ class Good(unittest.TestCase):
             self.assertEqual(made(graph, told.moves), after)
             accepted += 1
         self.assertGreater(accepted, 500)
+
     def test_trials(self) -> None:
         graph = Graph(5, [3, 5, 6, 12, 9, 10], [15])
         moves = [(0, 0), (0, 1), (1, 0), (1, 1), (0, 2), (2**32 - 1, 1)]
@@ -129,17 +159,42 @@ class Good(unittest.TestCase):
 
     def test_settling(self) -> None:
         graph = p1()
-        self.assertEqual(graph.settle(), (2, 4, 0))
+        self.assertEqual(graph.settle(), (2, 4, 0, 3, 1))
         self.assertEqual(graph, Graph(3, [2, 4, 6], [8]))
-        self.assertEqual(Graph(1, [], [3]).settle(), (1, 1, 1))
-        self.assertEqual(Graph(2, [3, 4, MARK], [7]).settle(), (2, 2, 0))
+        self.assertEqual(Graph(1, [], [3]).settle(), (1, 1, 1, 0, 0))
+        self.assertEqual(Graph(2, [3, 4, MARK], [7]).settle(), (2, 2, 0, 1, 1))
+        # A tree call saves 1 and 1, and then a node call -1 and 3.
+        graph = Graph(3, [3, 4, 6, 3, 5, 8], [9, 9, 11])
+        self.assertEqual(graph.settle(), (2, 6, 2, 0, 4))
+        self.assertEqual(graph, Graph(3, [2, 5, 7, 2, 4, 8], [8, 8, 10]))
+        # Two rounds that lower the count.
+        graph = Graph(2, [4, 5, MARK, 5, 7, 2, 9, 5, 9], [11])
+        self.assertEqual(graph.settle(), (3, 7, 1, 3, 3))
+
+    def test_settling_call_by_call(self) -> None:
+        generator = random.Random(6)
+        lost = 0
+        for _ in range(300):
+            graph = random_graph(generator)
+            settled, single = Graph(graph.inputs, graph.nodes, graph.outputs), Graph(graph.inputs, graph.nodes, graph.outputs)
+            told, sums = settled.settle(), [0, 0]
+            for _ in range(told.rounds):
+                for saving in one_round(single):
+                    sums = [sums[0] + saving.own, sums[1] + saving.others]
+                    lost += min(saving) < 0
+            self.assertEqual((single, sums), (settled, [told.own, told.others]))
+            self.assertEqual(sum(sums), told.before - told.after)
+        self.assertGreater(lost, 50)
 
     def test_replay(self) -> None:
         node, pair, tree, settle = panjerov.NODE, panjerov.PAIR, panjerov.TREE, panjerov.SETTLE
         calls = [(node, 6, 0), (node, 5, 9), (pair, 7, 1), (tree, 7, 0), (settle, 0, 0)]
         graph, told = panjerov.replay(Graph(5, [3, 5, 6, 12, 9, 10], [15]).write(), calls)
         self.assertEqual(graph, Graph(5, [2, 4, 7, 12, 8, 11], [14]))
-        self.assertEqual(told, [(0, 0), (7, 0), (0, 2), (0, 0), (0, 0)])
+        self.assertEqual(told, [(0, (0, 0)), (7, (0, 0)), (0, (1, 1)), (0, (0, 0)), (0, (0, 0))])
+        lost = Graph(3, [2, 4, 7], [9, 9, 9]).write()
+        for first in [(node, 4, 0), (settle, 0, 0)]:
+            self.assertEqual(panjerov.replay(lost, [first, (tree, 4, 0)])[1], [(0, (-1, 3)), (0, (0, 0))])
         self.assertEqual(panjerov.replay(p1().write(), []), (p1(), []))
 
     def test_replay_call_by_call(self) -> None:
@@ -156,13 +211,13 @@ class Good(unittest.TestCase):
                 try:
                     if kind == panjerov.SETTLE:
                         settled = graph.settle()
-                        saving = settled.before - settled.after
+                        saving = (settled.own, settled.others)
                     else:
                         made = [graph.node_call, graph.pair_call, graph.tree_call][kind]
                         saving = made(node, word) if kind == panjerov.PAIR else made(node)
                     self.assertEqual(answer, (0, saving))
                 except Refused as refused:
-                    self.assertEqual(answer, (refused.number, 0))
+                    self.assertEqual(answer, (refused.number, (0, 0)))
             self.assertEqual(after, graph)
 
     def test_aiger(self) -> None:

@@ -2,7 +2,7 @@
 //! left, and a refused call leaves everything.
 
 use crate::raw;
-use crate::{Refusal, ReplayRefusal, Settled, Size};
+use crate::{Refusal, ReplayRefusal, Saving, Settled, Size};
 
 /// The value where the number is 0, else its refusal.
 pub(crate) fn answer<T>(number: u32, value: T) -> Result<T, Refusal> {
@@ -10,6 +10,10 @@ pub(crate) fn answer<T>(number: u32, value: T) -> Result<T, Refusal> {
         0 => Ok(value),
         refused => Err(Refusal::from_number(refused).expect("the library answers 0 to 12")),
     }
+}
+
+fn parted([own, others]: [i64; 2]) -> Saving {
+    Saving { own, others }
 }
 
 /// The payload of the field at the front of the bytes.
@@ -150,8 +154,8 @@ pub fn complemented_edges(size: Size, node_table: &[u32], output_table: &[u32]) 
 }
 
 /// The best move of one node; what it saves.
-pub fn node_call(size: Size, node_table: &mut [u32], output_table: &mut [u32], node: u32) -> Result<u32, Refusal> {
-    let mut saving = 0u32;
+pub fn node_call(size: Size, node_table: &mut [u32], output_table: &mut [u32], node: u32) -> Result<Saving, Refusal> {
+    let mut saving = [0i64; 2];
     let number = unsafe {
         raw::reducer_node(
             size.inputs,
@@ -165,7 +169,7 @@ pub fn node_call(size: Size, node_table: &mut [u32], output_table: &mut [u32], n
             &mut saving,
         )
     };
-    answer(number, saving)
+    answer(number, parted(saving))
 }
 
 /// The best moves of a node and of the one that its word (1 to 3) names; what they save.
@@ -175,8 +179,8 @@ pub fn pair_call(
     output_table: &mut [u32],
     node: u32,
     word: u32,
-) -> Result<u32, Refusal> {
-    let mut saving = 0u32;
+) -> Result<Saving, Refusal> {
+    let mut saving = [0i64; 2];
     let number = unsafe {
         raw::reducer_pair(
             size.inputs,
@@ -191,7 +195,7 @@ pub fn pair_call(
             &mut saving,
         )
     };
-    answer(number, saving)
+    answer(number, parted(saving))
 }
 
 /// What two moves would save: one at the node that a word (1 to 3) of a node names, one at the node; below 0 where they lose.
@@ -229,8 +233,8 @@ pub fn tree_call(
     output_table: &mut [u32],
     root: u32,
     scratch: &mut [u32],
-) -> Result<u32, Refusal> {
-    let mut saving = 0u32;
+) -> Result<Saving, Refusal> {
+    let mut saving = [0i64; 2];
     let number = unsafe {
         raw::reducer_tree(
             size.inputs,
@@ -246,7 +250,7 @@ pub fn tree_call(
             &mut saving,
         )
     };
-    answer(number, saving)
+    answer(number, parted(saving))
 }
 
 /// What [`tree_call`] would save, with each node's move there in the first bytes of `moves`, a byte a node by rising index: 0 outside
@@ -258,8 +262,8 @@ pub fn preview(
     root: u32,
     moves: &mut [u8],
     scratch: &mut [u32],
-) -> Result<u32, Refusal> {
-    let mut saving = 0u32;
+) -> Result<Saving, Refusal> {
+    let mut saving = [0i64; 2];
     let number = unsafe {
         raw::reducer_preview(
             size.inputs,
@@ -277,7 +281,7 @@ pub fn preview(
             &mut saving,
         )
     };
-    answer(number, saving)
+    answer(number, parted(saving))
 }
 
 /// Rounds of tree, node and pair calls until one saves nothing. Scratch is [`crate::scratch_words`] long.
@@ -287,7 +291,7 @@ pub fn settle(
     output_table: &mut [u32],
     scratch: &mut [u32],
 ) -> Result<Settled, Refusal> {
-    let mut figures = [0u32; 3];
+    let (mut figures, mut savings) = ([0u32; 3], [0i64; 2]);
     let number = unsafe {
         raw::reducer_settle(
             size.inputs,
@@ -300,20 +304,23 @@ pub fn settle(
             scratch.as_mut_ptr(),
             scratch.len(),
             &mut figures,
+            &mut savings,
         )
     };
-    answer(number, Settled { rounds: figures[0], before: figures[1], after: figures[2] })
+    let [rounds, before, after] = figures;
+    let Saving { own, others } = parted(savings);
+    answer(number, Settled { rounds, before, after, own, others })
 }
 
-/// Loads a file and makes a list of calls, three words each ([`crate::Call::words`]), on the loaded graph. The answers are two
-/// words a call: the refusal's number, or 0, and what the call saves.
+/// Loads a file and makes a list of calls, three words each ([`crate::Call::words`]), on the loaded graph. The answers are three
+/// words a call: the refusal's number, or 0, and what the call saves, own and others.
 pub fn replay(
     file: &[u8],
     calls: &[u32],
     node_table: &mut [u32],
     output_table: &mut [u32],
     scratch: &mut [u32],
-    answers: &mut [u32],
+    answers: &mut [i64],
 ) -> Result<Size, ReplayRefusal> {
     let mut numbers = [0u32; 3];
     let number = unsafe {

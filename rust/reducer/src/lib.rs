@@ -118,6 +118,22 @@ pub struct Size {
     pub outputs: u32,
 }
 
+/// What a call saves, in two numbers, of which either may be below 0: complemented edges before less those after.
+#[derive(Clone, Copy, Debug, Default, PartialEq, Eq, Hash)]
+pub struct Saving {
+    /// Among the words of the nodes that the call names: the node, both nodes of a pair, or all nodes of a tree.
+    pub own: i64,
+    /// Among all other edges: words of other nodes, and outputs.
+    pub others: i64,
+}
+
+impl Saving {
+    /// Among all edges.
+    pub fn total(self) -> i64 {
+        self.own + self.others
+    }
+}
+
 /// What settling answers.
 #[derive(Clone, Copy, Debug, PartialEq, Eq, Hash)]
 pub struct Settled {
@@ -127,13 +143,17 @@ pub struct Settled {
     pub before: u32,
     /// The complemented edges after.
     pub after: u32,
+    /// What its calls saved, each among the words of the nodes that it names.
+    pub own: i64,
+    /// What its calls saved, each among all other edges.
+    pub others: i64,
 }
 
 /// What a preview tells of a tree call that is not made.
 #[derive(Clone, Debug, PartialEq, Eq, Hash)]
 pub struct Preview {
     /// What the tree call would save.
-    pub saving: u32,
+    pub saving: Saving,
     /// A byte a node by rising index: its move in the tree call, and 0 outside the tree.
     pub moves: Vec<u8>,
 }
@@ -227,20 +247,21 @@ impl Graph {
     }
 
     /// The graph that a tagged file holds after a list of calls, with what each call saved or was refused by.
-    pub fn replay(file: &[u8], calls: &[Call]) -> Result<(Graph, Vec<Result<u32, Refusal>>), Refusal> {
+    pub fn replay(file: &[u8], calls: &[Call]) -> Result<(Graph, Vec<Result<Saving, Refusal>>), Refusal> {
         let words: Vec<u32> = calls.iter().flat_map(|call| call.words()).collect();
         let nodes = head_number(file, 7, MOST_NODES);
         let mut node_table = vec![0; 3 * nodes];
         let mut output_table = vec![0; head_number(file, 11, MOST_OUTPUTS)];
         let mut scratch = vec![0; scratch_words(nodes as u32)];
-        let mut answers = vec![0; 2 * calls.len()];
+        let mut answers = vec![0; 3 * calls.len()];
         let size = lent::replay(file, &words, &mut node_table, &mut output_table, &mut scratch, &mut answers).map_err(
             |refusal| match refusal {
                 ReplayRefusal::Refused(refusal) => refusal,
                 own => unreachable!("calls are three words, and of a known kind: {own:?}"),
             },
         )?;
-        let told = answers.chunks_exact(2).map(|answer| lent::answer(answer[0], answer[1])).collect();
+        let told = |three: &[i64]| lent::answer(three[0] as u32, Saving { own: three[1], others: three[2] });
+        let told = answers.chunks_exact(3).map(told).collect();
         Ok((Graph { size, node_table, output_table }, told))
     }
 
@@ -287,12 +308,12 @@ impl Graph {
     }
 
     /// Makes the best move of one node; what it saves.
-    pub fn node_call(&mut self, node: u32) -> Result<u32, Refusal> {
+    pub fn node_call(&mut self, node: u32) -> Result<Saving, Refusal> {
         lent::node_call(self.size, &mut self.node_table, &mut self.output_table, node)
     }
 
     /// Makes the best moves of a node and of the one that its word (1 to 3) names; what they save.
-    pub fn pair_call(&mut self, node: u32, word: u32) -> Result<u32, Refusal> {
+    pub fn pair_call(&mut self, node: u32, word: u32) -> Result<Saving, Refusal> {
         lent::pair_call(self.size, &mut self.node_table, &mut self.output_table, node, word)
     }
 
@@ -303,7 +324,7 @@ impl Graph {
     }
 
     /// Makes the best moves of the tree of a root; what they save.
-    pub fn tree_call(&mut self, root: u32) -> Result<u32, Refusal> {
+    pub fn tree_call(&mut self, root: u32) -> Result<Saving, Refusal> {
         let mut scratch = self.scratch();
         lent::tree_call(self.size, &mut self.node_table, &mut self.output_table, root, &mut scratch)
     }

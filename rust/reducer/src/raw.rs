@@ -87,7 +87,7 @@ extern "C" {
         output_table: *mut u32,
         output_table_length: usize,
         node: u32,
-        saving: *mut u32,
+        saving: *mut [i64; 2],
     ) -> u32;
 
     pub fn reducer_pair(
@@ -100,7 +100,7 @@ extern "C" {
         output_table_length: usize,
         node: u32,
         word: u32,
-        saving: *mut u32,
+        saving: *mut [i64; 2],
     ) -> u32;
 
     pub fn reducer_trial(
@@ -129,7 +129,7 @@ extern "C" {
         root: u32,
         scratch: *mut u32,
         scratch_length: usize,
-        saving: *mut u32,
+        saving: *mut [i64; 2],
     ) -> u32;
 
     pub fn reducer_preview(
@@ -145,7 +145,7 @@ extern "C" {
         moves_length: usize,
         scratch: *mut u32,
         scratch_length: usize,
-        saving: *mut u32,
+        saving: *mut [i64; 2],
     ) -> u32;
 
     pub fn reducer_settle(
@@ -159,6 +159,7 @@ extern "C" {
         scratch: *mut u32,
         scratch_length: usize,
         figures: *mut [u32; 3],
+        savings: *mut [i64; 2],
     ) -> u32;
 
     pub fn reducer_replay(
@@ -172,7 +173,7 @@ extern "C" {
         output_table_length: usize,
         scratch: *mut u32,
         scratch_length: usize,
-        answers: *mut u32,
+        answers: *mut i64,
         answers_length: usize,
         numbers: *mut [u32; 3],
     ) -> u32;

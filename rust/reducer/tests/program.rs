@@ -90,7 +90,7 @@ fn holds(folder: &Path, names: &[&str]) {
     assert_eq!(found, names);
 }
 
-const FIGURES: &str = "inputs 3 nodes 1 outputs 1 before 4 after 0 rounds 2\n";
+const FIGURES: &str = "inputs 3 nodes 1 outputs 1 before 4 after 0 rounds 2 own 3 others 1\n";
 
 #[test]
 fn settling() {
@@ -100,9 +100,15 @@ fn settling() {
     gives(&run(&["settle", "--to", "aiger"], &p1()), MAJORITY.as_bytes(), FIGURES);
     // An OR, as its ANDs have it, becomes the majority of the constant one and both inputs.
     let or = b"aag 3 2 0 1 1\n2\n4\n7\n6 3 5\n";
-    let said = "inputs 2 nodes 1 outputs 1 before 3 after 1 rounds 2\n";
+    let said = "inputs 2 nodes 1 outputs 1 before 3 after 1 rounds 2 own 1 others 1\n";
     let settled = tagged(&[(1, &[2, 1, 1]), (2, &[1, 2, 4]), (4, &[6]), (5, &[])]);
     gives(&run(&["settle", "--to", "tagged"], or), &settled, said);
+    // Three outputs that read a node complemented: its words get worse by one, and the outputs better by three.
+    let outputs = |literal| tagged(&[(4, &[literal]), (4, &[literal]), (4, &[literal]), (5, &[])]);
+    let lost = [tagged(&[(1, &[3, 1, 3]), (2, &[2, 4, 7])]), outputs(9)].concat();
+    let turned = [tagged(&[(1, &[3, 1, 3]), (2, &[3, 5, 6])]), outputs(8)].concat();
+    let figures = "inputs 3 nodes 1 outputs 3 before 4 after 2 rounds 2 own -1 others 3\n";
+    gives(&run(&["settle"], &lost), &turned, figures);
     let as_text = "aag 6 2 0 1 4\n2\n4\n13\n6 3 5\n8 1 7\n10 2 4\n12 9 11\n";
     gives(&run(&["settle"], or), as_text.as_bytes(), said);
 }
@@ -136,7 +142,7 @@ fn p2() -> Vec<u8> {
     tagged(&[(1, &[5, 2, 1]), (2, &[3, 5, 6]), (2, &[13, 8, 11]), (4, &[14]), (5, &[])])
 }
 
-const P2_FIGURES: &str = "root 7 before 4 after 2 saving 2\n";
+const P2_FIGURES: &str = "root 7 before 4 after 2 saving 2 own 2 others 0\n";
 const P2_TREE: &str = "tree nodes 2 majorities 2 xors 0\n\
                        node 6 majority move 1: words 1, 2 and 3 and every reader turn\n\
                        node 7 majority move 0: nothing turns\n";
@@ -149,20 +155,20 @@ fn two_trees() -> Vec<u8> {
 #[test]
 fn previewing() {
     gives(&run(&["preview", "-", "7"], &p2()), format!("{P2_FIGURES}{P2_TREE}").as_bytes(), "");
-    let due = "root 4 before 6 after 3 saving 3\ntree nodes 1 majorities 1 xors 0\n\
+    let due = "root 4 before 6 after 3 saving 3 own 3 others 0\ntree nodes 1 majorities 1 xors 0\n\
                node 4 majority move 1: words 1, 2 and 3 and every reader turn\n";
     gives(&run(&["preview", "-", "4"], &two_trees()), due.as_bytes(), "");
-    let due = "root 6 before 6 after 4 saving 2\ntree nodes 2 majorities 1 xors 1\n\
+    let due = "root 6 before 6 after 4 saving 2 own 2 others 0\ntree nodes 2 majorities 1 xors 1\n\
                node 5 xor move 1: words 1 and 2 turn\nnode 6 majority move 0: nothing turns\n";
     gives(&run(&["preview", "-", "6"], &two_trees()), due.as_bytes(), "");
     let xors =
         tagged(&[(1, &[2, 4, 1]), (3, &[3, 4]), (3, &[7, 5]), (3, &[8, 5]), (3, &[10, 5]), (4, &[13]), (5, &[])]);
-    let due = "root 6 before 6 after 0 saving 6\ntree nodes 4 majorities 0 xors 4\n\
+    let due = "root 6 before 6 after 0 saving 6 own 5 others 1\ntree nodes 4 majorities 0 xors 4\n\
                node 3 xor move 2: word 1 and every reader turn\nnode 4 xor move 3: word 2 and every reader turn\n\
                node 5 xor move 1: words 1 and 2 turn\nnode 6 xor move 3: word 2 and every reader turn\n";
     gives(&run(&["preview", "-", "6"], &xors), due.as_bytes(), "");
     let or = b"aag 3 2 0 1 1\n2\n4\n7\n6 3 5\nc\nan OR\n";
-    let due = "root 3 before 3 after 1 saving 2\ntree nodes 1 majorities 1 xors 0\n\
+    let due = "root 3 before 3 after 1 saving 2 own 1 others 1\ntree nodes 1 majorities 1 xors 0\n\
                node 3 majority move 1: words 1, 2 and 3 and every reader turn\n";
     gives(&run(&["preview", "-", "3"], or), due.as_bytes(), "");
 }
@@ -177,7 +183,8 @@ fn previewing_moves_alone() {
     gives(&run_in(&folder, &["preview", "in", "7", "-o", "told"], b""), b"", "");
     assert_eq!(fs::read(folder.join("told")).unwrap(), format!("{P2_FIGURES}{P2_TREE}").as_bytes());
     assert_eq!(fs::read(folder.join("in")).unwrap(), p2());
-    gives(&run(&["preview", "-", "6", "--moves"], &two_trees()), b"5 1\n6 0\n", "root 6 before 6 after 4 saving 2\n");
+    let due = "root 6 before 6 after 4 saving 2 own 2 others 0\n";
+    gives(&run(&["preview", "-", "6", "--moves"], &two_trees()), b"5 1\n6 0\n", due);
     holds(&folder, &["in", "moves", "told"]);
 }
 
@@ -216,6 +223,12 @@ fn previews_refused() {
 
 /// What the help shows is what is told.
 #[test]
+fn help_of_settle() {
+    let help = run(&["settle", "--help"], b"");
+    assert!(text(&help.stdout).contains(&format!("\n\n    {FIGURES}")));
+}
+
+#[test]
 fn help_of_preview() {
     let help = run(&["preview", "--help"], b"");
     for shown in [format!("{P2_FIGURES}{P2_TREE}"), text(&run(&["preview"], &p2()).stdout).into()] {
@@ -250,8 +263,9 @@ fn previewed_moves_are_the_tree_call_s() {
         let mut called = graph.clone();
         let saved = called.tree_call(root.parse().unwrap()).unwrap();
         assert_eq!(moved, called);
-        assert!(said(&output).ends_with(&format!(" saving {saved}\n")));
-        several += u32::from(saved > 0);
+        let told = format!(" saving {} own {} others {}\n", saved.total(), saved.own, saved.others);
+        assert!(said(&output).ends_with(&told), "{told}");
+        several += u32::from(saved.total() > 0);
     }
     assert!(several >= 10, "{several}");
 }

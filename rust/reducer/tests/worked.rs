@@ -1,41 +1,54 @@
 //! Document 01's worked graphs and edges of the limits, and texts and previews of document 02, through the safe interface.
 
-use reducer::{lent, Call, Graph, Preview, Refusal, ReplayRefusal, Settled, Size, MARK};
+use reducer::{lent, Call, Graph, Preview, Refusal, ReplayRefusal, Saving, Settled, Size, MARK};
 
 fn graph(inputs: u32, node_table: &[u32], output_table: &[u32]) -> Graph {
     let size = Size { inputs, nodes: node_table.len() as u32 / 3, outputs: output_table.len() as u32 };
     Graph { size, node_table: node_table.to_vec(), output_table: output_table.to_vec() }
 }
 
-/// A call on a graph: what it saves, the graph after it, and C before and after.
-fn worked(mut g: Graph, call: impl Fn(&mut Graph) -> Result<u32, Refusal>, after: Graph, counts: (u32, u32)) {
-    assert_eq!(g.complemented_edges(), Ok(counts.0));
-    assert_eq!(call(&mut g), Ok(counts.0 - counts.1));
+/// A saving: own and others.
+fn saving(own: i64, others: i64) -> Saving {
+    Saving { own, others }
+}
+
+/// A call on a graph: the graph after it, C before, and what is saved, own and others.
+fn worked(
+    mut g: Graph,
+    call: impl Fn(&mut Graph) -> Result<Saving, Refusal>,
+    after: Graph,
+    before: u32,
+    saved: (i64, i64),
+) {
+    assert_eq!(g.complemented_edges(), Ok(before));
+    let told = call(&mut g);
+    assert_eq!(told, Ok(saving(saved.0, saved.1)));
     assert_eq!(g, after);
-    assert_eq!(g.complemented_edges(), Ok(counts.1));
+    let left = g.complemented_edges().unwrap();
+    assert_eq!(told.unwrap().total(), i64::from(before) - i64::from(left));
 }
 
 #[test]
 fn worked_graphs() {
-    worked(graph(3, &[3, 5, 7], &[9]), |g| g.node_call(4), graph(3, &[2, 4, 6], &[8]), (4, 0));
+    worked(graph(3, &[3, 5, 7], &[9]), |g| g.node_call(4), graph(3, &[2, 4, 6], &[8]), 4, (3, 1));
     let p2 = graph(5, &[3, 5, 6, 13, 8, 11], &[14]);
-    worked(p2, |g| g.tree_call(7), graph(5, &[2, 4, 7, 12, 8, 11], &[14]), (4, 2));
+    worked(p2, |g| g.tree_call(7), graph(5, &[2, 4, 7, 12, 8, 11], &[14]), 4, (2, 0));
     let p3 = graph(5, &[3, 5, 6, 12, 9, 10], &[15]);
-    worked(p3.clone(), |g| g.pair_call(7, 1), graph(5, &[2, 4, 7, 12, 8, 11], &[14]), (4, 2));
-    worked(p3.clone(), |g| g.node_call(6), p3.clone(), (4, 4));
-    worked(p3.clone(), |g| g.node_call(7), p3, (4, 4));
-    worked(graph(2, &[3, 5, MARK], &[6]), |g| g.node_call(3), graph(2, &[2, 4, MARK], &[6]), (2, 0));
-    worked(graph(2, &[3, 4, MARK], &[7]), |g| g.node_call(3), graph(2, &[2, 4, MARK], &[6]), (2, 0));
+    worked(p3.clone(), |g| g.pair_call(7, 1), graph(5, &[2, 4, 7, 12, 8, 11], &[14]), 4, (1, 1));
+    worked(p3.clone(), |g| g.node_call(6), p3.clone(), 4, (0, 0));
+    worked(p3.clone(), |g| g.node_call(7), p3, 4, (0, 0));
+    worked(graph(2, &[3, 5, MARK], &[6]), |g| g.node_call(3), graph(2, &[2, 4, MARK], &[6]), 2, (2, 0));
+    worked(graph(2, &[3, 4, MARK], &[7]), |g| g.node_call(3), graph(2, &[2, 4, MARK], &[6]), 2, (1, 1));
     let p7 = graph(2, &[0, 3, 5], &[6]);
-    worked(p7.clone(), |g| g.node_call(3), p7, (2, 2));
+    worked(p7.clone(), |g| g.node_call(3), p7, 2, (0, 0));
     let xor_of_one = graph(1, &[1, 2, MARK], &[4]);
-    worked(xor_of_one.clone(), |g| g.node_call(2), xor_of_one, (1, 1));
+    worked(xor_of_one.clone(), |g| g.node_call(2), xor_of_one, 1, (0, 0));
     let p8 = graph(2, &[2, 2, 5], &[6]);
-    worked(p8.clone(), |g| g.tree_call(3), p8, (1, 1));
-    worked(graph(3, &[3, 5, 6], &[9, 8]), |g| g.node_call(4), graph(3, &[2, 4, 7], &[8, 9]), (3, 2));
+    worked(p8.clone(), |g| g.tree_call(3), p8, 1, (0, 0));
+    worked(graph(3, &[3, 5, 6], &[9, 8]), |g| g.node_call(4), graph(3, &[2, 4, 7], &[8, 9]), 3, (1, 0));
     for output in [3, 1] {
         let mut no_nodes = graph(1, &[], &[output]);
-        assert_eq!(no_nodes.settle(), Ok(Settled { rounds: 1, before: 1, after: 1 }));
+        assert_eq!(no_nodes.settle(), Ok(Settled { rounds: 1, before: 1, after: 1, own: 0, others: 0 }));
         assert_eq!(no_nodes, graph(1, &[], &[output]));
     }
 }
@@ -89,11 +102,41 @@ fn numbers_of_refusals() {
 #[test]
 fn settling_p1() {
     let mut g = graph(3, &[3, 5, 7], &[9]);
-    assert_eq!(g.settle(), Ok(Settled { rounds: 2, before: 4, after: 0 }));
+    assert_eq!(g.settle(), Ok(Settled { rounds: 2, before: 4, after: 0, own: 3, others: 1 }));
     assert_eq!(g, graph(3, &[2, 4, 6], &[8]));
 }
 
-fn told(g: &Graph, root: u32) -> (u32, Vec<u8>) {
+/// Either part may lose what the other more than makes up for, and a pair's word that names its other node is own.
+#[test]
+fn parts_of_savings() {
+    let turned = graph(3, &[3, 5, 6], &[8, 8, 8]);
+    worked(graph(3, &[2, 4, 7], &[9, 9, 9]), |g| g.node_call(4), turned, 4, (-1, 3));
+    worked(graph(3, &[3, 5, 7], &[8]), |g| g.tree_call(4), graph(3, &[2, 4, 6], &[9]), 3, (3, -1));
+    let p2 = graph(5, &[3, 5, 6, 13, 8, 11], &[14]);
+    worked(p2.clone(), |g| g.pair_call(7, 1), graph(5, &[2, 4, 7, 12, 8, 11], &[14]), 4, (2, 0));
+    worked(p2.clone(), |g| g.pair_call(7, 2), p2, 4, (0, 0));
+    let twice = graph(2, &[3, 5, 0, 7, 7, 2], &[8, 7]);
+    let after = graph(2, &[2, 4, 1, 6, 6, 2], &[8, 6]);
+    worked(twice.clone(), |g| g.pair_call(4, 1), after.clone(), 5, (3, 1));
+    worked(twice, |g| g.node_call(3), after, 5, (1, 3));
+}
+
+/// The tree call at node 5 saves 1 and 1; then a node call at node 4 loses 1 among its words and saves 3 outside.
+#[test]
+fn settling_by_two_phases() {
+    let mut g = graph(3, &[3, 4, 6, 3, 5, 8], &[9, 9, 11]);
+    assert_eq!(g.settle(), Ok(Settled { rounds: 2, before: 6, after: 2, own: 0, others: 4 }));
+    assert_eq!(g, graph(3, &[2, 5, 7, 2, 4, 8], &[8, 8, 10]));
+}
+
+#[test]
+fn settling_by_two_rounds_that_lower() {
+    let mut g = graph(2, &[4, 5, MARK, 5, 7, 2, 9, 5, 9], &[11]);
+    assert_eq!(g.settle(), Ok(Settled { rounds: 3, before: 7, after: 1, own: 3, others: 3 }));
+    assert_eq!(g, graph(2, &[4, 4, MARK, 5, 6, 2, 8, 4, 8], &[10]));
+}
+
+fn told(g: &Graph, root: u32) -> (Saving, Vec<u8>) {
     let Preview { saving, moves } = g.preview(root).unwrap();
     (saving, moves)
 }
@@ -101,16 +144,16 @@ fn told(g: &Graph, root: u32) -> (u32, Vec<u8>) {
 #[test]
 fn previews() {
     let p2 = graph(5, &[3, 5, 6, 13, 8, 11], &[14]);
-    assert_eq!(told(&p2, 7), (2, vec![1, 0]));
-    assert_eq!(told(&graph(5, &[3, 5, 6, 12, 9, 10], &[15]), 7), (2, vec![1, 1]));
-    assert_eq!(told(&graph(2, &[2, 2, 5], &[6]), 3), (0, vec![0]));
+    assert_eq!(told(&p2, 7), (saving(2, 0), vec![1, 0]));
+    assert_eq!(told(&graph(5, &[3, 5, 6, 12, 9, 10], &[15]), 7), (saving(1, 1), vec![1, 1]));
+    assert_eq!(told(&graph(2, &[2, 2, 5], &[6]), 3), (saving(0, 0), vec![0]));
     // The one choice that leaves no complemented edge: an edge that two moves turn ends as it was.
     let xors = graph(2, &[3, 4, MARK, 7, 5, MARK, 8, 5, MARK, 10, 5, MARK], &[13]);
-    assert_eq!(told(&xors, 6), (6, vec![2, 3, 1, 3]));
+    assert_eq!(told(&xors, 6), (saving(5, 1), vec![2, 3, 1, 3]));
     // Node 4 is a root that node 6 reads; node 5 is of node 6's tree.
     let two_trees = graph(3, &[3, 5, 7, 3, 5, MARK, 10, 8, 4], &[9, 12]);
-    assert_eq!(told(&two_trees, 4), (3, vec![1, 0, 0]));
-    assert_eq!(told(&two_trees, 6), (2, vec![0, 1, 0]));
+    assert_eq!(told(&two_trees, 4), (saving(3, 0), vec![1, 0, 0]));
+    assert_eq!(told(&two_trees, 6), (saving(2, 0), vec![0, 1, 0]));
     assert_eq!(two_trees.preview(5), Err(Refusal::NoSuchNode));
     assert_eq!(two_trees.preview(3), Err(Refusal::NoSuchNode));
     assert_eq!(graph(3, &[8, 7, 7], &[]).preview(4), Err(Refusal::BadLiteral));
@@ -138,16 +181,26 @@ fn previews_of_lent_slices() {
     assert_eq!(told(&node_table, &output_table, size(1), 6, 2, 15), kept(Refusal::NoSuchNode));
     assert_eq!(told(&node_table, &output_table, size(1), 7, 2, 15), kept(Refusal::ShortScratch));
     assert_eq!(told(&node_table, &output_table, size(1), 7, 4, 16).1, [1, 0, 77, 77]);
-    assert_eq!(told(&node_table, &output_table, size(1), 7, 2, 17).0, Ok(2));
+    assert_eq!(told(&node_table, &output_table, size(1), 7, 2, 17).0, Ok(saving(2, 0)));
 }
 
 #[test]
 fn replaying_p3() {
     let p3 = graph(5, &[3, 5, 6, 12, 9, 10], &[15]).write().unwrap();
     let calls = [Call::Node(6), Call::Node(5), Call::Pair(7, 1), Call::Tree(6), Call::Settle];
-    let told = vec![Ok(0), Err(Refusal::NoSuchNode), Ok(2), Err(Refusal::NoSuchNode), Ok(0)];
+    let (nothing, refused) = (Ok(saving(0, 0)), Err(Refusal::NoSuchNode));
+    let told = vec![nothing, refused, Ok(saving(1, 1)), refused, nothing];
     assert_eq!(Graph::replay(&p3, &calls), Ok((graph(5, &[2, 4, 7, 12, 8, 11], &[14]), told)));
     assert_eq!(Graph::replay(&p3[..9], &calls), Err(Refusal::MissingBytes));
+}
+
+#[test]
+fn replaying_savings_below_0() {
+    let lost = graph(3, &[2, 4, 7], &[9, 9, 9]).write().unwrap();
+    let told = vec![Ok(saving(-1, 3)), Ok(saving(0, 0))];
+    assert_eq!(Graph::replay(&lost, &[Call::Node(4), Call::Settle]), Ok((graph(3, &[3, 5, 6], &[8, 8, 8]), told)));
+    let settled = vec![Ok(saving(-1, 3)), Ok(saving(0, 0))];
+    assert_eq!(Graph::replay(&lost, &[Call::Settle, Call::Tree(4)]).unwrap().1, settled);
 }
 
 #[test]
@@ -163,7 +216,7 @@ fn replays_refused() {
     refused(&[0, 4], 9, ReplayRefusal::LeftOver);
     refused(&[4, 4, 0, 9], 0, ReplayRefusal::LeftOver);
     refused(&[0, 4, 0, 4, 0, 0], 0, ReplayRefusal::UnknownKind);
-    refused(&[0, 4, 0, 3, 0, 0], 3, ReplayRefusal::Refused(Refusal::ShortSlice));
+    refused(&[0, 4, 0, 3, 0, 0], 5, ReplayRefusal::Refused(Refusal::ShortSlice));
 }
 
 const MAJORITY: &[u8] = b"aag 7 3 0 1 4\n2\n4\n6\n15\n8 5 7\n10 2 9\n12 4 6\n14 11 13\n";

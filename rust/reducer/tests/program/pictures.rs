@@ -602,7 +602,7 @@ fn two_sides_of_graphviz() {
     gives(
         &run_in(&folder, &["settle", "p3", "-o", "settled"], b""),
         b"",
-        "inputs 5 nodes 2 outputs 1 before 4 after 2 rounds 2\n",
+        "inputs 5 nodes 2 outputs 1 before 4 after 2 rounds 2 own 1 others 1\n",
     );
     let output = run_in(&folder, &["picture", "--compare", "p3", "settled", "--svg"], b"");
     assert_eq!((said(&output).as_str(), output.status.code()), ("", Some(0)));

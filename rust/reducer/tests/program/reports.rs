@@ -26,13 +26,13 @@ fn needs_nothing(page: &str) {
     assert!(page.ends_with("</body>\n</html>\n"));
 }
 
-const P3_FIGURES: &str = "inputs 5 nodes 2 outputs 1 before 4 after 2 rounds 2\n";
+const P3_FIGURES: &str = "inputs 5 nodes 2 outputs 1 before 4 after 2 rounds 2 own 1 others 1\n";
 const NO_GRAPHVIZ: &str =
     "no pictures: Graphviz is not there: no program dot was found; it comes with the package graphviz";
 
 /// P3's rows. An inverter has 13 cells and a majority 5: 4 * 13 + 2 * 5 before, 2 * 13 + 2 * 5 after.
 fn p3_rows() -> Vec<Vec<String>> {
-    let rows: [&[&str]; 16] = [
+    let rows: [&[&str]; 18] = [
         &["", "before", "after", "change"],
         &["inputs", "5", "5", ""],
         &["outputs", "1", "1", ""],
@@ -41,6 +41,8 @@ fn p3_rows() -> Vec<Vec<String>> {
         &["of these XORs", "0", "0", ""],
         &["depth", "2", "2", ""],
         &["complemented edges", "4", "2", "-2 (-50 %)"],
+        &["among the words of the nodes that a call named", "", "", "-1"],
+        &["among all other edges", "", "", "-1"],
         &["cells of inverters, 13 each", "52", "26", "-26 (-50 %)"],
         &["cells of majorities, 5 each", "10", "10", ""],
         &["cells of XORs, 12 each", "0", "0", ""],
@@ -136,9 +138,9 @@ fn moves_in_a_report() {
     let output = run(&["report"], &xors);
     let told = rows(text(&output.stdout));
     let cells = |row: &[&str]| row.iter().map(|cell| cell.to_string()).collect::<Vec<String>>();
-    assert_eq!(told[11], cells(&["all cells", "126", "48", "-78 (-62 %)"]));
+    assert_eq!(told[13], cells(&["all cells", "126", "48", "-78 (-62 %)"]));
     assert_eq!(
-        told[14..],
+        told[16..],
         [
             cells(&["3", "XOR", "2", "word 1 and every reader turn", "3 4", "2 4"]),
             cells(&["4", "XOR", "3", "word 2 and every reader turn", "7 5", "6 4"]),
@@ -161,7 +163,7 @@ fn a_report_of_a_part() {
     fs::write(folder.join("two"), two_trees()).unwrap();
     let output = run_with(&folder, &["report", "two", "--output", "1", "-o", "out"]);
     let line = "drawn: output 1 and 1 node that it rests on\n";
-    gives(&output, b"", &format!("inputs 3 nodes 3 outputs 2 before 6 after 1 rounds 2\n{line}"));
+    gives(&output, b"", &format!("inputs 3 nodes 3 outputs 2 before 6 after 1 rounds 2 own 5 others 0\n{line}"));
     let page = fs::read_to_string(folder.join("out")).unwrap();
     assert!(page.contains(
         "label=\"before\\noutput 1 and 1 node that it rests on\\n4 complemented edges of the whole graph's 6,"
@@ -194,14 +196,14 @@ fn a_report_at_the_limits() {
     let start = Instant::now();
     let output = run(&["report"], given.as_bytes());
     assert!(start.elapsed() < Duration::from_secs(5));
-    let figures = "inputs 4096 nodes 100000 outputs 0 before 66668 after 33334 rounds 2\n";
+    let figures = "inputs 4096 nodes 100000 outputs 0 before 66668 after 33334 rounds 2 own 33334 others 0\n";
     let none = "no pictures: 4096 inputs, 100000 nodes, 0 outputs are too many for one picture, which takes 300 nodes, and 600 \
                 inputs, nodes and outputs together; --root R draws a tree, and `panjerov preview` tells the roots";
     assert_eq!(said(&output), format!("{figures}{none}\n"));
     let page = text(&output.stdout);
     needs_nothing(page);
     assert!(page.contains(&format!("<p class=\"none\">There are {none}.</p>\n")));
-    assert_eq!(rows(page)[11][1..], ["1,366,684", "933,342", "-433,342 (-32 %)"]);
+    assert_eq!(rows(page)[13][1..], ["1,366,684", "933,342", "-433,342 (-32 %)"]);
     let nodes: Vec<String> = (4_097..=104_096).step_by(3).map(|node| node.to_string()).collect();
     let head = "<strong>majority, move 1: words 1, 2 and 3 and every reader turn; nodes: 33,334</strong>";
     assert!(page.contains("<h2>Nodes that turned: 33,334 of 100,000</h2>\n"));

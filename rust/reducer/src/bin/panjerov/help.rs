@@ -25,7 +25,11 @@ Turns edges until no move at a node, on a pair or on a tree lowers the number of
 function stay the same. The settled graph is given in the format that FILE has, or in the one that --to names. A
 line with the figures goes to standard error:
 
-    inputs 3 nodes 1 outputs 1 before 4 after 0 rounds 2
+    inputs 3 nodes 1 outputs 1 before 4 after 0 rounds 2 own 3 others 1
+
+The last two say where the gain arose: own sums up what each call saved among the words of the nodes that it names
+(one node, a pair or a tree), others what it saved among all other edges. Either may be below 0; together they are
+before less after.
 
 AIGER has ANDs alone: as text, each majority is four ANDs and each XOR three. Between two settlings keep the tagged
 file, which has one node for each AND that was imported.
@@ -64,15 +68,16 @@ usage: panjerov preview [FILE [ROOT [--moves]]] [-o FILE]
 
 Tells what the best moves of the tree of ROOT, a node's index, would save, and makes none of them:
 
-    root 7 before 4 after 2 saving 2
+    root 7 before 4 after 2 saving 2 own 2 others 0
     tree nodes 2 majorities 2 xors 0
     node 6 majority move 1: words 1, 2 and 3 and every reader turn
     node 7 majority move 0: nothing turns
 
-The first line has the complemented edges of the whole graph before and after; then there is a line for each node of
-the tree by rising index. An edge that two moves turn ends as it was. A node is a root unless it has just one reader
-and that is a node; its tree is the root with every other node that leads to it through no root. A ROOT that is none
-is refused.
+The first line has the complemented edges of the whole graph before and after, and of the saving what arises among
+the words of the tree's nodes (own) and among all other edges (others); either may be below 0. Then there is a line
+for each node of the tree by rising index. An edge that two moves turn ends as it was. A node is a root unless it has
+just one reader and that is a node; its tree is the root with every other node that leads to it through no root. A
+ROOT that is none is refused.
 
 With --moves each line is a node's index and its move, for all nodes of the tree, and the first line above goes to
 standard error.

@@ -35,8 +35,9 @@ fn say(line: &str) {
 /// The line with the figures of settling.
 fn figures_of(size: Size, settled: Settled) -> String {
     let Size { inputs, nodes, outputs } = size;
-    let Settled { rounds, before, after } = settled;
-    format!("inputs {inputs} nodes {nodes} outputs {outputs} before {before} after {after} rounds {rounds}")
+    let Settled { rounds, before, after, own, others } = settled;
+    let sizes = format!("inputs {inputs} nodes {nodes} outputs {outputs}");
+    format!("{sizes} before {before} after {after} rounds {rounds} own {own} others {others}")
 }
 
 /// What a command gives, and the lines beside it.

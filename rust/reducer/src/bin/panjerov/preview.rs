@@ -1,7 +1,7 @@
 //! What `panjerov preview` tells.
 
 use crate::trees::{Kinds, Trees};
-use reducer::{Graph, Refusal};
+use reducer::{Graph, Refusal, Saving};
 
 /// What is given, and the line beside it, if there is one.
 pub struct Told {
@@ -49,7 +49,9 @@ fn lines(trees: &Trees, moved: &[(u32, u8)], only_moves: bool) -> String {
 fn tree_of(graph: &Graph, root: u32, only_moves: bool) -> Result<Told, Refusal> {
     let told = graph.preview(root)?;
     let before = graph.complemented_edges()?;
-    let figures = format!("root {root} before {before} after {} saving {}", before - told.saving, told.saving);
+    let (saving, Saving { own, others }) = (told.saving.total(), told.saving);
+    let after = i64::from(before) - saving;
+    let figures = format!("root {root} before {before} after {after} saving {saving} own {own} others {others}");
     let trees = Trees::of(graph);
     let mut kinds = Kinds::default();
     let mut moved = Vec::new();

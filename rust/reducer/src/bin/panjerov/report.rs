@@ -55,6 +55,15 @@ fn fall(before: u64, after: u64) -> String {
     }
 }
 
+/// How far a number went, up or down.
+fn change(by: i64) -> String {
+    let sign = if by < 0 { MINUS } else { '+' };
+    match by.unsigned_abs() {
+        0 => "0".into(),
+        far => format!("{sign}{}", grouped(far)),
+    }
+}
+
 /// Numbers in a row, with ends of each run alone.
 fn runs(numbers: &[u32]) -> String {
     let follows = |x: &u32, y: &u32| *y == x + 1;
@@ -80,7 +89,7 @@ impl Report<'_> {
     }
 
     fn summary(&self) -> String {
-        let Settled { rounds, before, after } = self.settled;
+        let Settled { rounds, before, after, .. } = self.settled;
         let rounds = count(rounds as usize, "round");
         let edges =
             |many: u32| format!("{} complemented edge{}", grouped(many.into()), if many == 1 { "" } else { "s" });
@@ -96,13 +105,14 @@ impl Report<'_> {
     }
 
     fn figures(&self) -> String {
-        let Settled { rounds, before, after } = self.settled;
+        let Settled { rounds, before, after, own, others } = self.settled;
         let size = self.before.size;
         let (nodes, xors) = (u64::from(size.nodes), self.xors());
         let same = |what: &str, many: u64| format!("<tr><th>{what}<td>{0}<td>{0}<td>", grouped(many));
         let fell = |what: &str, [x, y]: [u64; 2]| {
             format!("<tr><th>{what}<td>{}<td>{}<td>{}", grouped(x), grouped(y), fall(x, y))
         };
+        let part = |what: &str, saved: i64| format!("<tr><th>{what}<td><td><td>{}", change(-saved));
         let inverters = [before, after].map(|many| CELLS[0] * u64::from(many));
         let (majority_cells, xor_cells) = (CELLS[1] * (nodes - xors), CELLS[2] * xors);
         [
@@ -114,6 +124,8 @@ impl Report<'_> {
             same("of these XORs", xors),
             same("depth", depth(self.before).into()),
             fell("complemented edges", [before.into(), after.into()]).replace("<tr>", "<tr class=\"main\">"),
+            part("among the words of the nodes that a call named", own),
+            part("among all other edges", others),
             fell("cells of inverters, 13 each", inverters),
             same("cells of majorities, 5 each", majority_cells),
             same("cells of XORs, 12 each", xor_cells),
