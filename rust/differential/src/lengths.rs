@@ -6,6 +6,7 @@ use crate::previews;
 use crate::raw;
 use reference::calls::{self, Call};
 use reference::graph::{complemented_edges, Graph};
+use reference::moves::Saving;
 use reference::random::Random;
 use reference::{aiger, evaluation, file};
 
@@ -243,7 +244,7 @@ fn check_previews_at_limits(what: &str, g: &Graph, admitted: Result<(), u32>) ->
             Err(number) => Err(number),
             Ok(()) if bytes < g.nodes as usize => Err(4),
             Ok(()) if g.nodes == 0 => Err(7),
-            Ok(()) => Ok(0),
+            Ok(()) => Ok(Saving::default()),
         };
         let (mut lent, mut moves) = (g.clone(), vec![0xee; bytes]);
         let what = format!("the preview of {what} with {bytes} bytes");

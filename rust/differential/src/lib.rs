@@ -15,6 +15,7 @@ pub mod preview_faults;
 pub mod previews;
 pub mod raw;
 pub mod replays;
+pub mod savings;
 pub mod shrink;
 pub mod stored;
 pub mod text_limits;

@@ -5,6 +5,7 @@ use crate::plain;
 use crate::plain::calls::Tables;
 use crate::plain::View;
 use crate::raw;
+use crate::savings;
 use reference::calls::{self, Answer, Call};
 use reference::fast::Fast;
 use reference::graph::{complemented_edges, Graph};
@@ -116,8 +117,8 @@ pub fn tables(g: &mut Graph) -> Tables<'_> {
     }
 }
 
-fn saving(result: Result<u32, u32>) -> Answer {
-    result.map_or_else(Answer::Refused, Answer::Saving)
+fn saving(result: Result<reducer::Saving, u32>) -> Answer {
+    result.map_or_else(Answer::Refused, |saving| Answer::Saving(savings::of(saving)))
 }
 
 /// One call by the plain implementation.
@@ -127,8 +128,9 @@ pub fn plain_step(g: &mut Graph, call: Call, scratch: usize) -> Answer {
         Call::Node(v) => saving(plain::calls::node_call(t, v)),
         Call::Pair(v, word) => saving(plain::calls::pair_call(t, v, word)),
         Call::Tree(root) => saving(plain::sweeps::tree_call(t, root, scratch)),
-        Call::Settle => plain::settle::settle(t, scratch).map_or_else(Answer::Refused, |s| {
-            Answer::Settled(Settled { rounds: s.rounds, before: s.before, after: s.after })
+        Call::Settle => plain::settle::settle(t, scratch).map_or_else(Answer::Refused, |settled| {
+            let reducer::Settled { rounds, before, after, own, others } = settled;
+            Answer::Settled(Settled { rounds, before, after, own, others })
         }),
     }
 }

@@ -3,6 +3,7 @@
 use crate::lists::differ;
 use crate::previews::check_one;
 use reference::graph::{Graph, MARK};
+use reference::moves::Saving;
 
 /// A preview in the making.
 #[derive(Clone)]
@@ -37,7 +38,7 @@ static FAULTS: [&[Fault]; 10] = [
     &[(8, |asked| asked.scratch = 23), (8, |asked| asked.scratch = 0)],
 ];
 
-/// All three nodes are the tree of node 5, whose best moves save 2.
+/// All three nodes are the tree of node 5, whose best moves save 2 among their words.
 fn without_faults() -> Asked {
     let node_table = vec![3, 5, 2, 7, 4, MARK, 2, 5, 8];
     let g = Graph { inputs: 2, nodes: 3, outputs: 2, node_table, output_table: vec![11, 5] };
@@ -49,7 +50,7 @@ fn check(faults: &[&Fault]) -> Result<(), String> {
     let mut asked = without_faults();
     faults.iter().rev().for_each(|(_, make)| make(&mut asked));
     let numbers: Vec<u32> = faults.iter().map(|fault| fault.0).collect();
-    let due = numbers.iter().min().map_or(Ok(2), |&number| Err(number));
+    let due = numbers.iter().min().map_or(Ok(Saving { own: 2, others: 0 }), |&number| Err(number));
     let Asked { g, root, bytes, scratch } = asked;
     let told = check_one(&g, root, bytes, scratch).map_err(|wrong| format!("faults {numbers:?}: {wrong}"))?;
     differ(&format!("a preview with faults {numbers:?}"), &told.answer, &due)

@@ -5,11 +5,12 @@ use crate::exports::owned;
 use crate::lists::{differ, tables};
 use crate::plain;
 use crate::raw;
+use crate::savings;
 use reference::calls::{Answer, Call};
 use reference::fast::Fast;
 use reference::generate::{graph, Shape};
 use reference::graph::{Graph, MARK};
-use reference::moves;
+use reference::moves::{self, Saving};
 use reference::preview;
 use reference::random::Random;
 
@@ -31,7 +32,7 @@ pub fn random_case(seed: u64) -> Case {
 
 /// What a preview answers, and the bytes after it.
 pub struct Told {
-    pub answer: Result<u32, u32>,
+    pub answer: Result<Saving, u32>,
     pub bytes: Vec<u8>,
 }
 
@@ -44,14 +45,14 @@ pub fn check_one(g: &Graph, root: u32, bytes: usize, scratch: usize) -> Result<T
     differ(&what, &raw::preview(&mut lent, root, &mut got, scratch)?, &answer)?;
     differ(&format!("the bytes after {what}"), &got, &due)?;
     differ(&format!("the tables after {what}"), &lent, g)?;
-    let plain = plain::preview::preview(&tables(&mut lent).view(), root, &mut plainly, scratch);
+    let plain = plain::preview::preview(&tables(&mut lent).view(), root, &mut plainly, scratch).map(savings::of);
     differ(&format!("plain: {what}"), &plain, &answer)?;
     differ(&format!("plain: the bytes after {what}"), &plainly, &due)?;
     Ok(Told { answer, bytes: got })
 }
 
 /// That the tree call on a copy answers the same, and ends where the moves lead, made one by one.
-fn check_call(g: &Graph, root: u32, scratch: usize, answer: Result<u32, u32>, told: &[u8]) -> Result<(), String> {
+fn check_call(g: &Graph, root: u32, scratch: usize, answer: Result<Saving, u32>, told: &[u8]) -> Result<(), String> {
     let mut called = g.clone();
     let due = raw::step(&mut called, Call::Tree(root), scratch)?;
     differ(&format!("the preview at {root}"), &answer.map_or_else(Answer::Refused, Answer::Saving), &due)?;
@@ -78,8 +79,9 @@ pub fn check_preview(case: &Case) -> Result<(), String> {
         differ("the later bytes", &bytes[nodes..].iter().all(|&byte| byte == CANARY), &true)?;
         check_call(g, root, scratch, answer, &bytes[..nodes])?;
         if step.spare >= 0 {
-            let due = answer.map(|saving| reducer::Preview { saving, moves: bytes[..nodes].to_vec() });
-            let got = owned(g).preview(root).map_err(reducer::Refusal::number);
+            let due = answer.map(|saving| (saving, bytes[..nodes].to_vec()));
+            let got = owned(g).preview(root).map(|told| (savings::of(told.saving), told.moves));
+            let got = got.map_err(reducer::Refusal::number);
             differ(&format!("an owned graph's preview at {root}"), &got, &due)?;
         }
     }
@@ -136,7 +138,7 @@ fn check_kept(g: &Graph, root: u32) -> Result<Told, String> {
 fn check_plain(g: &Graph, root: u32, due: &Told) -> Result<(), String> {
     let mut bytes = vec![CANARY; due.bytes.len()];
     let answer = plain::preview::preview(&tables(&mut g.clone()).view(), root, &mut bytes, 8 * g.nodes as usize);
-    differ(&format!("plain: the preview at {root}"), &answer, &due.answer)?;
+    differ(&format!("plain: the preview at {root}"), &answer.map(savings::of), &due.answer)?;
     if bytes != due.bytes {
         return Err(format!("plain: the bytes after the preview at {root}"));
     }

@@ -5,10 +5,14 @@ use std::sync::atomic::{AtomicU64, Ordering};
 use reducer::raw;
 use reference::calls::{Answer, Call};
 use reference::graph::Graph;
+use reference::moves::Saving;
 use reference::settling::Settled;
+
+use crate::savings;
 
 const CANARY: u32 = 0xa5a5_a5a5;
 const LONG_CANARY: usize = 0xa5a5_a5a5_a5a5;
+const SIGNED_CANARY: i64 = -0x5a5a_5a5a_5a5a;
 
 /// The numbers that a call can return, 0 for an accepted one.
 pub const NUMBERS: [u32; 15] = [0, 1, 2, 3, 4, 5, 6, 7, 8, 9, 10, 11, 12, 101, 102];
@@ -164,8 +168,15 @@ pub fn count(g: &Graph) -> Answered<u32> {
     answered(number, count, CANARY)
 }
 
-pub fn node(g: &mut Graph, node: u32) -> Answered<u32> {
-    let mut saving = CANARY;
+/// What a call saved, in its two parts.
+fn saved(number: u32, saving: [i64; 2]) -> Answered<Saving> {
+    let answer = answered(number, saving, [SIGNED_CANARY; 2])?.map(|[own, others]| Saving { own, others });
+    answer.iter().for_each(|&saving| savings::note(saving));
+    Ok(answer)
+}
+
+pub fn node(g: &mut Graph, node: u32) -> Answered<Saving> {
+    let mut saving = [SIGNED_CANARY; 2];
     let number = unsafe {
         raw::reducer_node(
             g.inputs,
@@ -179,11 +190,11 @@ pub fn node(g: &mut Graph, node: u32) -> Answered<u32> {
             &mut saving,
         )
     };
-    answered(number, saving, CANARY)
+    saved(number, saving)
 }
 
-pub fn pair(g: &mut Graph, node: u32, word: u32) -> Answered<u32> {
-    let mut saving = CANARY;
+pub fn pair(g: &mut Graph, node: u32, word: u32) -> Answered<Saving> {
+    let mut saving = [SIGNED_CANARY; 2];
     let number = unsafe {
         raw::reducer_pair(
             g.inputs,
@@ -198,13 +209,12 @@ pub fn pair(g: &mut Graph, node: u32, word: u32) -> Answered<u32> {
             &mut saving,
         )
     };
-    answered(number, saving, CANARY)
+    saved(number, saving)
 }
 
 /// On tables that the call is lent to read.
 pub fn trial(g: &Graph, pair: (u32, u32), moves: (u32, u32)) -> Answered<i64> {
-    let canary = -0x5a5a_5a5a_5a5a;
-    let mut gain = canary;
+    let mut gain = SIGNED_CANARY;
     let number = unsafe {
         raw::reducer_trial(
             g.inputs,
@@ -221,11 +231,11 @@ pub fn trial(g: &Graph, pair: (u32, u32), moves: (u32, u32)) -> Answered<i64> {
             &mut gain,
         )
     };
-    answered(number, gain, canary)
+    answered(number, gain, SIGNED_CANARY)
 }
 
-pub fn tree(g: &mut Graph, root: u32, scratch: &mut [u32]) -> Answered<u32> {
-    let mut saving = CANARY;
+pub fn tree(g: &mut Graph, root: u32, scratch: &mut [u32]) -> Answered<Saving> {
+    let mut saving = [SIGNED_CANARY; 2];
     let number = unsafe {
         raw::reducer_tree(
             g.inputs,
@@ -241,13 +251,13 @@ pub fn tree(g: &mut Graph, root: u32, scratch: &mut [u32]) -> Answered<u32> {
             &mut saving,
         )
     };
-    answered(number, saving, CANARY)
+    saved(number, saving)
 }
 
 /// With so many words of scratch, which a refused call must leave. The tables are only read; the graph is one that may change, so that
 /// the caller can see whether it did.
-pub fn preview(g: &mut Graph, root: u32, moves: &mut [u8], scratch: usize) -> Answered<u32> {
-    let mut saving = CANARY;
+pub fn preview(g: &mut Graph, root: u32, moves: &mut [u8], scratch: usize) -> Answered<Saving> {
+    let mut saving = [SIGNED_CANARY; 2];
     let mut lent = vec![CANARY; scratch];
     let number = unsafe {
         raw::reducer_preview(
@@ -266,7 +276,7 @@ pub fn preview(g: &mut Graph, root: u32, moves: &mut [u8], scratch: usize) -> An
             &mut saving,
         )
     };
-    match answered(number, saving, CANARY)? {
+    match saved(number, saving)? {
         Err(number) if lent.iter().any(|&word| word != CANARY) => {
             Err(format!("refused by {number}, and yet scratch is changed"))
         }
@@ -275,8 +285,8 @@ pub fn preview(g: &mut Graph, root: u32, moves: &mut [u8], scratch: usize) -> An
 }
 
 pub fn settle(g: &mut Graph, scratch: &mut [u32]) -> Answered<Settled> {
-    let canary = [CANARY; 3];
-    let mut figures = canary;
+    let canary = ([CANARY; 3], [SIGNED_CANARY; 2]);
+    let mut told = canary;
     let number = unsafe {
         raw::reducer_settle(
             g.inputs,
@@ -288,10 +298,12 @@ pub fn settle(g: &mut Graph, scratch: &mut [u32]) -> Answered<Settled> {
             g.output_table.len(),
             scratch.as_mut_ptr(),
             scratch.len(),
-            &mut figures,
+            &mut told.0,
+            &mut told.1,
         )
     };
-    Ok(answered(number, figures, canary)?.map(|[rounds, before, after]| Settled { rounds, before, after }))
+    Ok(answered(number, told, canary)?
+        .map(|([rounds, before, after], [own, others])| Settled { rounds, before, after, own, others }))
 }
 
 /// What a replay is lent beside the file and the calls.
@@ -300,7 +312,7 @@ pub struct Lent {
     pub node_table: Vec<u32>,
     pub output_table: Vec<u32>,
     pub scratch: Vec<u32>,
-    pub answers: Vec<u32>,
+    pub answers: Vec<i64>,
 }
 
 pub fn replay(file: &[u8], calls: &[u32], lent: &mut Lent) -> Answered<(u32, u32, u32)> {

@@ -5,10 +5,11 @@ use crate::files::{damaged_file, FileCase};
 use crate::lists::{differ, random_call};
 use crate::raw::{self, Lent};
 use crate::shrink::Shrink;
-use reference::calls::{self, Answer, Call};
+use reference::calls::{self, Call};
 use reference::file;
 use reference::graph::{Graph, Number};
 use reference::random::Random;
+use reference::vectors::answer::told;
 
 /// A file, the words of a list of calls, and how many words of scratch and of answers are lent.
 #[derive(Clone, Debug)]
@@ -66,12 +67,12 @@ pub fn random_replay(seed: u64) -> ReplayCase {
         let call = random_call(&mut random, &g);
         words.extend(words_of(&mut random, call));
     }
-    let mut answers = 2 * count as usize + random.below(4) as usize;
+    let mut answers = 3 * count as usize + random.below(4) as usize;
     match random.below(16) {
         0 => words.extend((0..random.between(1, 2)).map(|_| 0)),
         1 if count > 0 => words[3 * random.below(count) as usize] = random.between(4, 6),
         2 if count > 0 => words[3 * random.below(count) as usize] = u32::MAX,
-        3 if count > 0 => answers = random.below(2 * count) as usize,
+        3 if count > 0 => answers = random.below(3 * count) as usize,
         4 => answers = 0,
         _ => {}
     }
@@ -91,14 +92,6 @@ fn call_of(words: &[u32]) -> Option<Call> {
     }
 }
 
-fn answer_words(answer: Answer) -> [u32; 2] {
-    match answer {
-        Answer::Saving(saving) => [0, saving],
-        Answer::Settled(settled) => [0, settled.before - settled.after],
-        Answer::Refused(number) => [number, 0],
-    }
-}
-
 /// The calls made one by one.
 fn one_by_one(case: &ReplayCase, lent: &mut Lent) -> Result<(u32, u32, u32), Number> {
     if case.words.len() % 3 != 0 {
@@ -106,7 +99,7 @@ fn one_by_one(case: &ReplayCase, lent: &mut Lent) -> Result<(u32, u32, u32), Num
     }
     let list: Option<Vec<Call>> = case.words.chunks(3).map(call_of).collect();
     let list = list.ok_or(102u32)?;
-    if lent.answers.len() < 2 * list.len() {
+    if lent.answers.len() < 3 * list.len() {
         return Err(4);
     }
     let (inputs, nodes, outputs) = file::load(&case.file.bytes, &mut lent.node_table, &mut lent.output_table)?;
@@ -114,7 +107,7 @@ fn one_by_one(case: &ReplayCase, lent: &mut Lent) -> Result<(u32, u32, u32), Num
     let mut g = Graph { inputs, nodes, outputs, node_table, output_table };
     for (at, &call) in list.iter().enumerate() {
         let answer = calls::step(&mut g, call, case.scratch);
-        lent.answers[2 * at..2 * at + 2].copy_from_slice(&answer_words(answer));
+        lent.answers[3 * at..3 * at + 3].copy_from_slice(&told(answer));
     }
     (lent.node_table, lent.output_table) = (g.node_table, g.output_table);
     Ok((inputs, nodes, outputs))
@@ -126,7 +119,7 @@ pub fn check_replay(case: &ReplayCase) -> Result<(), String> {
         node_table: vec![0xcafe_0001; case.file.node_words],
         output_table: vec![0xcafe_0002; case.file.output_words],
         scratch: vec![0xcafe_0003; case.scratch],
-        answers: vec![0xcafe_0004; case.answers],
+        answers: vec![-0xcafe_0004; case.answers],
     };
     let mut got = due.clone();
     let answer = raw::replay(&case.file.bytes, &case.words, &mut got)?;

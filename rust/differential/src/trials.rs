@@ -6,7 +6,7 @@ use crate::cases::Case;
 use crate::lists::{differ, random_case};
 use crate::raw;
 use reference::graph::{index_of, Graph};
-use reference::moves::{self, rows};
+use reference::moves::{self, rows, Saving};
 use reference::random::Random;
 
 /// Trials that would save less than nothing, and those on a node that names the other more than once.
@@ -54,7 +54,7 @@ fn check_pair(g: &Graph, node: u32, word: u32) -> Result<u64, String> {
     }
     let mut after = g.clone();
     let saving = raw::pair(&mut after, node, word)?;
-    differ("the pair call's saving", &saving.map(i64::from), &Ok(best.0))?;
+    differ("the pair call's saving", &saving.map(Saving::total), &Ok(best.0))?;
     let mut due = g.clone();
     for (index, number) in [(named, best.1), (node, best.2)] {
         if g.is_node(index) {

@@ -7,7 +7,7 @@
 
 use std::time::{Duration, Instant};
 
-use reducer::{scratch_words, text_bytes, Size};
+use reducer::{scratch_words, text_bytes, Saving, Settled, Size};
 use reference::generate::{graph, Shape};
 use reference::graph::Graph;
 use reference::random::Random;
@@ -100,6 +100,14 @@ struct Lent {
     scratch: Vec<u32>,
     long_scratch: Vec<u64>,
     results: Vec<u64>,
+    /// Settling's sums of savings, own and others.
+    sums: [i64; 2],
+}
+
+/// A saving as one number: either part is less than 2 to the 20th from 0.
+fn as_one(saving: Saving) -> u64 {
+    let part = |number: i64| (number + (1 << 20)) as u64;
+    part(saving.own) << 21 | part(saving.others)
 }
 
 impl Lent {
@@ -112,13 +120,20 @@ impl Lent {
             scratch: vec![0; scratch_words(size.nodes)],
             long_scratch: vec![0; size.nodes as usize],
             results: vec![0; size.outputs as usize],
+            sums: [0; 2],
         }
+    }
+
+    /// Settling's rounds, its sums being kept.
+    fn settled(&mut self, settled: Settled) -> u64 {
+        self.sums = [settled.own, settled.others];
+        settled.rounds.into()
     }
 }
 
 /// The calls as the proved library makes them. Each returns what it answers, for comparison.
 mod proved {
-    use super::{Lent, Sample};
+    use super::{as_one, Lent, Sample};
     use reducer::lent;
 
     pub fn load(s: &mut Sample, _: &mut Lent) -> u64 {
@@ -145,38 +160,39 @@ mod proved {
 
     pub fn node(s: &mut Sample, _: &mut Lent) -> u64 {
         let size = s.size();
-        let call = |&v: &u32| lent::node_call(size, &mut s.g.node_table, &mut s.g.output_table, v).unwrap() as u64;
+        let call = |&v: &u32| as_one(lent::node_call(size, &mut s.g.node_table, &mut s.g.output_table, v).unwrap());
         s.nodes.iter().map(call).sum()
     }
 
     pub fn pair(s: &mut Sample, _: &mut Lent) -> u64 {
         let size = s.size();
-        let call = |&v: &u32| lent::pair_call(size, &mut s.g.node_table, &mut s.g.output_table, v, 1).unwrap() as u64;
+        let call = |&v: &u32| as_one(lent::pair_call(size, &mut s.g.node_table, &mut s.g.output_table, v, 1).unwrap());
         s.nodes.iter().map(call).sum()
     }
 
     pub fn tree(s: &mut Sample, l: &mut Lent) -> u64 {
         let size = s.size();
         let call = |&v: &u32| {
-            lent::tree_call(size, &mut s.g.node_table, &mut s.g.output_table, v, &mut l.scratch).unwrap() as u64
+            as_one(lent::tree_call(size, &mut s.g.node_table, &mut s.g.output_table, v, &mut l.scratch).unwrap())
         };
         s.roots.iter().map(call).sum()
     }
 
     pub fn preview(s: &mut Sample, l: &mut Lent) -> u64 {
         let (size, nodes, outputs) = (s.size(), &s.g.node_table, &s.g.output_table);
-        let call = |&v: &u32| lent::preview(size, nodes, outputs, v, &mut l.moves, &mut l.scratch).unwrap() as u64;
+        let call = |&v: &u32| as_one(lent::preview(size, nodes, outputs, v, &mut l.moves, &mut l.scratch).unwrap());
         s.roots.iter().map(call).sum()
     }
 
     pub fn settle(s: &mut Sample, l: &mut Lent) -> u64 {
-        lent::settle(s.size(), &mut s.g.node_table, &mut s.g.output_table, &mut l.scratch).unwrap().rounds.into()
+        let settled = lent::settle(s.size(), &mut s.g.node_table, &mut s.g.output_table, &mut l.scratch);
+        l.settled(settled.unwrap())
     }
 }
 
 /// The same calls in plain Rust.
 mod plain {
-    use super::{Lent, Sample};
+    use super::{as_one, Lent, Sample};
     use differential::lists::tables;
     use differential::plain::{aiger, calls, evaluate, file, preview, settle, sweeps};
 
@@ -203,32 +219,33 @@ mod plain {
 
     pub fn node(s: &mut Sample, _: &mut Lent) -> u64 {
         let mut t = tables(&mut s.g);
-        s.nodes.iter().map(|&v| calls::node_call(&mut t, v).unwrap() as u64).sum()
+        s.nodes.iter().map(|&v| as_one(calls::node_call(&mut t, v).unwrap())).sum()
     }
 
     pub fn pair(s: &mut Sample, _: &mut Lent) -> u64 {
         let mut t = tables(&mut s.g);
-        s.nodes.iter().map(|&v| calls::pair_call(&mut t, v, 1).unwrap() as u64).sum()
+        s.nodes.iter().map(|&v| as_one(calls::pair_call(&mut t, v, 1).unwrap())).sum()
     }
 
     pub fn tree(s: &mut Sample, l: &mut Lent) -> u64 {
         let mut t = tables(&mut s.g);
-        s.roots.iter().map(|&v| settle::tree_call(&mut t, v, l.scratch.len()).unwrap() as u64).sum()
+        s.roots.iter().map(|&v| as_one(settle::tree_call(&mut t, v, l.scratch.len()).unwrap())).sum()
     }
 
     pub fn tree_by_sweeps(s: &mut Sample, l: &mut Lent) -> u64 {
         let mut t = tables(&mut s.g);
-        s.roots.iter().map(|&v| sweeps::tree_call(&mut t, v, l.scratch.len()).unwrap() as u64).sum()
+        s.roots.iter().map(|&v| as_one(sweeps::tree_call(&mut t, v, l.scratch.len()).unwrap())).sum()
     }
 
     pub fn preview(s: &mut Sample, l: &mut Lent) -> u64 {
         let t = tables(&mut s.g);
-        let call = |&v: &u32| preview::preview(&t.view(), v, &mut l.moves, l.scratch.len()).unwrap() as u64;
+        let call = |&v: &u32| as_one(preview::preview(&t.view(), v, &mut l.moves, l.scratch.len()).unwrap());
         s.roots.iter().map(call).sum()
     }
 
     pub fn settle(s: &mut Sample, l: &mut Lent) -> u64 {
-        settle::settle(&mut tables(&mut s.g), l.scratch.len()).unwrap().rounds.into()
+        let settled = settle::settle(&mut tables(&mut s.g), l.scratch.len());
+        l.settled(settled.unwrap())
     }
 }
 
@@ -297,7 +314,8 @@ impl Side {
     fn same(&self, other: &Side) -> bool {
         let graphs = self.samples.iter().zip(&other.samples).all(|(ours, theirs)| ours.g == theirs.g);
         let lent = self.lent.buffer == other.lent.buffer && self.lent.results == other.lent.results;
-        graphs && lent && self.lent.moves == other.lent.moves && self.answers == other.answers
+        let told = self.lent.moves == other.lent.moves && self.lent.sums == other.lent.sums;
+        graphs && lent && told && self.answers == other.answers
     }
 }
 
@@ -416,32 +434,35 @@ fn preview_over_tree(rows: &[Row]) -> Vec<String> {
 /// Settling as it would be without a state between calls: each call scans the tables. Roots never change.
 mod by_calls {
     use super::{Lent, Sample};
-    use reducer::{lent, Refusal, MARK};
+    use reducer::{lent, Refusal, Saving, MARK};
 
-    fn round(s: &mut Sample, l: &mut Lent) -> u32 {
+    /// What a round saves, its sums being added to.
+    fn round(s: &mut Sample, l: &mut Lent) -> i64 {
         let size = s.size();
         let (node_table, output_table) = (&mut s.g.node_table, &mut s.g.output_table);
         let nodes = size.inputs + 1..=size.inputs + size.nodes;
-        let mut saved = 0;
+        let [own, others] = l.sums;
+        let mut add = |saving: Saving| l.sums = [l.sums[0] + saving.own, l.sums[1] + saving.others];
         for v in nodes.clone() {
-            saved += match lent::tree_call(size, node_table, output_table, v, &mut l.scratch) {
-                Err(Refusal::NoSuchNode) => 0,
-                answer => answer.unwrap(),
-            };
+            match lent::tree_call(size, node_table, output_table, v, &mut l.scratch) {
+                Err(Refusal::NoSuchNode) => {}
+                answer => add(answer.unwrap()),
+            }
         }
         for v in nodes.clone() {
-            saved += lent::node_call(size, node_table, output_table, v).unwrap();
+            add(lent::node_call(size, node_table, output_table, v).unwrap());
         }
         for v in nodes {
             let third = 3 * (v - size.inputs) as usize - 1;
             for word in 1..=if node_table[third] == MARK { 2 } else { 3 } {
-                saved += lent::pair_call(size, node_table, output_table, v, word).unwrap();
+                add(lent::pair_call(size, node_table, output_table, v, word).unwrap());
             }
         }
-        saved
+        l.sums[0] + l.sums[1] - own - others
     }
 
     pub fn settle(s: &mut Sample, l: &mut Lent) -> u64 {
+        l.sums = [0; 2];
         let mut rounds = 1;
         while round(s, l) > 0 {
             rounds += 1;

@@ -9,24 +9,26 @@ use differential::cases::{Case, Step};
 use differential::extremes::{self, EXTREMES};
 use differential::shrink::hold;
 use differential::{
-    exports, faults, files, lengths, lists, preview_faults, previews, raw, replays, stored, text_limits, texts,
-    trials,
+    exports, faults, files, lengths, lists, preview_faults, previews, raw, replays, savings, stored, text_limits,
+    texts, trials,
 };
 use reference::calls::Call;
-use reference::generate::{graph, Shape};
+use reference::generate::{graph, Shape, SHAPES};
 use reference::graph::Graph;
 use reference::random::Random;
 
 /// What one kind of test does with a seed: how many cases it tried, or what failed.
 type Kind = (&'static str, u64, fn(u64) -> Result<u64, String>);
 
-const KINDS: [Kind; 26] = [
+const KINDS: [Kind; 28] = [
     ("stored cases of single calls and evaluation", 1, stored),
     ("the plain implementation, lists of calls", 30_000, plain_lists),
     ("lists of calls on small graphs", 80_000, small_lists),
     ("long lists of calls", 2_000, long_lists),
     ("counts, values and files around lists", 40_000, readings),
     ("settling hundreds of nodes", 400, settled),
+    ("settling's sums, and its calls one by one", 30_000, summed),
+    ("settling's sums over dozens of nodes", 200, summed_longer),
     ("all calls on thousands of nodes", 20, large),
     ("settling at the limits", EXTREMES.len() as u64, at_limits),
     ("trials of every two moves, and the pair call by them", 30_000, tried),
@@ -87,6 +89,20 @@ fn settled(seed: u64) -> Result<u64, String> {
     let nodes = random.between(50, 400);
     let graph = graph(&mut random, shape, 12, nodes, 6);
     hold(seed, Case { graph, steps: vec![], seed }, &lists::check_settled)?;
+    Ok(1)
+}
+
+fn summed(seed: u64) -> Result<u64, String> {
+    let case = lists::random_case(seed, 9, 1);
+    hold(seed, Case { steps: vec![], ..case }, &savings::check_sums)?;
+    Ok(1)
+}
+
+fn summed_longer(seed: u64) -> Result<u64, String> {
+    let mut random = Random::new(seed);
+    let (shape, nodes) = (SHAPES[(seed % 8) as usize], random.between(20, 90));
+    let graph = graph(&mut random, shape, 12, nodes, 20);
+    hold(seed, Case { graph, steps: vec![], seed }, &savings::check_sums)?;
     Ok(1)
 }
 
@@ -254,7 +270,7 @@ fn main() -> ExitCode {
         }
     }
     if only.is_none() {
-        if let Err(wrong) = all_met().and_then(|()| trials::all_met()) {
+        if let Err(wrong) = all_met().and_then(|()| trials::all_met()).and_then(|()| savings::all_met()) {
             println!("{wrong}");
             failed += 1;
         }

@@ -1,8 +1,8 @@
 //! The node and pair calls: each decides, then writes in one sweep of each table where something turns.
 
-use super::decide::{best_pair, flags, Costs, Numbers};
+use super::decide::{best_pair, flags, parted, Costs, Numbers};
 use super::{adds, admit, Number, View};
-use reducer::MARK;
+use reducer::{Saving, MARK};
 
 /// Readers of an index, and how many of them are complemented.
 pub(super) fn readers_of(g: &View, index: u32) -> (u32, u32) {
@@ -95,7 +95,7 @@ impl Tables<'_> {
     }
 }
 
-pub fn node_call(t: &mut Tables, node: u32) -> Result<u32, Number> {
+pub fn node_call(t: &mut Tables, node: u32) -> Result<Saving, Number> {
     let g = t.view();
     admit(&g)?;
     if !is_node(&g, node) {
@@ -107,10 +107,10 @@ pub fn node_call(t: &mut Tables, node: u32) -> Result<u32, Number> {
         let made = (node, *flags(numbers.xor, least.number));
         t.write(made, made);
     }
-    Ok(numbers.cost(0) - least.cost)
+    Ok(parted(numbers.cost(0) - least.cost, numbers.odd_around(least.number)))
 }
 
-pub fn pair_call(t: &mut Tables, node: u32, word: u32) -> Result<u32, Number> {
+pub fn pair_call(t: &mut Tables, node: u32, word: u32) -> Result<Saving, Number> {
     let g = t.view();
     admit(&g)?;
     if !is_node(&g, node) {
@@ -123,7 +123,7 @@ pub fn pair_call(t: &mut Tables, node: u32, word: u32) -> Result<u32, Number> {
     }
     let named = g.node_table[at + word as usize - 1] / 2;
     if named <= g.inputs {
-        return Ok(0);
+        return Ok(Saving::default());
     }
     let which = [0, 1, 2].map(|k| g.node_table[at + k] / 2 == named);
     let (first, second) = (numbers_of(&g, named), numbers_of(&g, node));
@@ -131,5 +131,5 @@ pub fn pair_call(t: &mut Tables, node: u32, word: u32) -> Result<u32, Number> {
     if best.named + best.node != 0 {
         t.write((named, *flags(first.xor, best.named)), (node, *flags(second.xor, best.node)));
     }
-    Ok(best.saved)
+    Ok(parted(best.saved, best.odd))
 }

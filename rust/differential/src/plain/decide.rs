@@ -1,5 +1,7 @@
 //! First least moves, from a few numbers.
 
+use reducer::Saving;
+
 /// What a move turns, by kind (majority, XOR) and number: words 1 to 3, and every reader.
 const FLAGS: [[[u32; 4]; 4]; 2] = [
     [[0, 0, 0, 0], [1, 1, 1, 1], [0, 0, 0, 0], [0, 0, 0, 0]],
@@ -71,13 +73,26 @@ impl Numbers {
     pub fn best(&self) -> Least {
         least_of(self.xor, &self.costs, self.shown())
     }
+
+    /// How many readers are complemented, before a move and after it.
+    pub fn odd_around(&self, number: u32) -> [u32; 2] {
+        [self.odd, self.shown()[flags(self.xor, number)[3] as usize]]
+    }
 }
 
-/// The first least moves of a pair, and what they save.
+/// What is saved in all, in its two parts: of the edges outside only readers of the nodes named change, and `odd` of them are
+/// complemented before and after.
+pub fn parted(saved: u32, odd: [u32; 2]) -> Saving {
+    let others = i64::from(odd[0]) - i64::from(odd[1]);
+    Saving { own: i64::from(saved) - others, others }
+}
+
+/// The first least moves of a pair, what they save, and how many readers outside are complemented before and after them.
 pub struct PairMoves {
     pub named: u32,
     pub node: u32,
     pub saved: u32,
+    pub odd: [u32; 2],
 }
 
 /// For a named node, a node, and which of the node's words name the other.
@@ -98,5 +113,7 @@ pub fn best_pair(named: &Numbers, node: &Numbers, which: [bool; 3]) -> PairMoves
     let [left, turned] = others.shown();
     let first = least_of(named.xor, &named.costs, [left + answers[0].cost, turned + answers[1].cost]);
     let second = answers[flags(named.xor, first.number)[3] as usize].number;
-    PairMoves { named: first.number, node: second, saved: others.cost(0) + node.cost(0) - first.cost }
+    let (above, below) = (node.odd_around(second), others.odd_around(first.number));
+    let odd = [above[0] + below[0], above[1] + below[1]];
+    PairMoves { named: first.number, node: second, saved: others.cost(0) + node.cost(0) - first.cost, odd }
 }

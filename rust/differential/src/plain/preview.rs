@@ -2,9 +2,10 @@
 //! them is read off the words as they stand. Neither table is written.
 
 use super::calls::is_node;
-use super::decide::{flags, least_of};
+use super::decide::{flags, least_of, parted};
 use super::settle::{is_root, Kept, State};
 use super::{adds, check_limits, check_literals, check_tables, complemented, Number, View};
+use reducer::Saving;
 
 type Reading<'a> = State<&'a [[u32; 3]], &'a [u32]>;
 
@@ -43,6 +44,15 @@ impl Reading<'_> {
         }
     }
 
+    /// How many readers of a node are complemented, before these moves and after them.
+    fn odd_around(&self, v: usize, moves: &[u8]) -> [u32; 2] {
+        let Kept { readers, odd, .. } = self.kept[v];
+        match flags(self.is_xor(v), moves[v].into())[3] {
+            0 => [odd, odd],
+            _ => [odd, readers - odd],
+        }
+    }
+
     /// C after these moves.
     fn count_after(&self, moves: &[u8]) -> u32 {
         let mut sum = 0;
@@ -74,14 +84,15 @@ fn check(g: &View, root: u32, bytes: usize, scratch: usize) -> Result<(), Number
     Ok(())
 }
 
-pub fn preview(g: &View, root: u32, moves: &mut [u8], scratch: usize) -> Result<u32, Number> {
+pub fn preview(g: &View, root: u32, moves: &mut [u8], scratch: usize) -> Result<Saving, Number> {
     check(g, root, moves.len(), scratch)?;
     let (words, _) = g.words().as_chunks();
     let mut s = Reading::new(g.inputs, words, g.outs(), complemented(g));
-    s.decide_tree((root - g.inputs - 1) as usize);
+    let v = (root - g.inputs - 1) as usize;
+    s.decide_tree(v);
     let moves = &mut moves[..g.nodes as usize];
     for (told, node) in moves.iter_mut().zip(&s.kept) {
         *told = node.costs as u8;
     }
-    Ok(s.count - s.count_after(moves))
+    Ok(parted(s.count - s.count_after(moves), s.odd_around(v, moves)))
 }

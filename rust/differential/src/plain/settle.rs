@@ -4,9 +4,9 @@
 use std::ops::Deref;
 
 use super::calls::{is_node, readers_of, Tables};
-use super::decide::{best_pair, flags, least_of, Costs, Numbers};
+use super::decide::{best_pair, flags, least_of, parted, Costs, Numbers};
 use super::{admit, complemented, Number, View};
-use reducer::{Settled, MARK};
+use reducer::{Saving, Settled, MARK};
 
 #[derive(Clone, Copy, Default)]
 pub(super) struct Kept {
@@ -33,6 +33,8 @@ pub(super) struct State<Words, Outs> {
     pub(super) outs: Outs,
     pub(super) kept: Vec<Kept>,
     pub(super) count: u32,
+    /// The complemented readers outside of the nodes that a call names, before it and after it, summed over the calls made.
+    odd: [u64; 2],
 }
 
 type Settling<'a> = State<&'a mut [[u32; 3]], &'a mut [u32]>;
@@ -41,7 +43,7 @@ impl<Words: Deref<Target = [[u32; 3]]>, Outs: Deref<Target = [u32]>> State<Words
     /// With everything found; count is C.
     pub(super) fn new(inputs: u32, words: Words, outs: Outs, count: u32) -> Self {
         let kept = vec![Kept::default(); words.len()];
-        let mut s = State { inputs, words, outs, kept, count };
+        let mut s = State { inputs, words, outs, kept, count, odd: [0; 2] };
         s.find_readers();
         s.find_trees();
         s
@@ -183,7 +185,19 @@ impl<'a> Settling<'a> {
         }
     }
 
+    fn add_odd(&mut self, odd: [u32; 2]) {
+        self.odd[0] += u64::from(odd[0]);
+        self.odd[1] += u64::from(odd[1]);
+    }
+
+    /// Of all readers of the tree's nodes, only the root's are outside.
     fn tree_step(&mut self, root: usize) {
+        let before = self.kept[root].odd;
+        self.make_tree(root);
+        self.add_odd([before, self.kept[root].odd]);
+    }
+
+    fn make_tree(&mut self, root: usize) {
         self.store_tree_costs(root);
         let lowest = self.kept[root].lowest as usize;
         let mut v = root;
@@ -206,6 +220,7 @@ impl<'a> Settling<'a> {
         let least = numbers.best();
         if least.number != 0 {
             self.count -= numbers.cost(0) - least.cost;
+            self.add_odd(numbers.odd_around(least.number));
             self.make(v, least.number);
         }
     }
@@ -220,6 +235,7 @@ impl<'a> Settling<'a> {
         let best = best_pair(&self.own_numbers(u), &self.own_numbers(v), which);
         if best.saved != 0 {
             self.count -= best.saved;
+            self.add_odd(best.odd);
             self.make(u, best.named);
             self.make(v, best.node);
         }
@@ -268,9 +284,10 @@ pub fn settle(t: &mut Tables, scratch: usize) -> Result<Settled, Number> {
             break;
         }
     }
-    let after = s.count;
+    let (after, odd) = (s.count, s.odd);
     s.write_out();
-    Ok(Settled { rounds, before, after })
+    let others = odd[0] as i64 - odd[1] as i64;
+    Ok(Settled { rounds, before, after, own: i64::from(before - after) - others, others })
 }
 
 /// A root is found by a scan, before scratch is looked at.
@@ -278,7 +295,7 @@ pub(super) fn is_root(g: &View, root: u32) -> bool {
     readers_of(g, root).0 != 1 || g.outs().iter().any(|&word| word / 2 == root)
 }
 
-pub fn tree_call(t: &mut Tables, root: u32, scratch: usize) -> Result<u32, Number> {
+pub fn tree_call(t: &mut Tables, root: u32, scratch: usize) -> Result<Saving, Number> {
     let g = t.view();
     admit(&g)?;
     if !is_node(&g, root) || !is_root(&g, root) {
@@ -289,9 +306,9 @@ pub fn tree_call(t: &mut Tables, root: u32, scratch: usize) -> Result<u32, Numbe
     }
     let v = (root - g.inputs - 1) as usize;
     let mut s = Settling::of(t);
-    let before = s.count;
-    s.tree_step(v);
-    let saved = before - s.count;
+    let (before, odd) = (s.count, s.kept[v].odd);
+    s.make_tree(v);
+    let saving = parted(before - s.count, [odd, s.kept[v].odd]);
     s.write_out();
-    Ok(saved)
+    Ok(saving)
 }

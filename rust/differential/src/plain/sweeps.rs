@@ -1,9 +1,9 @@
 //! The tree call by another programme: the costs of all nodes by one sweep, the moves of the tree by another, and one sweep that writes.
 
 use super::calls::{is_node, readers_of, word_costs, Tables};
-use super::decide::{flags, least_of, Costs};
+use super::decide::{flags, least_of, parted, Costs};
 use super::{admit, complemented, Number, View};
-use reducer::MARK;
+use reducer::{Saving, MARK};
 
 /// What a tree call keeps of a node.
 #[derive(Clone, Copy)]
@@ -91,8 +91,8 @@ fn choose_at(g: &View, kept: &mut [Kept], v: usize, readers: [u32; 2]) {
     kept[v].chosen = true;
 }
 
-/// The moves of a root's tree, by falling index.
-fn choose(g: &View, kept: &mut [Kept], root: usize) {
+/// The moves of a root's tree, by falling index; how many of the root's readers are complemented before them and after.
+fn choose(g: &View, kept: &mut [Kept], root: usize) -> [u32; 2] {
     let (readers, odd) = readers_of(g, g.inputs + 1 + root as u32);
     choose_at(g, kept, root, [odd, readers - odd]);
     for v in (0..root).rev() {
@@ -100,6 +100,7 @@ fn choose(g: &View, kept: &mut [Kept], root: usize) {
             choose_at(g, kept, v, [bit, 1 - bit]);
         }
     }
+    [odd, [odd, readers - odd][usize::from(kept[root].turned[3])]]
 }
 
 fn turn_tree(t: &mut Tables, kept: &[Kept]) {
@@ -116,7 +117,7 @@ fn turn_tree(t: &mut Tables, kept: &[Kept]) {
     }
 }
 
-pub fn tree_call(t: &mut Tables, root: u32, scratch: usize) -> Result<u32, Number> {
+pub fn tree_call(t: &mut Tables, root: u32, scratch: usize) -> Result<Saving, Number> {
     let g = t.view();
     admit(&g)?;
     if !is_node(&g, root) {
@@ -132,7 +133,7 @@ pub fn tree_call(t: &mut Tables, root: u32, scratch: usize) -> Result<u32, Numbe
     }
     let before = complemented(&g);
     fill_costs(&g, &mut kept);
-    choose(&g, &mut kept, v);
+    let odd = choose(&g, &mut kept, v);
     turn_tree(t, &kept);
-    Ok(before - complemented(&t.view()))
+    Ok(parted(before - complemented(&t.view()), odd))
 }
