@@ -1,16 +1,17 @@
 -- Importing an export finds no fault in its lines: only a limit or a short table can refuse it. From the laws on lines and gates.
-use Prim.Native.Nat.{ℕ, zero, suc, _+_, _*_, _/_, _<_, _≤_}
+use Prim.Native.Nat.{ℕ, _+_, _*_, _/_, _<_, _≤_}
 use mathlib.Core.Path.{_≡_, refl, sym, ap, _∙_}
 use mathlib.Core.Logic.{_⊎_, inl, inr, ⊎-elim}
 use mathlib.Core.List.{List}
 use native.Mathlib.Omega.{arith}
 use lib.ListN.{length, getD}
-use Rattle.graph.specs.Finite.{ifLess, first}
+use Rattle.graph.specs.Finite.{ifLess}
 use Rattle.graph.specs.Graph.{Graph, output}
 use Rattle.graph.specs.Admission.{Admitted, roomNumber}
 use Rattle.graph.proofs.Cases.{lt-or-le}
 use Rattle.graph.proofs.Finite.{length-tab, getD-tab}
 use Rattle.graph.proofs.Tests.{less, no-less, equal, none, all-none}
+use Rattle.tagged_file.proofs.Named.{first-none}
 use Rattle.aiger.specs.Lines.{number, skip, numberAt}
 use Rattle.aiger.specs.Import.{headerNumber, inputLineNumber, outputLineNumber, gateLineNumber, inputLinesNumber, outputLinesNumber, gateLinesNumber, bodyNumber, importNumber}
 use Rattle.aiger.specs.Export.{gatesBefore, exported, gates, ones, threes, inputs, outputs, exportText}
@@ -106,50 +107,39 @@ module _ (g : Graph) (adm : Admitted g) where
   export-read =
       head-read (g .I) (gatesBefore g (g .N)) (g .O) (bodyText g) (omega (arith, adm .few-inputs)) (omega (arith, few-gates)) (omega (arith, adm .few-outputs))
 
-first-none : (a b : ℕ) → b ≡ 0 → first a b ≡ a
-unfolding first
-first-none zero b e = e
-first-none (suc a) b e = refl
-
-head-room : (s rest : List ℕ) (i n o a b : ℕ) → HeadRead s i n o rest → headerNumber s a b ≡ roomNumber i n o a b
+head-room : (s rest : List ℕ) (i n o a b l : ℕ) → HeadRead s i n o rest → headerNumber s a b l ≡ roomNumber i n o a b l
 unfolding headerNumber
-head-room s rest i n o a b r =
+head-room s rest i n o a b l r =
     sym (none _ _ (r .aag) (none _ _ (r .fine) (equal _ _ _ _ (r .latches) (equal _ _ _ _ (omega (arith, r .m, r .inputs, r .gates)) (rw (r .inputs, r .outputs, r .gates) refl)))))
 
-whole : (s rest : List ℕ) (i n o a b : ℕ) → HeadRead s i n o rest → bodyNumber rest i n o ≡ 0 → importNumber s a b ≡ roomNumber i n o a b
+whole : (s rest : List ℕ) (i n o a b l : ℕ) → HeadRead s i n o rest → bodyNumber rest i n o ≡ 0 → importNumber s a b l ≡ roomNumber i n o a b l
 unfolding importNumber
-whole s rest i n o a b r e = rw (head-room s rest i n o a b r, r .after, r .inputs, r .outputs, r .gates) (first-none _ _ e)
+whole s rest i n o a b l r e = rw (head-room s rest i n o a b l r, r .after, r .inputs, r .outputs, r .gates) (first-none _ _ e)
 
 abbrev pub Allowed : ℕ → Type 0
 Allowed k = (k ≡ 0) ⊎ ((k ≡ 3) ⊎ (k ≡ 4))
 
-allowed : (p q r s t u : ℕ) → Allowed (ifLess p q 3 (ifLess r s 4 (ifLess t u 4 0)))
-allowed p q r s t u =
-    ⊎-elim
-    (λ (h : p < q). inr (inl (sym (less p q _ _ h refl))))
-    (λ (h : q ≤ p).
-    ⊎-elim
-    (λ (k : r < s). inr (inr (sym (no-less p q _ _ h (less r s _ _ k refl)))))
-    (λ (k : s ≤ r).
-    ⊎-elim
-    (λ (l : t < u). inr (inr (sym (no-less p q _ _ h (no-less r s _ _ k (less t u _ _ l refl))))))
-    (λ (l : u ≤ t). inl (sym (no-less p q _ _ h (no-less r s _ _ k (no-less t u _ _ l refl)))))
-    (lt-or-le t u))
-    (lt-or-le r s))
-    (lt-or-le p q)
+allowed : (a b x y : ℕ) → Allowed x → Allowed y → Allowed (ifLess a b x y)
+allowed a b x y p q =
+    ⊎-elim (λ (h : a < b). rw (← less a b x y h refl) p) (λ (h : b ≤ a). rw (← no-less a b x y h refl) q) (lt-or-le a b)
 
 -- an export is refused by 3, where it has too many gates, and by 4, and by nothing else
-module _ (g : Graph) (adm : Admitted g) (nodeRoom outputRoom : ℕ) where
-  pub import-room : importNumber (exportText g) nodeRoom outputRoom ≡ roomNumber (g .I) (gatesBefore g (g .N)) (g .O) nodeRoom outputRoom
-  import-room = whole (exportText g) (bodyText g) (g .I) (gatesBefore g (g .N)) (g .O) nodeRoom outputRoom (export-read g adm) (body-none g adm)
+module _ (g : Graph) (adm : Admitted g) (nodeRoom outputRoom lockRoom : ℕ) where
+  pub import-room : importNumber (exportText g) nodeRoom outputRoom lockRoom ≡ roomNumber (g .I) (gatesBefore g (g .N)) (g .O) nodeRoom outputRoom lockRoom
+  import-room = whole (exportText g) (bodyText g) (g .I) (gatesBefore g (g .N)) (g .O) nodeRoom outputRoom lockRoom (export-read g adm) (body-none g adm)
 
-  pub import-number : importNumber (exportText g) nodeRoom outputRoom
-      ≡ ifLess 100000 (gatesBefore g (g .N)) 3 (ifLess nodeRoom (3 * gatesBefore g (g .N)) 4 (ifLess outputRoom (g .O) 4 0))
+  pub import-number : importNumber (exportText g) nodeRoom outputRoom lockRoom
+      ≡ ifLess 100000 (gatesBefore g (g .N)) 3
+      (ifLess nodeRoom (3 * gatesBefore g (g .N)) 4
+      (ifLess outputRoom (g .O) 4
+      (ifLess lockRoom (gatesBefore g (g .N)) 4 0)))
   unfolding roomNumber
   import-number =
-      let rest : ℕ = ifLess nodeRoom (3 * gatesBefore g (g .N)) 4 (ifLess outputRoom (g .O) 4 0) in
+      let rest : ℕ = ifLess nodeRoom (3 * gatesBefore g (g .N)) 4 (ifLess outputRoom (g .O) 4 (ifLess lockRoom (gatesBefore g (g .N)) 4 0)) in
       let e : ifLess 4096 (g .O) 3 rest ≡ rest = sym (no-less 4096 (g .O) 3 rest (adm .few-outputs) refl) in
       import-room ∙ sym (no-less 4096 (g .I) _ _ (adm .few-inputs) (rw e))
 
-  pub import-three-or-four : Allowed (importNumber (exportText g) nodeRoom outputRoom)
-  import-three-or-four = rw import-number (allowed 100000 (gatesBefore g (g .N)) nodeRoom (3 * gatesBefore g (g .N)) outputRoom (g .O))
+  pub import-three-or-four : Allowed (importNumber (exportText g) nodeRoom outputRoom lockRoom)
+  import-three-or-four =
+      let four : Allowed 4 = inr (inr refl) in
+      rw import-number (allowed _ _ 3 _ (inr (inl refl)) (allowed _ _ 4 _ four (allowed _ _ 4 _ four (allowed _ _ 4 0 four (inl refl)))))

@@ -1,19 +1,22 @@
--- What an accepted text says of its numbers, and that the imported graph is admitted. From the laws on tests.
+-- What an accepted text says of its numbers, and that the imported graph is admitted with its locks. From the laws on tests.
 use Prim.Native.Nat.{ℕ, zero, suc, _+_, _*_, _/_, _%_, _<_, _≤_}
 use mathlib.Core.Path.{_≡_, refl, sym, ap, _∙_}
 use mathlib.Core.Logic.{⊎-elim}
-use mathlib.Core.List.{List}
+use mathlib.Core.List.{List, [], _∷_}
 use native.Mathlib.Omega.{arith}
 use lib.ListN.{length, drop, length-append, List·getD-append}
 use Rattle.graph.specs.Finite.{tab}
-use Rattle.graph.specs.Graph.{Graph, word, output}
-use Rattle.graph.specs.Admission.{Admitted}
-use Rattle.graph.specs.Answer.{Outcome, guarded}
+use Rattle.graph.specs.Graph.{word, output}
+use Rattle.graph.specs.Admission.{Admitted, LockBytes}
+use Rattle.graph.specs.Answer.{accepted, lockedOutcome}
 use Rattle.graph.proofs.Admit.{Rooms, rooms}
 use Rattle.graph.proofs.Cases.{lt-or-le}
 use Rattle.graph.proofs.Finite.{length-tab, getD-tab}
 use Rattle.graph.proofs.Tests.{equal, unequal, on, is, both, each-none}
-use Rattle.graph.proofs.Answers.{accepted-outcome}
+use Rattle.graph.proofs.Answers.{accepted-locked}
+use Rattle.tagged_file.specs.Load.{freeLocks}
+use Rattle.tagged_file.proofs.Named.{free-bytes}
+use Rattle.tagged_file.proofs.Whole.{guarded-number}
 use Rattle.aiger.specs.Lines.{number, next, skip, numberAt}
 use Rattle.aiger.specs.Import.{headI, headO, headA, body, headerNumber, outputLineNumber, gateLineNumber, outputLinesNumber, gateLinesNumber, bodyNumber, importNumber, gateWord, graphImported, importCall}
 
@@ -22,11 +25,11 @@ skip-add zero m s = let e : 0 + m ≡ m = omega arith in rw e
 skip-add (suc k) m s = let e : suc k + m ≡ suc (k + m) = omega arith in rw e (skip-add k m (next s))
 
 -- limits and tables
-head-rooms : (s : List ℕ) (a b : ℕ) → headerNumber s a b ≡ 0 → Rooms (headI s) (headA s) (headO s) a b
+pub head-rooms : (s : List ℕ) (a b l : ℕ) → headerNumber s a b l ≡ 0 → Rooms (headI s) (headA s) (headO s) a b l
 unfolding headerNumber
-head-rooms s a b e =
+head-rooms s a b l e =
     let p = both _ _ (both _ _ e .1) .1 in
-    rooms _ _ _ _ _ (is _ _ _ _ (is _ _ _ _ p .1) .1)
+    rooms _ _ _ _ _ _ (is _ _ _ _ (is _ _ _ _ p .1) .1)
 
 -- an output, and a gate's two literals
 output-below : (s : List ℕ) (v : ℕ) → outputLineNumber s v ≡ 0 → number s / 2 < v
@@ -91,11 +94,11 @@ module _ (s ns os : List ℕ) where
       let f : ℕ → ℕ = λ k. numberAt (body s) (headI s + k) in
       List·getD-append (tab o f) (drop o os) 0 j (rw (length-tab o f) h) ∙ getD-tab o f j h
 
-  pub imported-admitted : importNumber s (length ns) (length os) ≡ 0 → Admitted (graphImported s ns os)
+  pub imported-admitted : (l : ℕ) → importNumber s (length ns) (length os) l ≡ 0 → Admitted (graphImported s ns os)
   unfolding importNumber graphImported
-  imported-admitted e =
+  imported-admitted l e =
       let f = both _ _ e in
-      let p = head-rooms s (length ns) (length os) (f .0) in
+      let p = head-rooms s (length ns) (length os) l (f .0) in
       let n : ℕ = headA s in
       let o : ℕ = headO s in
       let w : ℕ → ℕ = gateWord (body s) (headI s + o) in
@@ -111,19 +114,18 @@ module _ (s ns os : List ℕ) where
       }
 
 -- an import is accepted just where no fault is found, and what it then leaves is admitted
-guarded-zero : (k : ℕ) (g : Graph) (o : Outcome) → guarded k g o .answer .number ≡ 0 → k ≡ 0
-unfolding guarded
-guarded-zero zero g o e = refl
-guarded-zero (suc k) g o e = absurd (omega arith)
-
-module _ (s ns os : List ℕ) (e : importCall s ns os .answer .number ≡ 0) where
-  pub no-fault : importNumber s (length ns) (length os) ≡ 0
+module _ (s ns os ls : List ℕ) (e : importCall s ns os ls .answer .number ≡ 0) where
+  pub no-fault : importNumber s (length ns) (length os) (length ls) ≡ 0
   unfolding importCall
-  no-fault = guarded-zero _ _ _ e
+  no-fault = sym (guarded-number _ _ _ _ refl) ∙ e
 
-  pub import-is : importCall s ns os .graph ≡ graphImported s ns os
+  pub import-is : importCall s ns os ls ≡ lockedOutcome (accepted (headI s ∷ headA s ∷ headO s ∷ [])) (graphImported s ns os) (freeLocks (headA s) ls)
   unfolding importCall
-  import-is = sym (ap (λ (o : Outcome). o .graph) (accepted-outcome _ _ _ no-fault))
+  import-is = sym (accepted-locked _ _ _ _ no-fault)
 
-  pub import-admitted : Admitted (importCall s ns os .graph)
-  import-admitted = rw import-is (imported-admitted s ns os no-fault)
+  pub import-admitted : Admitted (importCall s ns os ls .graph)
+  import-admitted = rw import-is (imported-admitted s ns os (length ls) no-fault)
+
+  pub import-locks : LockBytes (importCall s ns os ls .graph .N) (importCall s ns os ls .locks)
+  unfolding graphImported
+  import-locks = rw import-is (free-bytes (headA s) ls)

@@ -1,6 +1,6 @@
 -- Importing an export: it is refused by 3 or 4 or not at all, and then every output has its value under every assignment.
 -- From the laws on the text and on values.
-use Prim.Native.Nat.{ℕ, zero, suc, _+_, _*_, _<_}
+use Prim.Native.Nat.{ℕ, _+_, _*_, _<_}
 use mathlib.Core.Path.{_≡_, refl, sym, ap, _∙_}
 use mathlib.Core.List.{List}
 use native.Mathlib.Omega.{arith}
@@ -8,7 +8,7 @@ use lib.ListN.{length}
 use Rattle.graph.specs.Graph.{Graph, word, output}
 use Rattle.graph.specs.Admission.{Admitted}
 use Rattle.graph.specs.Value.{literalValue, values, outputValue}
-use Rattle.graph.specs.Answer.{Outcome, guarded}
+use Rattle.tagged_file.proofs.Whole.{guarded-number}
 use Rattle.aiger.specs.Lines.{number, skip, numberAt}
 use Rattle.aiger.specs.Import.{gateWord, graphImported, importNumber, importCall}
 use Rattle.aiger.specs.Export.{gatesBefore, exported, gates, exportText}
@@ -71,23 +71,18 @@ module _ (g : Graph) (adm : Admitted g) (ns os : List ℕ) where
       ∙ sym (agree g back adm carries a (g .N) (omega arith) (output g j) (adm .output-below j h))
 
 -- the calls
-guarded-number : (k : ℕ) (b : Graph) (o : Outcome) → o .answer .number ≡ 0 → guarded k b o .answer .number ≡ k
-unfolding guarded
-guarded-number zero b o e = e
-guarded-number (suc k) b o e = refl
-
-import-answer : (s ns os : List ℕ) → importCall s ns os .answer .number ≡ importNumber s (length ns) (length os)
+import-answer : (s ns os ls : List ℕ) → importCall s ns os ls .answer .number ≡ importNumber s (length ns) (length os) (length ls)
 unfolding importCall
-import-answer s ns os = guarded-number _ _ _ refl
+import-answer s ns os ls = guarded-number _ _ _ _ refl
 
-module _ (g : Graph) (adm : Admitted g) (ns os : List ℕ) where
-  pub import-refused : Allowed (importCall (exportText g) ns os .answer .number)
-  import-refused = rw (import-answer (exportText g) ns os) (import-three-or-four g adm (length ns) (length os))
+module _ (g : Graph) (adm : Admitted g) (ns os ls : List ℕ) where
+  pub import-refused : Allowed (importCall (exportText g) ns os ls .answer .number)
+  import-refused = rw (import-answer (exportText g) ns os ls) (import-three-or-four g adm (length ns) (length os) (length ls))
 
   -- an import of an export that is accepted has the outputs of the graph
-  module _ (e : importCall (exportText g) ns os .answer .number ≡ 0) where
-    pub same-outputs : importCall (exportText g) ns os .graph .O ≡ g .O
-    same-outputs = ap (λ (b : Graph). b .O) (import-is (exportText g) ns os e) ∙ back-outs g adm ns os
+  module _ (e : importCall (exportText g) ns os ls .answer .number ≡ 0) where
+    pub same-outputs : importCall (exportText g) ns os ls .graph .O ≡ g .O
+    same-outputs = rw (import-is (exportText g) ns os ls e) (back-outs g adm ns os)
 
-    pub same-values : (a : ℕ → ℕ) (j : ℕ) → j < g .O → outputValue (importCall (exportText g) ns os .graph) a j ≡ outputValue g a j
-    same-values a j h = rw (import-is (exportText g) ns os e) (same-value g adm ns os a j h)
+    pub same-values : (a : ℕ → ℕ) (j : ℕ) → j < g .O → outputValue (importCall (exportText g) ns os ls .graph) a j ≡ outputValue g a j
+    same-values a j h = rw (import-is (exportText g) ns os ls e) (same-value g adm ns os a j h)

@@ -7,7 +7,9 @@ use Rattle.graph.specs.Graph.{graphOf, mark, isXor, turn}
 use Rattle.graph.specs.Decimal.{decimalIn, decimal}
 use Rattle.aiger.specs.Lines.{ifDigit, digits, worth, number, endedNumber, next, lineNumber}
 use Rattle.graph.specs.Admission.{roomNumber}
-use Rattle.aiger.specs.Import.{aagNumber, headerNumber, inputLineNumber, outputLineNumber, gateLineNumber, inputLinesNumber, outputLinesNumber, gateLinesNumber, bodyNumber, importNumber, gateWord, graphImported}
+use Rattle.graph.specs.Answer.{guardedLocks}
+use Rattle.tagged_file.specs.Load.{freeLocks}
+use Rattle.aiger.specs.Import.{aagNumber, headerNumber, inputLineNumber, outputLineNumber, gateLineNumber, inputLinesNumber, outputLinesNumber, gateLinesNumber, bodyNumber, importNumber, gateWord, graphImported, importCall}
 use Rattle.aiger.specs.Export.{gatesOf, gatesBefore, exported, xorGates, majorityGates, nodeGates, gates, ended, ones, threes, header, inputs, outputs, exportText}
 
 -- "aag 7 3 0 1 4|2|4|6|15|8 5 7|10 2 9|12 4 6|14 11 13|"
@@ -47,13 +49,18 @@ pub majority-graph : graphImported majorityText (1 ∷ 1 ∷ 1 ∷ 1 ∷ 1 ∷ 1
 unfolding graphImported gateWord next number worth digits ifDigit ifLess ifEqual tab
 majority-graph = refl
 
-pub majority-numbers : (importNumber majorityText 12 1 ∷ importNumber majorityText 11 1 ∷ importNumber majorityText 12 0 ∷ []) ≡ (0 ∷ 4 ∷ 4 ∷ [])
+pub majority-numbers : (importNumber majorityText 12 1 4 ∷ importNumber majorityText 11 1 4 ∷ importNumber majorityText 12 0 4 ∷ importNumber majorityText 12 1 3 ∷ []) ≡ (0 ∷ 4 ∷ 4 ∷ 4 ∷ [])
 unfolding importNumber headerNumber aagNumber roomNumber inputLinesNumber outputLinesNumber gateLinesNumber bodyNumber inputLineNumber outputLineNumber gateLineNumber lineNumber endedNumber next number worth digits ifDigit ifLess ifEqual first firstOf
 majority-numbers = refl
 
--- faults, with room for one gate and one output
+-- every node is free, and a later byte is kept
+pub majority-locks : importCall majorityText (1 ∷ 1 ∷ 1 ∷ 1 ∷ 1 ∷ 1 ∷ 1 ∷ 1 ∷ 1 ∷ 1 ∷ 1 ∷ 1 ∷ []) (1 ∷ []) (1 ∷ 2 ∷ 1 ∷ 1 ∷ 9 ∷ []) .locks ≡ 0 ∷ 0 ∷ 0 ∷ 0 ∷ 9 ∷ []
+unfolding importCall freeLocks guardedLocks importNumber headerNumber aagNumber roomNumber inputLinesNumber outputLinesNumber gateLinesNumber bodyNumber inputLineNumber outputLineNumber gateLineNumber lineNumber endedNumber next number worth digits ifDigit ifLess ifEqual first firstOf tab
+majority-locks = refl
+
+-- faults, with room for one gate, its lock and one output
 abbrev fault : List ℕ → ℕ
-fault s = importNumber s 3 1
+fault s = importNumber s 3 1 1
 
 -- a leading zero: "aag 07 3 0 1 4|"
 pub leading-zero : fault (97 ∷ 97 ∷ 103 ∷ 32 ∷ 48 ∷ 55 ∷ 32 ∷ 51 ∷ 32 ∷ 48 ∷ 32 ∷ 49 ∷ 32 ∷ 52 ∷ 10 ∷ []) ≡ 10

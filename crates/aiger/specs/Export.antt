@@ -83,10 +83,11 @@ outputs g = tab (g .O) (λ j. exported g (output g j))
 unfoldable pub exportText : Graph → List ℕ
 exportText g = header (g .I) (gatesBefore g (g .N)) (g .O) (ones (inputs g) (ones (outputs g) (threes (gates g (g .N)))))
 
--- 3, 4 and 5, then 8 and 9 where scratch or the buffer has too little room
-unfoldable pub exportNumber : Graph → ℕ → ℕ → ℕ
-exportNumber g scratch room = first (admissionNumber g) (ifLess scratch (g .N) 8 (ifLess room (length (exportText g)) 9 0))
+-- 3, 4, 5 and 13, then 8 and 9 where scratch or the buffer has too little room
+unfoldable pub exportNumber : Graph → List ℕ → ℕ → ℕ → ℕ
+exportNumber g ls scratch room = first (admissionNumber g ls) (ifLess scratch (g .N) 8 (ifLess room (length (exportText g)) 9 0))
 
--- exporting g into the buffer b: its front is the text, the rest is left; refused, all of it is left
-unfoldable pub exportCall : Graph → List ℕ → List ℕ → WriteOutcome
-exportCall g scratch b = writeBy (exportNumber g (length scratch) (length b)) (exportText g) b
+-- exporting g with the locks ls, which the text does not say, into the buffer b: its front is the text, the rest is left; refused,
+-- all of it is left
+unfoldable pub exportCall : Graph → List ℕ → List ℕ → List ℕ → WriteOutcome
+exportCall g ls scratch b = writeBy (exportNumber g ls (length scratch) (length b)) (exportText g) b

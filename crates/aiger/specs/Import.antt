@@ -1,12 +1,12 @@
--- Importing ASCII AIGER: the first fault from front to back, and the graph.
+-- Importing ASCII AIGER: the first fault from front to back, and the graph, whose nodes are all free.
 use Prim.Native.Nat.{ℕ, _+_, _*_, _%_}
 use mathlib.Core.List.{List, [], _∷_, _++_}
 use lib.ListN.{length, getD, drop}
 use Rattle.graph.specs.Finite.{ifLess, ifEqual, first, firstOf, tab}
 use Rattle.graph.specs.Graph.{Graph, graphOf, index}
 use Rattle.graph.specs.Admission.{roomNumber}
-use Rattle.graph.specs.Answer.{accepted, Outcome, outcome, guarded}
-use Rattle.tagged_file.specs.Load.{blank}
+use Rattle.graph.specs.Answer.{accepted, LockedOutcome, lockedOutcome, guardedLocks}
+use Rattle.tagged_file.specs.Load.{blank, freeLocks}
 use Rattle.aiger.specs.Lines.{number, skip, numberAt, lineNumber}
 
 -- the numbers of the header "aag M I L O A", and what follows it
@@ -39,14 +39,14 @@ aagNumber s =
     10)
     10
 
--- the header: limits and lent tables as for loading
-unfoldable pub headerNumber : List ℕ → ℕ → ℕ → ℕ
-headerNumber s nodeRoom outputRoom =
+-- the header: limits and lent slices as for loading
+unfoldable pub headerNumber : List ℕ → ℕ → ℕ → ℕ → ℕ
+headerNumber s nodeRoom outputRoom lockRoom =
     first (aagNumber s)
     (first (lineNumber 4 (drop 4 s))
     (ifEqual (headL s) 0
     (ifEqual (headM s) (headI s + headA s)
-    (roomNumber (headI s) (headA s) (headO s) nodeRoom outputRoom)
+    (roomNumber (headI s) (headA s) (headO s) nodeRoom outputRoom lockRoom)
     12)
     11))
 
@@ -88,10 +88,10 @@ bodyNumber s i n o =
     (gateLinesNumber (skip (i + o) s) n (i + 1)))
 
 -- the whole text: the first fault from front to back
-unfoldable pub importNumber : List ℕ → ℕ → ℕ → ℕ
-importNumber s nodeRoom outputRoom =
+unfoldable pub importNumber : List ℕ → ℕ → ℕ → ℕ → ℕ
+importNumber s nodeRoom outputRoom lockRoom =
     let rest = bodyNumber (body s) (headI s) (headA s) (headO s) in
-    first (headerNumber s nodeRoom outputRoom) rest
+    first (headerNumber s nodeRoom outputRoom lockRoom) rest
 
 -- word j of the node table: 0 in front, where the line has the gate's own number, then the line's other two
 unfoldable pub gateWord : List ℕ → ℕ → ℕ → ℕ
@@ -107,8 +107,8 @@ graphImported s ns os =
     (tab (3 * n) (gateWord (body s) (i + o)) ++ drop (3 * n) ns)
     (tab o (λ j. numberAt (body s) (i + j)) ++ drop o os)
 
--- importing the text s into the tables ns and os
-unfoldable pub importCall : List ℕ → List ℕ → List ℕ → Outcome
-importCall s ns os =
-    guarded (importNumber s (length ns) (length os)) (blank ns os)
-    (outcome (accepted (headI s ∷ headA s ∷ headO s ∷ [])) (graphImported s ns os))
+-- importing the text s into the tables ns and os and the lock bytes ls
+unfoldable pub importCall : List ℕ → List ℕ → List ℕ → List ℕ → LockedOutcome
+importCall s ns os ls =
+    guardedLocks (importNumber s (length ns) (length os) (length ls)) (blank ns os) ls
+    (lockedOutcome (accepted (headI s ∷ headA s ∷ headO s ∷ [])) (graphImported s ns os) (freeLocks (headA s) ls))

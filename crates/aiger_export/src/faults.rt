@@ -11,12 +11,20 @@ pub fn export_number(
     outputs: u32,
     node_table: &[u32],
     output_table: &[u32],
+    locks: &[u8],
     words: usize,
     room: usize,
 ) -> u32
-    ensures { λ r. ⌜ r ≡ exportNumber (graphOf inputs nodes outputs (now («node_table» .entry)) (now («output_table» .entry))) words room ⌝ }
+    ensures { λ r. ⌜ r ≡ exportNumber (graphOf inputs nodes outputs (now («node_table» .entry)) (now («output_table» .entry))) (now (locks .entry)) words room ⌝ }
 {
-    let k = graph::faults::admission_number(inputs, nodes, outputs, node_table, output_table);
+    let k = graph::faults::admission_number(
+        inputs,
+        nodes,
+        outputs,
+        node_table,
+        output_table,
+        locks,
+    );
     if k != 0 {
         return k;
     }

@@ -21,10 +21,11 @@ pub fn export(
     outputs: u32,
     node_table: &[u32],
     output_table: &[u32],
+    locks: &[u8],
     scratch: &mut [u32],
     buffer: &mut [u8],
 ) -> Written
-    ensures outcome { λ r. ⌜ writeOutcome (writtenAnswer r) (now (buffer .exit)) ≡ exportCall (graphOf inputs nodes outputs (now («node_table» .entry)) (now («output_table» .entry))) (now (scratch .entry)) (now (buffer .entry)) ⌝ }
+    ensures outcome { λ r. ⌜ writeOutcome (writtenAnswer r) (now (buffer .exit)) ≡ exportCall (graphOf inputs nodes outputs (now («node_table» .entry)) (now («output_table» .entry))) (now (locks .entry)) (now (scratch .entry)) (now (buffer .entry)) ⌝ }
     ensures scratch { λ r. ⌜ ScratchKept (writtenAnswer r) (now (scratch .entry)) (now (scratch .exit)) ⌝ }
 {
     let number = faults::export_number(
@@ -33,6 +34,7 @@ pub fn export(
         outputs,
         node_table,
         output_table,
+        locks,
         scratch.len(),
         buffer.len(),
     );

@@ -31,8 +31,8 @@ aag-room s e =
 pub room-left : (s t ns : List ℕ) (f size : ℕ) → aagNumber s ≡ 0 → t ≡ drop 4 s → LineRead 4 t ns f size → f ≡ 0 → 4 + size ≤ length s
 room-left s t ns f size w p r z = omega (arith, aag-room s w, r .passed .within z, ap length p, length-drop 4 s)
 
-module _ (s : List ℕ) (a b : ℕ) (h : Header) where
-  refused : h .fault ≡ headerNumber s a b → (h .fault ≡ 0 → ⊥) → HeaderRead s a b h
+module _ (s : List ℕ) (a b l : ℕ) (h : Header) where
+  refused : h .fault ≡ headerNumber s a b l → (h .fault ≡ 0 → ⊥) → HeaderRead s a b l h
   refused e z =
       record {
         fault-is = e;
@@ -43,7 +43,7 @@ module _ (s : List ℕ) (a b : ℕ) (h : Header) where
         after = λ y. absurd (z y);
       }
 
-  pub no-aag : (n : ℕ) → h .fault ≡ n → n ≡ aagNumber s → (n ≡ 0 → ⊥) → HeaderRead s a b h
+  pub no-aag : (n : ℕ) → h .fault ≡ n → n ≡ aagNumber s → (n ≡ 0 → ⊥) → HeaderRead s a b l h
   unfolding headerNumber
   no-aag n q e z = refused (q ∙ fault (aagNumber s) _ e (λ y. z (e ∙ y))) (λ y. z (sym q ∙ y))
 
@@ -51,36 +51,36 @@ module _ (s : List ℕ) (a b : ℕ) (h : Header) where
     line-is : f ≡ lineNumber 4 (drop 4 s)
     line-is = r .passed .fault-is ∙ ap (lineNumber 4) p
 
-    pub no-line : h .fault ≡ f → (f ≡ 0 → ⊥) → HeaderRead s a b h
+    pub no-line : h .fault ≡ f → (f ≡ 0 → ⊥) → HeaderRead s a b l h
     unfolding headerNumber
     no-line q z = refused (q ∙ none (aagNumber s) _ w (fault _ _ line-is (λ y. z (line-is ∙ y)))) (λ y. z (sym q ∙ y))
 
     module _ (z : f ≡ 0) where
       at : (j : ℕ) → j ≤ 4 → getD ns j 0 ≡ numberAt (drop 4 s) j
-      at j l = r .numbers z j l ∙ ap (λ (u : List ℕ). numberAt u j) p
+      at j k = r .numbers z j k ∙ ap (λ (u : List ℕ). numberAt u j) p
 
       -- the tests after the line
-      rest-is : (x : ℕ) → x ≡ ifEqual (headL s) 0 (ifEqual (headM s) (headI s + headA s) (roomNumber (headI s) (headA s) (headO s) a b) 12) 11 → x ≡ headerNumber s a b
+      rest-is : (x : ℕ) → x ≡ ifEqual (headL s) 0 (ifEqual (headM s) (headI s + headA s) (roomNumber (headI s) (headA s) (headO s) a b l) 12) 11 → x ≡ headerNumber s a b l
       unfolding headerNumber
       rest-is x e = none (aagNumber s) _ w (none _ _ (sym line-is ∙ z) e)
 
-      pub has-latches : h .fault ≡ 11 → (getD ns 2 0 ≡ 0 → ⊥) → HeaderRead s a b h
+      pub has-latches : h .fault ≡ 11 → (getD ns 2 0 ≡ 0 → ⊥) → HeaderRead s a b l h
       has-latches q d =
           refused (rest-is (h .fault) (unequal (headL s) 0 _ _ (λ y. d (at 2 (omega arith) ∙ y)) q)) (λ y. omega arith)
 
-      module _ (l : getD ns 2 0 ≡ 0) where
+      module _ (none-there : getD ns 2 0 ≡ 0) where
         latches : headL s ≡ 0
-        latches = sym (at 2 (omega arith)) ∙ l
+        latches = sym (at 2 (omega arith)) ∙ none-there
 
-        pub wrong-m : h .fault ≡ 12 → (getD ns 0 0 ≡ getD ns 1 0 + getD ns 4 0 → ⊥) → HeaderRead s a b h
+        pub wrong-m : h .fault ≡ 12 → (getD ns 0 0 ≡ getD ns 1 0 + getD ns 4 0 → ⊥) → HeaderRead s a b l h
         wrong-m q d =
             let m₀ = at 0 (omega arith) in
             let m₁ = at 1 (omega arith) in
             let m₄ = at 4 (omega arith) in
             refused (rest-is (h .fault) (equal (headL s) 0 _ _ latches (unequal (headM s) (headI s + headA s) _ _ (λ y. d (omega arith)) q))) (λ y. omega arith)
 
-        pub whole : getD ns 0 0 ≡ getD ns 1 0 + getD ns 4 0 → h .fault ≡ roomNumber (getD ns 1 0) (getD ns 4 0) (getD ns 3 0) a b
-            → h .inputs ≡ getD ns 1 0 → h .nodes ≡ getD ns 4 0 → h .outputs ≡ getD ns 3 0 → h .size ≡ 4 + size → HeaderRead s a b h
+        pub whole : getD ns 0 0 ≡ getD ns 1 0 + getD ns 4 0 → h .fault ≡ roomNumber (getD ns 1 0) (getD ns 4 0) (getD ns 3 0) a b l
+            → h .inputs ≡ getD ns 1 0 → h .nodes ≡ getD ns 4 0 → h .outputs ≡ getD ns 3 0 → h .size ≡ 4 + size → HeaderRead s a b l h
         whole m q ei en eo es =
             let m₀ = at 0 (omega arith) in
             let m₁ = at 1 (omega arith) in

@@ -8,14 +8,14 @@ use native.Mathlib.Omega.{arith}
 use lib.ListN.{length, drop}
 use Rattle.graph.specs.Finite.{tab}
 use Rattle.graph.specs.Graph.{graphOf}
-use Rattle.graph.specs.Answer.{IsRefusal, accepted, refused, outcome}
-use Rattle.graph.proofs.Admit.{Rooms, rooms}
-use Rattle.graph.proofs.Answers.{ifLess-le, ifEqual-le, first-le, firstOf-le, room-le, refused-outcome, accepted-outcome}
+use Rattle.graph.specs.Answer.{IsRefusal, accepted, refused, lockedOutcome}
+use Rattle.graph.proofs.Admit.{Rooms}
+use Rattle.graph.proofs.Answers.{ifLess-le, ifEqual-le, first-le, firstOf-le, room-le, refused-locked, accepted-locked}
 use Rattle.graph.proofs.Tests.{fault, none, both, each-none, is}
-use Rattle.tagged_file.specs.Load.{blank}
+use Rattle.tagged_file.specs.Load.{blank, freeLocks}
 use Rattle.aiger.specs.Lines.{endedNumber, next, skip, numberAt, lineNumber}
 use Rattle.aiger.specs.Import.{headI, headO, headA, body, aagNumber, headerNumber, inputLineNumber, outputLineNumber, gateLineNumber, inputLinesNumber, outputLinesNumber, gateLinesNumber, bodyNumber, importNumber, gateWord, graphImported, importCall}
-use Rattle.aiger.proofs.Imported.{skip-add}
+use Rattle.aiger.proofs.Imported.{skip-add, head-rooms}
 use Rattle.aiger_import.specs.Reading.{HeaderRead, Ones, Threes}
 use Rattle.aiger_import.specs.declared.header.Header.{Header}
 use Rattle.aiger_import.proofs.Filled.{gates-from, outputs-from}
@@ -31,12 +31,12 @@ unfolding lineNumber
 line-le zero s = ended-le 10 s
 line-le (suc k) s = first-le _ _ 12 (ended-le 32 s) (line-le k (next s))
 
-header-le : (s : List ℕ) (a b : ℕ) → headerNumber s a b ≤ 12
+header-le : (s : List ℕ) (a b l : ℕ) → headerNumber s a b l ≤ 12
 unfolding headerNumber aagNumber
-header-le s a b =
+header-le s a b l =
     first-le _ _ 12 (ifEqual-le _ _ _ _ 12 (ifEqual-le _ _ _ _ 12 (ifEqual-le _ _ _ _ 12 (ifEqual-le _ _ _ _ 12 (omega arith) (omega arith)) (omega arith)) (omega arith)) (omega arith))
     (first-le _ _ 12 (line-le 4 _)
-    (ifEqual-le _ _ _ _ 12 (ifEqual-le _ _ _ _ 12 (omega (arith, room-le (headI s) (headA s) (headO s) a b)) (omega arith)) (omega arith)))
+    (ifEqual-le _ _ _ _ 12 (ifEqual-le _ _ _ _ 12 (omega (arith, room-le (headI s) (headA s) (headO s) a b l)) (omega arith)) (omega arith)))
 
 body-le : (s : List ℕ) (i n o : ℕ) → bodyNumber s i n o ≤ 12
 unfolding bodyNumber inputLinesNumber outputLinesNumber gateLinesNumber inputLineNumber outputLineNumber gateLineNumber
@@ -47,23 +47,19 @@ body-le s i n o =
     (ifEqual-le _ _ _ _ 12 (ifLess-le _ _ _ _ 12 (ifLess-le _ _ _ _ 12 (omega arith) (omega arith)) (omega arith)) (omega arith)))))
 
 -- a header that was read
-module _ (s ns os : List ℕ) (h : Header) (r : HeaderRead s (length ns) (length os) h) where
+module _ (s ns os ls : List ℕ) (h : Header) (r : HeaderRead s (length ns) (length os) (length ls) h) where
   pub header-range : h .fault ≢ 0 → IsRefusal (h .fault)
-  header-range z = (omega (arith, z), omega (arith, r .fault-is, header-le s (length ns) (length os)))
+  header-range z = (omega (arith, z), omega (arith, r .fault-is, header-le s (length ns) (length os) (length ls)))
 
-  pub header-refused : (k : ℕ) → k ≡ h .fault → h .fault ≢ 0 → outcome (refused k) (blank ns os) ≡ importCall s ns os
+  pub header-refused : (k : ℕ) → k ≡ h .fault → h .fault ≢ 0 → lockedOutcome (refused k) (blank ns os) ls ≡ importCall s ns os ls
   unfolding importCall importNumber
   header-refused k e z =
       let f = fault _ _ (r .fault-is) (λ y. z (r .fault-is ∙ y)) in
-      refused-outcome k _ (blank ns os) _ (e ∙ f) (λ y. z (f ∙ y))
+      refused-locked k _ (blank ns os) ls _ (e ∙ f) (λ y. z (f ∙ y))
 
   module _ (z : h .fault ≡ 0) where
-    pub header-rooms : Rooms (h .inputs) (h .nodes) (h .outputs) (length ns) (length os)
-    unfolding headerNumber
-    header-rooms =
-        let p = both _ _ (both _ _ (sym (r .fault-is) ∙ z) .1) .1 in
-        let q = rooms _ _ _ _ _ (is _ _ _ _ (is _ _ _ _ p .1) .1) in
-        rw (r .inputs-is z, r .nodes-is z, r .outputs-is z) q
+    pub header-rooms : Rooms (h .inputs) (h .nodes) (h .outputs) (length ns) (length os) (length ls)
+    header-rooms = rw (r .inputs-is z, r .nodes-is z, r .outputs-is z) (head-rooms s (length ns) (length os) (length ls) (sym (r .fault-is) ∙ z))
 
     -- the bytes after it
     module _ (t : List ℕ) (p : t ≡ drop (h .size) s) where
@@ -71,7 +67,7 @@ module _ (s ns os : List ℕ) (h : Header) (r : HeaderRead s (length ns) (length
       body-is = p ∙ r .after z
 
       module _ (k : ℕ) (e : k ≡ bodyNumber t (h .inputs) (h .nodes) (h .outputs)) where
-        number-is : k ≡ importNumber s (length ns) (length os)
+        number-is : k ≡ importNumber s (length ns) (length os) (length ls)
         unfolding importNumber
         number-is =
             none _ _ (sym (r .fault-is) ∙ z)
@@ -80,9 +76,9 @@ module _ (s ns os : List ℕ) (h : Header) (r : HeaderRead s (length ns) (length
         pub body-range : k ≢ 0 → IsRefusal k
         body-range d = (omega (arith, d), omega (arith, body-le t (h .inputs) (h .nodes) (h .outputs)))
 
-        pub body-refused : (m : ℕ) → m ≡ k → k ≢ 0 → outcome (refused m) (blank ns os) ≡ importCall s ns os
+        pub body-refused : (m : ℕ) → m ≡ k → k ≢ 0 → lockedOutcome (refused m) (blank ns os) ls ≡ importCall s ns os ls
         unfolding importCall
-        body-refused m q d = refused-outcome m _ (blank ns os) _ (q ∙ number-is) (λ y. d (number-is ∙ y))
+        body-refused m q d = refused-locked m _ (blank ns os) ls _ (q ∙ number-is) (λ y. d (number-is ∙ y))
 
         module _ (d : k ≡ 0) where
           -- the lines of each kind have no fault
@@ -104,11 +100,12 @@ module _ (s ns os : List ℕ) (h : Header) (r : HeaderRead s (length ns) (length
               unfolding bodyNumber gateLinesNumber gateLineNumber
               gates-there = rw after-outputs (λ j l. both _ _ (each-none _ _ (both _ _ (both _ _ (sym e ∙ d) .1) .1) j l) .0)
 
-              pub import-accepted : (ns′ os′ : List ℕ)
+              pub import-accepted : (ns′ os′ ls′ : List ℕ)
                   → ns′ ≡ tab (3 * h .nodes) (gateWord w 0) ++ drop (3 * h .nodes) ns
                   → os′ ≡ tab (h .outputs) (numberAt u) ++ drop (h .outputs) os
-                  → outcome (accepted (h .inputs ∷ h .nodes ∷ h .outputs ∷ [])) (graphOf (h .inputs) (h .nodes) (h .outputs) ns′ os′) ≡ importCall s ns os
+                  → ls′ ≡ freeLocks (h .nodes) ls
+                  → lockedOutcome (accepted (h .inputs ∷ h .nodes ∷ h .outputs ∷ [])) (graphOf (h .inputs) (h .nodes) (h .outputs) ns′ os′) ls′ ≡ importCall s ns os ls
               unfolding importCall graphImported
-              import-accepted ns′ os′ en eo =
-                  rw (en, eo, after-outputs, p₁, gates-from, outputs-from, body-is, r .inputs-is z, r .nodes-is z, r .outputs-is z)
-                  (accepted-outcome _ (blank ns os) _ (sym number-is ∙ d))
+              import-accepted ns′ os′ ls′ en eo el =
+                  rw (en, eo, el, after-outputs, p₁, gates-from, outputs-from, body-is, r .inputs-is z, r .nodes-is z, r .outputs-is z)
+                  (accepted-locked _ (blank ns os) ls _ (sym number-is ∙ d))

@@ -32,9 +32,9 @@ pub record LineRead (k : ℕ) (s ns : List ℕ) (fault size : ℕ) : Type 0 wher
   pub passed : Passed (lineNumber k s) (suc k) s fault size
   pub numbers : fault ≡ 0 → (j : ℕ) → j ≤ k → getD ns j 0 ≡ numberAt s j
 
--- the header of the text s, with tables of so many words lent
-pub record HeaderRead (s : List ℕ) (nodeRoom outputRoom : ℕ) (h : Header) : Type 0 where
-  pub fault-is : h .fault ≡ headerNumber s nodeRoom outputRoom
+-- the header of the text s, with tables of so many words and so many lock bytes lent
+pub record HeaderRead (s : List ℕ) (nodeRoom outputRoom lockRoom : ℕ) (h : Header) : Type 0 where
+  pub fault-is : h .fault ≡ headerNumber s nodeRoom outputRoom lockRoom
   pub inputs-is : h .fault ≡ 0 → h .inputs ≡ headI s
   pub nodes-is : h .fault ≡ 0 → h .nodes ≡ headA s
   pub outputs-is : h .fault ≡ 0 → h .outputs ≡ headO s

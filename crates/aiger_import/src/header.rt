@@ -54,8 +54,8 @@ pub fn wide(x: u32) -> u64
     x as u64
 }
 
-pub fn read_header(s: &[u8], node_room: usize, output_room: usize) -> Header
-    ensures { λ r. ⌜ HeaderRead (now (s .entry)) «node_room» «output_room» r ⌝ }
+pub fn read_header(s: &[u8], node_room: usize, output_room: usize, lock_room: usize) -> Header
+    ensures { λ r. ⌜ HeaderRead (now (s .entry)) «node_room» «output_room» «lock_room» r ⌝ }
 {
     let aag = aag_number(s);
     if aag != 0 {
@@ -77,7 +77,7 @@ pub fn read_header(s: &[u8], node_room: usize, output_room: usize) -> Header
         return no_header(12);
     }
     Header {
-        fault: room_number(inputs, nodes, outputs, node_room, output_room),
+        fault: room_number(inputs, nodes, outputs, node_room, output_room, lock_room),
         inputs,
         nodes,
         outputs,

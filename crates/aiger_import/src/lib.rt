@@ -1,6 +1,6 @@
 // Importing a graph from ASCII AIGER.
 ghost use mathlib.Core.Path.{_≡_};
-ghost use Rattle.graph.specs.Answer.{outcome};
+ghost use Rattle.graph.specs.Answer.{lockedOutcome};
 ghost use Rattle.tagged_file.specs.Load.{loadedAnswer, loadedGraph};
 ghost use Rattle.aiger.specs.Import.{importCall};
 
@@ -11,12 +11,18 @@ mod lines;
 
 use graph::faults::refused_by;
 use tagged_file::Loaded;
+use tagged_file::locks::free;
 
-// The first pass checks the whole text, the second fills the tables: a refusal has changed nothing.
-pub fn import(text: &[u8], node_table: &mut [u32], output_table: &mut [u32]) -> Loaded
-    ensures { λ r. ⌜ outcome (loadedAnswer r) (loadedGraph r (now («node_table» .exit)) (now («output_table» .exit))) ≡ importCall (now (text .entry)) (now («node_table» .entry)) (now («output_table» .entry)) ⌝ }
+// The first pass checks the whole text, the second fills the tables and frees every node: a refusal has changed nothing.
+pub fn import(
+    text: &[u8],
+    node_table: &mut [u32],
+    output_table: &mut [u32],
+    locks: &mut [u8],
+) -> Loaded
+    ensures { λ r. ⌜ lockedOutcome (loadedAnswer r) (loadedGraph r (now («node_table» .exit)) (now («output_table» .exit))) (now (locks .exit)) ≡ importCall (now (text .entry)) (now («node_table» .entry)) (now («output_table» .entry)) (now (locks .entry)) ⌝ }
 {
-    let header = header::read_header(text, node_table.len(), output_table.len());
+    let header = header::read_header(text, node_table.len(), output_table.len(), locks.len());
     let fault = header.fault;
     if fault != 0 {
         return Loaded::Refused(refused_by(fault));
@@ -32,6 +38,7 @@ pub fn import(text: &[u8], node_table: &mut [u32], output_table: &mut [u32]) -> 
     let after = fill::after_ones(&text[start..], inputs);
     let gates = fill::fill_outputs(after, outputs, output_table);
     fill::fill_gates(gates, nodes, node_table);
+    free(locks, nodes);
     Loaded::Graph {
         inputs,
         nodes,

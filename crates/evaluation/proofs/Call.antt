@@ -8,7 +8,7 @@ use lib.ListN.{length, getD, drop, List·getD-append}
 use Rattle.graph.specs.Finite.{tab, first}
 use Rattle.graph.specs.Graph.{Graph, output}
 use Rattle.graph.specs.Value.{values, outputValue}
-use Rattle.graph.specs.Admission.{tablesNumber, literalNumber, admissionNumber, Admitted}
+use Rattle.graph.specs.Admission.{tablesNumber, contentNumber, admissionNumber, Admitted}
 use Rattle.graph.proofs.Finite.{length-tab, getD-tab}
 use Rattle.graph.proofs.Tests.{less, no-less, equal, fault, both, off}
 use Rattle.graph.proofs.Admit.{admitted-by}
@@ -47,23 +47,23 @@ module _ (g : Graph) (w r : ℕ) where
   unfolding sliceNumber
   long-slices h k = sym (no-less _ _ _ _ h (no-less _ _ _ _ k refl))
 
-module _ (g : Graph) (w s r : ℕ) where
-  pub evaluate-le : evaluateNumber g w s r ≤ 9
+module _ (g : Graph) (ls : List ℕ) (w s r : ℕ) where
+  pub evaluate-le : evaluateNumber g ls w s r ≤ 13
   unfolding evaluateNumber sliceNumber scratchNumber admissionNumber
   evaluate-le =
-      first-within (tablesNumber g) _ (literalNumber g) _ 9 (omega (arith, admission-le g))
+      first-within (tablesNumber g ls) _ (contentNumber g ls) _ 13 (admission-le g ls)
       (ifLess-le _ _ _ _ _ (omega arith) (ifLess-le _ _ _ _ _ (omega arith) (omega arith)))
       (ifLess-le _ _ _ _ _ (omega arith) (omega arith))
 
-  pub lent : evaluateNumber g w s r ≡ 0 → Lent g w s r
-  unfolding evaluateNumber sliceNumber scratchNumber
+  pub lent : evaluateNumber g ls w s r ≡ 0 → Lent g w s r
+  unfolding evaluateNumber sliceNumber scratchNumber contentNumber
   lent e =
-      let t = both (tablesNumber g) _ e in
+      let t = both (tablesNumber g ls) _ e in
       let d = both _ _ (t .1) in
-      let x = both (literalNumber g) _ (d .1) in
+      let x = both (contentNumber g ls) _ (d .1) in
       let i = off w (g .I) 3 _ (d .0) in
       record {
-        admitted = admitted-by g (t .0) (x .0);
+        admitted = admitted-by g ls (t .0) (both _ _ (x .0) .0);
         words = i .0;
         scratch = off s (g .N) 7 0 (x .1) .0;
         results = off r (g .O) 3 0 (i .1) .0;
@@ -76,12 +76,12 @@ module _ (g : Graph) (words : List ℕ) where
   output-bit o j h =
       bit-gather (λ k. outputValue g (assignmentAt words k) o) (λ k. literal-bit (values g (assignmentAt words k) (g .N)) (output g o)) 64 j h
 
-  pub result-bit : (s : ℕ) (results : List ℕ) → evaluateNumber g (length words) s (length results) ≡ 0
-      → (o j : ℕ) → o < g .O → j < 64 → bit j (getD (resultsAfter g words s results) o 0) ≡ outputValue g (assignmentAt words j) o
+  pub result-bit : (ls : List ℕ) (s : ℕ) (results : List ℕ) → evaluateNumber g ls (length words) s (length results) ≡ 0
+      → (o j : ℕ) → o < g .O → j < 64 → bit j (getD (resultsAfter g ls words s results) o 0) ≡ outputValue g (assignmentAt words j) o
   unfolding resultsAfter
-  result-bit s results e o j h k =
+  result-bit ls s results e o j h k =
       let t = length-tab (g .O) (outputWord g words) in
-      let q = equal (evaluateNumber g (length words) s (length results)) 0 (tab (g .O) (outputWord g words) ++ drop (g .O) results) results e refl in
+      let q = equal (evaluateNumber g ls (length words) s (length results)) 0 (tab (g .O) (outputWord g words) ++ drop (g .O) results) results e refl in
       ap (λ (l : List ℕ). bit j (getD l o 0)) (sym q)
       ∙ ap (bit j) (List·getD-append (tab (g .O) (outputWord g words)) (drop (g .O) results) 0 o (omega arith) ∙ getD-tab (g .O) (outputWord g words) o h)
       ∙ output-bit o j k

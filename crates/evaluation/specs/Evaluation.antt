@@ -5,7 +5,7 @@ use lib.ListN.{length, getD, drop}
 use Rattle.graph.specs.Finite.{tab, ifLess, ifEqual, first}
 use Rattle.graph.specs.Graph.{Graph}
 use Rattle.graph.specs.Value.{Assignment, outputValue}
-use Rattle.graph.specs.Admission.{tablesNumber, literalNumber}
+use Rattle.graph.specs.Admission.{tablesNumber, contentNumber}
 use Rattle.graph.specs.Answer.{Answer, accepted, refused, numberOf}
 use Rattle.evaluation.specs.Word.{bit, gather}
 use Rattle.evaluation.specs.declared.Evaluated.{Evaluated}
@@ -27,15 +27,16 @@ sliceNumber g w r = ifLess w (g .I) 4 (ifLess r (g .O) 4 0)
 unfoldable pub scratchNumber : Graph → ℕ → ℕ
 scratchNumber g s = ifLess s (g .N) 8 0
 
--- the first fault by the lengths of the input words, scratch and results, or 0: 3, 4, 5 and 8 in that order
-unfoldable pub evaluateNumber : Graph → ℕ → ℕ → ℕ → ℕ
-evaluateNumber g w s r =
-    first (tablesNumber g) (first (sliceNumber g w r) (first (literalNumber g) (scratchNumber g s)))
+-- the first fault of the graph with its locks, by the lengths of the input words, scratch and results, or 0: 3, 4, 5, 13 and 8 in
+-- that order
+unfoldable pub evaluateNumber : Graph → List ℕ → ℕ → ℕ → ℕ → ℕ
+evaluateNumber g ls w s r =
+    first (tablesNumber g ls) (first (sliceNumber g w r) (first (contentNumber g ls) (scratchNumber g s)))
 
 -- the results afterwards: the outputs' words in front where there is no fault, else what was there
-unfoldable pub resultsAfter : Graph → List ℕ → ℕ → List ℕ → List ℕ
-resultsAfter g words s results =
-    ifEqual (evaluateNumber g (length words) s (length results)) 0
+unfoldable pub resultsAfter : Graph → List ℕ → List ℕ → ℕ → List ℕ → List ℕ
+resultsAfter g ls words s results =
+    ifEqual (evaluateNumber g ls (length words) s (length results)) 0
     (tab (g .O) (outputWord g words) ++ drop (g .O) results)
     results
 

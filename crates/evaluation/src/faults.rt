@@ -11,11 +11,12 @@ pub fn evaluate_number(
     outputs: u32,
     node_table: &[u32],
     output_table: &[u32],
+    locks: &[u8],
     words: usize,
     scratch: usize,
     results: usize,
 ) -> u32
-    ensures { λ r. ⌜ r ≡ evaluateNumber (graphOf inputs nodes outputs (now («node_table» .entry)) (now («output_table» .entry))) words scratch results ⌝ }
+    ensures { λ r. ⌜ r ≡ evaluateNumber (graphOf inputs nodes outputs (now («node_table» .entry)) (now («output_table» .entry))) (now (locks .entry)) words scratch results ⌝ }
 {
     let room = graph::faults::room_number(
         inputs,
@@ -23,6 +24,7 @@ pub fn evaluate_number(
         outputs,
         node_table.len(),
         output_table.len(),
+        locks.len(),
     );
     if room != 0 {
         return room;
@@ -33,8 +35,15 @@ pub fn evaluate_number(
     if results < outputs as usize {
         return 4;
     }
-    let literal = graph::faults::literal_number(inputs, nodes, outputs, node_table, output_table);
-    first_fault(literal, scratch_number(nodes, scratch))
+    let content = graph::faults::content_number(
+        inputs,
+        nodes,
+        outputs,
+        node_table,
+        output_table,
+        locks,
+    );
+    first_fault(content, scratch_number(nodes, scratch))
 }
 
 fn scratch_number(nodes: u32, scratch: usize) -> u32

@@ -22,12 +22,13 @@ pub fn evaluate(
     outputs: u32,
     node_table: &[u32],
     output_table: &[u32],
+    locks: &[u8],
     input_words: &[u64],
     scratch: &mut [u64],
     results: &mut [u64],
 ) -> Evaluated
-    ensures answer { λ r. ⌜ evaluatedAnswer r ≡ unless (evaluateNumber (graphOf inputs nodes outputs (now («node_table» .entry)) (now («output_table» .entry))) (length (now («input_words» .entry))) (length (now (scratch .entry))) (length (now (results .entry)))) (accepted []) ⌝ }
-    ensures results { λ r. ⌜ now (results .exit) ≡ resultsAfter (graphOf inputs nodes outputs (now («node_table» .entry)) (now («output_table» .entry))) (now («input_words» .entry)) (length (now (scratch .entry))) (now (results .entry)) ⌝ }
+    ensures answer { λ r. ⌜ evaluatedAnswer r ≡ unless (evaluateNumber (graphOf inputs nodes outputs (now («node_table» .entry)) (now («output_table» .entry))) (now (locks .entry)) (length (now («input_words» .entry))) (length (now (scratch .entry))) (length (now (results .entry)))) (accepted []) ⌝ }
+    ensures results { λ r. ⌜ now (results .exit) ≡ resultsAfter (graphOf inputs nodes outputs (now («node_table» .entry)) (now («output_table» .entry))) (now (locks .entry)) (now («input_words» .entry)) (length (now (scratch .entry))) (now (results .entry)) ⌝ }
     ensures scratch { λ r. ⌜ ScratchKept (evaluatedAnswer r) (now (scratch .entry)) (now (scratch .exit)) ⌝ }
 {
     let number = faults::evaluate_number(
@@ -36,6 +37,7 @@ pub fn evaluate(
         outputs,
         node_table,
         output_table,
+        locks,
         input_words.len(),
         scratch.len(),
         results.len(),

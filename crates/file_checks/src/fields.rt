@@ -1,7 +1,7 @@
 // One field, at the front of the bytes that are left.
 ghost use mathlib.Core.Path.{_≡_};
 ghost use Prim.Native.Nat.{_≤_, _<_};
-ghost use lib.ListN.{length};
+ghost use lib.ListN.{length, getD};
 ghost use Rattle.file_checks.specs.File.{payloadOf, dueNumber, nodeSize, third};
 ghost use Rattle.file_checks.specs.Walk.{NodeRoom};
 use crate::bytes;
@@ -17,8 +17,19 @@ pub fn payload(tag: u8) -> u32
         3 => 8,
         4 => 4,
         5 => 0,
+        6 => 4,
         _ => 65536,
     }
+}
+
+// The tag at the front, 0 where no byte is left.
+pub fn tag(s: &[u8]) -> u8
+    ensures { λ r. ⌜ r ≡ getD (now (s .entry)) 0 0 ⌝ }
+{
+    if s.len() == 0 {
+        return 0;
+    }
+    s[0]
 }
 
 // The number that refuses the field, where a tag from low to high is due.

@@ -1,18 +1,19 @@
--- Answers that go by a number: what they come to at a fault and without one, and that the numbers of an admission are at most 5.
+-- Answers that go by a number: what they come to at a fault and without one, and that the numbers of an admission are at most 13.
 -- Assumes nothing.
 use mathlib.Core.Path.{_≡_, refl, ap}
+use mathlib.Core.List.{List}
 use Prim.Native.Nat.{ℕ, zero, suc, _≤_}
 use mathlib.Core.Logic.{⊎-elim, _≢_}
 use native.Mathlib.Omega.{arith}
 use lib.Dec.{ltb}
 use Rattle.graph.specs.Finite.{ifLess, ifEqual, first, firstOf}
 use Rattle.graph.specs.Graph.{Graph, isEdge}
-use Rattle.graph.specs.Admission.{roomNumber, tablesNumber, wordNumber, outputNumber, literalNumber, admissionNumber}
+use Rattle.graph.specs.Admission.{roomNumber, tablesNumber, wordNumber, outputNumber, literalNumber, lockNumber, locksNumber, contentNumber, admissionNumber}
 use Rattle.graph.proofs.Cases.{cond-le, eq-or-ne}
 use Rattle.graph.proofs.Tests.{equal, unequal}
-use Rattle.graph.specs.Answer.{Answer, Outcome, numberOf, IsRefusal, refused, outcome, unless, guarded}
+use Rattle.graph.specs.Answer.{Answer, Outcome, LockedOutcome, numberOf, IsRefusal, refused, outcome, lockedOutcome, unless, guarded, guardedLocks}
 use Rattle.graph.specs.declared.Refusal.{Refusal}
-use Rattle.graph.specs.declared.Refusal.the-variants.{MissingBytes, WrongField, OverLimit, ShortSlice, BadLiteral, ExtraBytes, NoSuchNode, ShortScratch, ShortBuffer, BadText, HasLatches, WrongNumbering}
+use Rattle.graph.specs.declared.Refusal.the-variants.{MissingBytes, WrongField, OverLimit, ShortSlice, BadLiteral, ExtraBytes, NoSuchNode, ShortScratch, ShortBuffer, BadText, HasLatches, WrongNumbering, BadLock}
 
 -- no refusal has the number 0
 pub number-some : (r : Refusal) → numberOf r ≡ 0 → ⊥
@@ -28,6 +29,7 @@ number-some ShortBuffer e = omega arith
 number-some BadText e = omega arith
 number-some HasLatches e = omega arith
 number-some WrongNumbering e = omega arith
+number-some BadLock e = omega arith
 
 -- a call that is refused by k, and one that is not
 pub refused-is : (k m : ℕ) (a : Answer) → k ≡ m → (m ≡ 0 → ⊥) → refused k ≡ unless m a
@@ -51,6 +53,17 @@ unfolding guarded
 accepted-outcome zero g o e = refl
 accepted-outcome (suc m) g o e = absurd (omega arith)
 
+-- and with the locks
+pub refused-locked : (k m : ℕ) (g : Graph) (ls : List ℕ) (o : LockedOutcome) → k ≡ m → (m ≡ 0 → ⊥) → lockedOutcome (refused k) g ls ≡ guardedLocks m g ls o
+unfolding guardedLocks
+refused-locked k zero g ls o e n = absurd (n refl)
+refused-locked k (suc m) g ls o e n = ap (λ (i : ℕ). lockedOutcome (refused i) g ls) e
+
+pub accepted-locked : (m : ℕ) (g : Graph) (ls : List ℕ) (o : LockedOutcome) → m ≡ 0 → o ≡ guardedLocks m g ls o
+unfolding guardedLocks
+accepted-locked zero g ls o e = refl
+accepted-locked (suc m) g ls o e = absurd (omega arith)
+
 -- bounds of numbers
 pub ifLess-le : (a b x y n : ℕ) → x ≤ n → y ≤ n → ifLess a b x y ≤ n
 unfolding ifLess
@@ -70,20 +83,17 @@ unfolding firstOf
 firstOf-le zero f n h = omega arith
 firstOf-le (suc m) f n h = first-le (firstOf m f) (f m) n (firstOf-le m f n h) (h m)
 
-pub room-le : (i n o a b : ℕ) → roomNumber i n o a b ≤ 5
+pub room-le : (i n o a b l : ℕ) → roomNumber i n o a b l ≤ 5
 unfolding roomNumber
-room-le i n o a b =
+room-le i n o a b l =
     ifLess-le _ _ _ _ _ (omega arith)
     (ifLess-le _ _ _ _ _ (omega arith)
     (ifLess-le _ _ _ _ _ (omega arith)
     (ifLess-le _ _ _ _ _ (omega arith)
-    (ifLess-le _ _ _ _ _ (omega arith) (omega arith)))))
+    (ifLess-le _ _ _ _ _ (omega arith)
+    (ifLess-le _ _ _ _ _ (omega arith) (omega arith))))))
 
 module _ (g : Graph) where
-  tables-le : tablesNumber g ≤ 5
-  unfolding tablesNumber
-  tables-le = room-le _ _ _ _ _
-
   word-le : (j : ℕ) → wordNumber g j ≤ 5
   unfolding wordNumber
   word-le j = cond-le (isEdge g j) _ _ _ (ifLess-le _ _ _ _ _ (omega arith) (omega arith)) (omega arith)
@@ -96,10 +106,23 @@ module _ (g : Graph) where
   unfolding literalNumber
   literal-le = first-le _ _ _ (firstOf-le _ _ _ word-le) (firstOf-le _ _ _ out-le)
 
-  pub admission-le : admissionNumber g ≤ 5
-  unfolding admissionNumber
-  admission-le = first-le _ _ _ tables-le literal-le
+  module _ (ls : List ℕ) where
+    tables-le : tablesNumber g ls ≤ 5
+    unfolding tablesNumber
+    tables-le = room-le _ _ _ _ _ _
 
-  -- what `refused_by` asks of the number
-  pub admission-range : (k : ℕ) → k ≡ admissionNumber g → (k ≡ 0 → ⊥) → IsRefusal k
-  admission-range k e n = (omega arith, omega (arith, admission-le))
+    locks-le : (n : ℕ) → locksNumber n ls ≤ 13
+    unfolding locksNumber lockNumber
+    locks-le n = firstOf-le _ _ _ (λ v. ifLess-le _ _ _ _ _ (omega arith) (omega arith))
+
+    content-le : contentNumber g ls ≤ 13
+    unfolding contentNumber
+    content-le = first-le _ _ _ (omega (arith, literal-le)) (locks-le (g .N))
+
+    pub admission-le : admissionNumber g ls ≤ 13
+    unfolding admissionNumber
+    admission-le = first-le _ _ _ (omega (arith, tables-le)) content-le
+
+    -- what `refused_by` asks of the number
+    pub admission-range : (k : ℕ) → k ≡ admissionNumber g ls → (k ≡ 0 → ⊥) → IsRefusal k
+    admission-range k e n = (omega arith, omega (arith, admission-le))

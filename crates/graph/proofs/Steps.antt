@@ -1,15 +1,18 @@
 -- The first fault of a table, one node or one output further on, and one that was met stays the first. From the laws on tests.
 use mathlib.Core.Path.{_≡_, refl, sym, _∙_}
-use Prim.Native.Nat.{ℕ, zero, suc, _+_, _*_, _/_, _%_, _≤_, _<_}
+use mathlib.Core.List.{List}
+use mathlib.Core.Logic.{⊎-elim}
+use Prim.Native.Nat.{ℕ, zero, suc, _+_, _*_, _/_, _%_, _≤_, _<_, max}
 use native.Mathlib.Decide.{le-ind}
 use native.Mathlib.Numerals.{add-one}
 use native.Mathlib.Omega.{arith}
 use borrow.Author.Tests.{eq-eqb, ne-eqb}
+use lib.ListN.{getD}
 use Rattle.graph.specs.Finite.{ifLess, ifEqual, first, firstOf}
 use Rattle.graph.specs.Graph.{Graph, mark, node, word, output, isEdge}
-use Rattle.graph.specs.Admission.{wordNumber, outputNumber}
-use Rattle.graph.proofs.Cases.{cond-not}
-use Rattle.graph.proofs.Tests.{fault, none}
+use Rattle.graph.specs.Admission.{wordNumber, outputNumber, lockNumber, locksNumber}
+use Rattle.graph.proofs.Cases.{cond-not, lt-or-le}
+use Rattle.graph.proofs.Tests.{less, no-less, fault, none}
 
 pub first-assoc : (a b d : ℕ) → first (first a b) d ≡ first a (first b d)
 unfolding first
@@ -59,3 +62,24 @@ module _ (g : Graph) where
   pub out-next : (j k a : ℕ) → firstOf j (outputNumber g) ≡ 0 → a ≡ output g j → k ≡ ifLess (a / 2) (node g (g .N)) 0 5 → k ≡ firstOf (j + 1) (outputNumber g)
   unfolding firstOf outputNumber
   out-next j k a z p e = rw (add-one j) (none _ _ z (rw p at e))
+
+-- the locks by the greatest of their bytes: one byte further on
+module _ (a b : ℕ) where
+  over : {k : ℕ} → k ≡ 13 → 1 < max a b → k ≡ ifLess 1 (max a b) 13 0
+  over e h = less 1 (max a b) 13 0 h e
+
+  greatest : first (ifLess 1 a 13 0) (ifLess 1 b 13 0) ≡ ifLess 1 (max a b) 13 0
+  greatest =
+      ⊎-elim
+      (λ (h : 1 < a). sym (fault _ _ (less 1 a 13 0 h refl) (λ z. let e : _≡_ {A = ℕ} 13 (ifLess 1 a 13 0) = less 1 a 13 0 h refl in omega arith)) ∙ over refl (omega arith))
+      (λ (h : a ≤ 1).
+      sym (none _ _ (sym (no-less 1 a 13 0 h refl)) refl) ∙
+      ⊎-elim
+      (λ (l : 1 < b). sym (less 1 b 13 0 l refl) ∙ over refl (omega arith))
+      (λ (l : b ≤ 1). sym (no-less 1 b 13 0 l refl) ∙ no-less 1 (max a b) 13 0 (omega arith) refl)
+      (lt-or-le 1 b))
+      (lt-or-le 1 a)
+
+pub lock-next : (ls : List ℕ) (v a b : ℕ) → locksNumber v ls ≡ ifLess 1 a 13 0 → b ≡ max a (getD ls v 0) → locksNumber (v + 1) ls ≡ ifLess 1 b 13 0
+unfolding locksNumber firstOf lockNumber
+lock-next ls v a b e q = rw (add-one v, e, q) (greatest a (getD ls v 0))

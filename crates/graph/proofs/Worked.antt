@@ -7,7 +7,7 @@ use Rattle.graph.specs.Finite.{ifLess, first, firstOf, sum, tab}
 use Rattle.graph.specs.Graph.{Graph, graphOf, mark, isXor, isEdge}
 use Rattle.graph.specs.Value.{majority, exclusive, literalValue, nodeValue, values, outputValue}
 use Rattle.graph.specs.Count.{C, adds, wordAdds, nodeAdds, outputAdds}
-use Rattle.graph.specs.Admission.{roomNumber, tablesNumber, wordNumber, outputNumber, literalNumber, admissionNumber}
+use Rattle.graph.specs.Admission.{roomNumber, tablesNumber, wordNumber, outputNumber, literalNumber, lockNumber, locksNumber, contentNumber, admissionNumber}
 use Rattle.graph.specs.Decimal.{decimalIn, decimal}
 
 -- one node of three words with one output
@@ -27,23 +27,28 @@ pub c-mark : C (one 2 3 1 mark 6) ≡ 2
 unfolding C sum nodeAdds outputAdds wordAdds adds
 c-mark = refl
 
--- the first node may name 7 with I = 3, and not 8
-pub names-7 : admissionNumber (one 3 2 4 7 8) ≡ 0
-unfolding admissionNumber tablesNumber roomNumber literalNumber wordNumber outputNumber isEdge first firstOf ifLess
+-- the first node may name 7 with I = 3, and not 8, whatever its lock byte is
+pub names-7 : admissionNumber (one 3 2 4 7 8) (0 ∷ []) ≡ 0
+unfolding admissionNumber tablesNumber roomNumber contentNumber literalNumber wordNumber outputNumber locksNumber lockNumber isEdge first firstOf ifLess
 names-7 = refl
 
-pub names-8 : admissionNumber (one 3 2 4 8 8) ≡ 5
-unfolding admissionNumber tablesNumber roomNumber literalNumber wordNumber outputNumber isEdge first firstOf ifLess
+pub names-8 : admissionNumber (one 3 2 4 8 8) (2 ∷ []) ≡ 5
+unfolding admissionNumber tablesNumber roomNumber contentNumber literalNumber wordNumber outputNumber locksNumber lockNumber isEdge first firstOf ifLess
 names-8 = refl
 
 -- 100,000 nodes are within the limits, and one more is refused before any table is looked at
-pub nodes-100000 : roomNumber 3 100000 1 300000 1 ≡ 0
+pub nodes-100000 : roomNumber 3 100000 1 300000 1 100000 ≡ 0
 unfolding roomNumber ifLess
 nodes-100000 = refl
 
-pub nodes-100001 : admissionNumber (graphOf 3 100001 1 [] []) ≡ 3
+pub nodes-100001 : admissionNumber (graphOf 3 100001 1 [] []) [] ≡ 3
 unfolding admissionNumber tablesNumber roomNumber first ifLess
 nodes-100001 = refl
+
+-- a lock byte above 1 is 13, and is not looked at past the nodes; too few are 4
+pub locks-rows : (admissionNumber (one 3 2 4 7 8) (2 ∷ []) ≡ 13) × (admissionNumber (one 3 2 4 7 8) (1 ∷ 9 ∷ []) ≡ 0) × (admissionNumber (one 3 2 4 8 8) [] ≡ 4)
+unfolding admissionNumber tablesNumber roomNumber contentNumber literalNumber wordNumber outputNumber locksNumber lockNumber isEdge first firstOf ifLess
+locks-rows = (refl, refl, refl)
 
 -- bit 7 to 0 of F0, CC and AA: assignment k has the inputs k / 4, k / 2 and k, and the majority is that bit of E8
 pub majority-bits : (majority 1 1 1 ∷ majority 1 1 0 ∷ majority 1 0 1 ∷ majority 1 0 0 ∷ majority 0 1 1 ∷ majority 0 1 0 ∷ majority 0 0 1 ∷ majority 0 0 0 ∷ []) ≡ (1 ∷ 1 ∷ 1 ∷ 0 ∷ 1 ∷ 0 ∷ 0 ∷ 0 ∷ [])

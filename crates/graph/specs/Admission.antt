@@ -1,23 +1,26 @@
--- Which graphs are admitted, and which of the numbers 3, 4 and 5 comes first.
+-- Which graphs and locks are admitted, and which of the numbers 3, 4, 5 and 13 comes first. Locks are a byte a node beside the graph, 1
+-- for locked and 0 for free; only the first N belong to it.
 use mathlib.Core.Path.{_≡_}
 use mathlib.Core.Bool.{true, cond}
+use mathlib.Core.List.{List}
 use Prim.Native.Nat.{ℕ, _*_, _/_, _≤_, _<_}
-use lib.ListN.{length}
+use lib.ListN.{length, getD}
 use Rattle.graph.specs.Finite.{ifLess, first, firstOf}
 use Rattle.graph.specs.Graph.{Graph, node, word, output, index, isEdge}
 
--- 3: I, N or O above its limit; then 4: a lent table of so many words too short
-unfoldable pub roomNumber : ℕ → ℕ → ℕ → ℕ → ℕ → ℕ
-roomNumber i n o nodeRoom outputRoom =
+-- 3: I, N or O above its limit; then 4: a lent table of so many words, or a slice of so many lock bytes, too short
+unfoldable pub roomNumber : ℕ → ℕ → ℕ → ℕ → ℕ → ℕ → ℕ
+roomNumber i n o nodeRoom outputRoom lockRoom =
     ifLess 4096 i 3
     (ifLess 100000 n 3
     (ifLess 4096 o 3
     (ifLess nodeRoom (3 * n) 4
-    (ifLess outputRoom o 4 0))))
+    (ifLess outputRoom o 4
+    (ifLess lockRoom n 4 0)))))
 
--- the same of a graph in its tables
-unfoldable pub tablesNumber : Graph → ℕ
-tablesNumber g = roomNumber (g .I) (g .N) (g .O) (length (g .nodes)) (length (g .outputs))
+-- the same of a graph in its tables, with the locks ls
+unfoldable pub tablesNumber : Graph → List ℕ → ℕ
+tablesNumber g ls = roomNumber (g .I) (g .N) (g .O) (length (g .nodes)) (length (g .outputs)) (length ls)
 
 -- 5: a literal of a node names an index that is not below the node's own
 unfoldable pub wordNumber : Graph → ℕ → ℕ
@@ -30,9 +33,20 @@ outputNumber g j = ifLess (index (output g j)) (node g (g .N)) 0 5
 unfoldable pub literalNumber : Graph → ℕ
 literalNumber g = first (firstOf (3 * g .N) (wordNumber g)) (firstOf (g .O) (outputNumber g))
 
--- the first of the three, or 0 where the graph is admitted
-unfoldable pub admissionNumber : Graph → ℕ
-admissionNumber g = first (tablesNumber g) (literalNumber g)
+-- 13: a lock byte above 1; of n nodes
+unfoldable pub lockNumber : List ℕ → ℕ → ℕ
+lockNumber ls v = ifLess 1 (getD ls v 0) 13 0
+
+unfoldable pub locksNumber : ℕ → List ℕ → ℕ
+locksNumber n ls = firstOf n (lockNumber ls)
+
+-- all literals come before all locks
+unfoldable pub contentNumber : Graph → List ℕ → ℕ
+contentNumber g ls = first (literalNumber g) (locksNumber (g .N) ls)
+
+-- the first of the four, or 0 where the graph and its locks are admitted
+unfoldable pub admissionNumber : Graph → List ℕ → ℕ
+admissionNumber g ls = first (tablesNumber g ls) (contentNumber g ls)
 
 -- the same as facts
 pub record Admitted (g : Graph) : Type 0 where
@@ -43,3 +57,8 @@ pub record Admitted (g : Graph) : Type 0 where
   pub long-outputs : g .O ≤ length (g .outputs)
   pub below : (j : ℕ) → j < 3 * g .N → isEdge g j ≡ true → index (word g j) < node g (j / 3)
   pub output-below : (j : ℕ) → j < g .O → index (output g j) < node g (g .N)
+
+-- and of the locks of n nodes
+pub record LockBytes (n : ℕ) (ls : List ℕ) : Type 0 where
+  pub enough : n ≤ length ls
+  pub bits : (v : ℕ) → v < n → getD ls v 0 ≤ 1

@@ -6,7 +6,7 @@ use lib.IntN.{ℤ, pos, _+ℤ_}
 use lib.ListN.{getD}
 use Rattle.graph.specs.Graph.{Graph}
 use Rattle.graph.specs.declared.Refusal.{Refusal}
-use Rattle.graph.specs.declared.Refusal.the-variants.{MissingBytes, WrongField, OverLimit, ShortSlice, BadLiteral, ExtraBytes, NoSuchNode, ShortScratch, ShortBuffer, BadText, HasLatches, WrongNumbering}
+use Rattle.graph.specs.declared.Refusal.the-variants.{MissingBytes, WrongField, OverLimit, ShortSlice, BadLiteral, ExtraBytes, NoSuchNode, ShortScratch, ShortBuffer, BadText, HasLatches, WrongNumbering, BadLock}
 use Rattle.graph.specs.declared.Admission.{Admission}
 use Rattle.graph.specs.declared.Admission.the-variants as admission
 use Rattle.graph.specs.declared.Count.{Count}
@@ -26,10 +26,11 @@ numberOf ShortBuffer = 9
 numberOf BadText = 10
 numberOf HasLatches = 11
 numberOf WrongNumbering = 12
+numberOf BadLock = 13
 
 -- the numbers that refusals have
 abbrev pub IsRefusal : ℕ → Type 0
-IsRefusal k = (1 ≤ k) × (k ≤ 12)
+IsRefusal k = (1 ≤ k) × (k ≤ 13)
 
 -- a call's answer: the number, 0 where it is accepted, and the values that it then returns beside it, with the signed ones apart
 pub record Answer : Type 0 where
@@ -83,6 +84,19 @@ outcome a g = record { answer = a; graph = g }
 unfoldable pub guarded : ℕ → Graph → Outcome → Outcome
 guarded zero g o = o
 guarded (suc k) g o = outcome (refused (suc k)) g
+
+-- an answer with the graph and its locks, of a call that writes both
+pub record LockedOutcome : Type 0 where
+  pub answer : Answer
+  pub graph : Graph
+  pub locks : List ℕ
+
+abbrev pub lockedOutcome : Answer → Graph → List ℕ → LockedOutcome
+lockedOutcome a g ls = record { answer = a; graph = g; locks = ls }
+
+unfoldable pub guardedLocks : ℕ → Graph → List ℕ → LockedOutcome → LockedOutcome
+guardedLocks zero g ls o = o
+guardedLocks (suc k) g ls o = lockedOutcome (refused (suc k)) g ls
 
 -- scratch is free after an accepted call, and as it was after a refusal
 abbrev pub ScratchKept : Answer → List ℕ → List ℕ → Type 0

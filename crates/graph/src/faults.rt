@@ -1,25 +1,26 @@
-// Which of document 01's numbers 3, 4 and 5 refuses a graph, 0 being none; the refusal of each number, and its number.
+// Which of the numbers 3, 4, 5 and 13 refuses a graph with its locks, 0 being none; the refusal of each number, and its number.
 ghost use mathlib.Core.Path.{_≡_};
 ghost use mathlib.Core.List.{List};
-ghost use Prim.Native.Nat.{ℕ, _*_, _/_, _≤_};
+ghost use Prim.Native.Nat.{ℕ, _*_, _/_, _≤_, max};
 ghost use lib.ListN.{length};
 ghost use Rattle.graph.specs.Finite.{first, firstOf, ifLess, ifEqual};
 ghost use Rattle.graph.specs.Graph.{graphOf, mark};
-ghost use Rattle.graph.specs.Admission.{roomNumber, tablesNumber, wordNumber, outputNumber, literalNumber, admissionNumber};
+ghost use Rattle.graph.specs.Admission.{roomNumber, wordNumber, outputNumber, literalNumber, locksNumber, contentNumber, tablesNumber, admissionNumber};
 ghost use Rattle.graph.specs.Answer.{numberOf, IsRefusal};
 use crate::Refusal;
 use crate::literal::MARK;
 use crate::table::word_at;
 
-// By the limits, and by the words of the lent tables.
+// By the limits, by the words of the lent tables, and by the lock bytes.
 pub fn room_number(
     inputs: u32,
     nodes: u32,
     outputs: u32,
     node_room: usize,
     output_room: usize,
+    lock_room: usize,
 ) -> u32
-    ensures { λ r. ⌜ r ≡ roomNumber inputs nodes outputs «node_room» «output_room» ⌝ }
+    ensures { λ r. ⌜ r ≡ roomNumber inputs nodes outputs «node_room» «output_room» «lock_room» ⌝ }
 {
     if 4096 < inputs {
         return 3;
@@ -34,6 +35,9 @@ pub fn room_number(
         return 4;
     }
     if output_room < outputs as usize {
+        return 4;
+    }
+    if lock_room < nodes as usize {
         return 4;
     }
     0
@@ -111,7 +115,7 @@ pub fn literal_number(
     node_table: &[u32],
     output_table: &[u32],
 ) -> u32
-    requires { ⌜ tablesNumber (graphOf inputs nodes outputs (now «node_table») (now «output_table»)) ≡ 0 ⌝ }
+    requires { ⌜ (inputs ≤ 4096) × (nodes ≤ 100000) × (3 * nodes ≤ length (now «node_table»)) × (outputs ≤ length (now «output_table»)) ⌝ }
     ensures { λ r. ⌜ r ≡ literalNumber (graphOf inputs nodes outputs (now («node_table» .entry)) (now («output_table» .entry))) ⌝ }
 {
     let k = nodes_number(inputs, nodes, node_table);
@@ -121,20 +125,71 @@ pub fn literal_number(
     outputs_number(inputs, nodes, outputs, output_table)
 }
 
+fn greater(a: u8, b: u8) -> u8
+    ensures { λ r. ⌜ r ≡ max a b ⌝ }
+{
+    if a < b {
+        return b;
+    }
+    a
+}
+
+// By the greatest lock byte: that takes no jump a byte.
+pub fn locks_number(nodes: u32, locks: &[u8]) -> u32
+    requires { ⌜ nodes ≤ length (now locks) ⌝ }
+    ensures { λ r. ⌜ r ≡ locksNumber nodes (now (locks .entry)) ⌝ }
+{
+    let end = nodes as usize;
+    let mut most: u8 = 0;
+    let mut v: usize = 0;
+    while v < end {
+        most = greater(most, locks[v]);
+        v += 1;
+    }
+    if 1 < most {
+        return 13;
+    }
+    0
+}
+
+// By all literals, then by all locks.
+pub fn content_number(
+    inputs: u32,
+    nodes: u32,
+    outputs: u32,
+    node_table: &[u32],
+    output_table: &[u32],
+    locks: &[u8],
+) -> u32
+    requires { ⌜ tablesNumber (graphOf inputs nodes outputs (now «node_table») (now «output_table»)) (now locks) ≡ 0 ⌝ }
+    ensures { λ r. ⌜ r ≡ contentNumber (graphOf inputs nodes outputs (now («node_table» .entry)) (now («output_table» .entry))) (now (locks .entry)) ⌝ }
+{
+    let literals = literal_number(inputs, nodes, outputs, node_table, output_table);
+    first_fault(literals, locks_number(nodes, locks))
+}
+
 pub fn admission_number(
     inputs: u32,
     nodes: u32,
     outputs: u32,
     node_table: &[u32],
     output_table: &[u32],
+    locks: &[u8],
 ) -> u32
-    ensures { λ r. ⌜ r ≡ admissionNumber (graphOf inputs nodes outputs (now («node_table» .entry)) (now («output_table» .entry))) ⌝ }
+    ensures { λ r. ⌜ r ≡ admissionNumber (graphOf inputs nodes outputs (now («node_table» .entry)) (now («output_table» .entry))) (now (locks .entry)) ⌝ }
 {
-    let room = room_number(inputs, nodes, outputs, node_table.len(), output_table.len());
+    let room = room_number(
+        inputs,
+        nodes,
+        outputs,
+        node_table.len(),
+        output_table.len(),
+        locks.len(),
+    );
     if room != 0 {
         return room;
     }
-    literal_number(inputs, nodes, outputs, node_table, output_table)
+    content_number(inputs, nodes, outputs, node_table, output_table, locks)
 }
 
 // The first of two faults; 0 is none.
@@ -164,7 +219,8 @@ pub fn refused_by(number: u32) -> Refusal
         9 => Refusal::ShortBuffer,
         10 => Refusal::BadText,
         11 => Refusal::HasLatches,
-        _ => Refusal::WrongNumbering,
+        12 => Refusal::WrongNumbering,
+        _ => Refusal::BadLock,
     }
 }
 
@@ -184,5 +240,6 @@ pub fn number_of(refusal: Refusal) -> u32
         Refusal::BadText => 10,
         Refusal::HasLatches => 11,
         Refusal::WrongNumbering => 12,
+        Refusal::BadLock => 13,
     }
 }

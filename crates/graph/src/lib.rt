@@ -26,6 +26,7 @@ pub enum Refusal {
     BadText,
     HasLatches,
     WrongNumbering,
+    BadLock,
 }
 
 // What the admission check answers.
@@ -40,17 +41,18 @@ pub enum Count {
     Refused(Refusal),
 }
 
-// Whether a graph in lent tables is one, by its limits, its tables' lengths and its literals, in that order.
+// Whether a graph in lent tables is one, with its locks, by its limits, its slices' lengths, its literals and its lock bytes, in that order.
 pub fn admit_graph(
     inputs: u32,
     nodes: u32,
     outputs: u32,
     node_table: &[u32],
     output_table: &[u32],
+    locks: &[u8],
 ) -> Admission
-    ensures { λ r. ⌜ admissionAnswer r ≡ unless (admissionNumber (graphOf inputs nodes outputs (now («node_table» .entry)) (now («output_table» .entry)))) (accepted []) ⌝ }
+    ensures { λ r. ⌜ admissionAnswer r ≡ unless (admissionNumber (graphOf inputs nodes outputs (now («node_table» .entry)) (now («output_table» .entry))) (now (locks .entry))) (accepted []) ⌝ }
 {
-    let k = faults::admission_number(inputs, nodes, outputs, node_table, output_table);
+    let k = faults::admission_number(inputs, nodes, outputs, node_table, output_table, locks);
     if k != 0 {
         return Admission::Refused(faults::refused_by(k));
     }
@@ -64,10 +66,11 @@ pub fn complemented_edges(
     outputs: u32,
     node_table: &[u32],
     output_table: &[u32],
+    locks: &[u8],
 ) -> Count
-    ensures { λ r. ⌜ countAnswer r ≡ unless (admissionNumber (graphOf inputs nodes outputs (now («node_table» .entry)) (now («output_table» .entry)))) (accepted (C (graphOf inputs nodes outputs (now («node_table» .entry)) (now («output_table» .entry))) ∷ [])) ⌝ }
+    ensures { λ r. ⌜ countAnswer r ≡ unless (admissionNumber (graphOf inputs nodes outputs (now («node_table» .entry)) (now («output_table» .entry))) (now (locks .entry))) (accepted (C (graphOf inputs nodes outputs (now («node_table» .entry)) (now («output_table» .entry))) ∷ [])) ⌝ }
 {
-    let k = faults::admission_number(inputs, nodes, outputs, node_table, output_table);
+    let k = faults::admission_number(inputs, nodes, outputs, node_table, output_table, locks);
     if k != 0 {
         return Count::Refused(faults::refused_by(k));
     }

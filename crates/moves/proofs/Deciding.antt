@@ -87,9 +87,9 @@ own-le g v (suc (suc (suc (suc zero)))) = after-le g v 2 0
 own-le g v (suc (suc (suc (suc (suc zero))))) = after-le g v 2 1
 own-le g v (suc (suc (suc (suc (suc (suc i)))))) = omega arith
 
-pub numbers-low : (g : Graph) (v : ℕ) → Admitted g → Counted (numbersOf g v)
+pub numbers-low : (g : Graph) (ls : List ℕ) (v : ℕ) → Admitted g → Counted (numbersOf g ls v)
 unfolding numbersOf readers nodeReaders count
-numbers-low g v adm =
+numbers-low g ls v adm =
     record {
       numbers =
           record {
@@ -104,7 +104,7 @@ numbers-low g v adm =
                   sum-le (λ j. cond (outputNamed g (node g v) j) 1 0) (λ j. one-or-none (outputNamed g (node g v) j)) (g .O),
                 );
           };
-      has = moves-of g v;
+      has = moves-of g ls v;
     }
   where
     one-or-none : (b : Bool) → cond b 1 0 ≤ 1

@@ -84,35 +84,35 @@ put-zeros (n ∷ ns) (w ∷ us) d h u =
     put-zeros ns us (at d w 0)
     (λ x. ⊎-elim (λ (e : x ≡ w). rw e (at-same d w 0)) (λ (e : x ≢ w). at-other d w 0 x e ∙ h x) (eq-or-ne x w)) u
 
--- the best list of moves at some nodes
-module _ (g : Graph) (adm : Admitted g) (us : List ℕ) where
+-- the best list of moves at some nodes, with the locks ls
+module _ (g : Graph) (ls : List ℕ) (adm : Admitted g) (us : List ℕ) where
   abbrev counts : List ℕ
-  counts = map (movesAt g) us
+  counts = map (movesAt g ls) us
 
   zeros-nothing : moved g us (zeros counts) ≡ g
   unfolding moved
   zeros-nothing = apply-idle g (put none us (zeros counts)) adm (put-zeros counts us none (λ u. refl))
 
   -- no choice of moves there has less C
-  pub best-lowest : (ms : List ℕ) → Fits counts ms → C (moved g us (bestAt g us)) ≤ C (moved g us ms)
+  pub best-lowest : (ms : List ℕ) → Fits counts ms → C (moved g us (bestAt g ls us)) ≤ C (moved g us ms)
   unfolding bestAt movedC
-  best-lowest ms h = best-is (movedC g us) counts (zeros counts) (movesAt-fit g us) .none-less ms h
+  best-lowest ms h = best-is (movedC g us) counts (zeros counts) (movesAt-fit g ls us) .none-less ms h
 
-  pub best-no-more : C (moved g us (bestAt g us)) ≤ C g
-  best-no-more = omega (arith, best-lowest (zeros counts) (movesAt-fit g us), ap C zeros-nothing)
+  pub best-no-more : C (moved g us (bestAt g ls us)) ≤ C g
+  best-no-more = omega (arith, best-lowest (zeros counts) (movesAt-fit g ls us), ap C zeros-nothing)
 
   -- a call that saves nothing changes nothing, and then no choice of moves there lowers C
-  pub best-idle : C g ≤ C (moved g us (bestAt g us)) → moved g us (bestAt g us) ≡ g
+  pub best-idle : C g ≤ C (moved g us (bestAt g ls us)) → moved g us (bestAt g ls us) ≡ g
   unfolding bestAt movedC
   best-idle h =
       let z : best (movedC g us) counts ≡ zeros counts =
-      best-zeros (movedC g us) counts (movesAt-fit g us) (omega (arith, ap C zeros-nothing)) in
+      best-zeros (movedC g us) counts (movesAt-fit g ls us) (omega (arith, ap C zeros-nothing)) in
       ap (moved g us) z ∙ zeros-nothing
 
-  pub rewrite-graph : rewrite g us .graph ≡ moved g us (bestAt g us)
+  pub rewrite-graph : rewrite g ls us .graph ≡ moved g us (bestAt g ls us)
   unfolding rewrite
   rewrite-graph = refl
 
-  pub rewrite-kept : Kept g (moved g us (bestAt g us)) (C g - C (moved g us (bestAt g us)))
+  pub rewrite-kept : Kept g (moved g us (bestAt g ls us)) (C g - C (moved g us (bestAt g ls us)))
   unfolding moved
-  rewrite-kept = apply-kept g (put none us (bestAt g us)) adm best-no-more
+  rewrite-kept = apply-kept g (put none us (bestAt g ls us)) adm best-no-more

@@ -16,6 +16,7 @@ pub mod Programme
 pub mod TreeBest
 pub mod Written
 pub mod Kept
+pub mod Locks
 pub mod Scan
 pub mod Deciding
 pub mod Tally

@@ -1,6 +1,7 @@
 -- The cost of a node looks only at its words and at the costs of the nodes that they name.
 use mathlib.Core.Path.{_≡_, refl, _∙_, fun-ext}
 use mathlib.Core.Bool.{Bool, true, false}
+use mathlib.Core.List.{List}
 use mathlib.Core.Logic.{⊎-elim}
 use Prim.Native.Nat.{ℕ, _+_, _*_, _/_, _%_, _<_}
 use native.Mathlib.Omega.{arith}
@@ -11,7 +12,7 @@ use Rattle.moves.specs.Rows.{movesAt}
 use Rattle.graph.proofs.Cases.{true-or-false}
 
 -- two graphs that have the same words at node v
-module _ (g g′ : Graph) (t t′ : ℕ → Bool) (c c′ : ℕ → ℕ → ℕ) (v : ℕ) (kind : isXor g v ≡ isXor g′ v) (moves : movesAt g (node g v) ≡ movesAt g′ (node g′ v))
+module _ (ls : List ℕ) (g g′ : Graph) (t t′ : ℕ → Bool) (c c′ : ℕ → ℕ → ℕ) (v : ℕ) (kind : isXor g v ≡ isXor g′ v) (moves : movesAt g ls (node g v) ≡ movesAt g′ ls (node g′ v))
     (edge : (i : ℕ) → i < 3 → isEdge g (3 * v + i) ≡ isEdge g′ (3 * v + i)) (words : (i : ℕ) → i < 3 → word g (3 * v + i) ≡ word g′ (3 * v + i))
     (alike : (i : ℕ) → i < 3 → isEdge g′ (3 * v + i) ≡ true → t (word g′ (3 * v + i) / 2) ≡ t′ (word g′ (3 * v + i) / 2))
     (same : (i s : ℕ) → i < 3 → isEdge g′ (3 * v + i) ≡ true → t′ (word g′ (3 * v + i) / 2) ≡ true → s < 2 → c (word g′ (3 * v + i) / 2) s ≡ c′ (word g′ (3 * v + i) / 2) s) where
@@ -51,16 +52,16 @@ module _ (g g′ : Graph) (t t′ : ℕ → Bool) (c c′ : ℕ → ℕ → ℕ)
   unfolding moveCost
   move-named s = fun-ext (λ k. rw (kind, own-named k))
 
-  node-named : (s : ℕ) → nodeCost g t c v s ≡ nodeCost g′ t′ c′ v s
+  node-named : (s : ℕ) → nodeCost g ls t c v s ≡ nodeCost g′ ls t′ c′ v s
   unfolding nodeCost
   node-named s = rw (move-named s, moves)
 
-  pub bit-named : (s : ℕ) → bitCost g t c v s ≡ bitCost g′ t′ c′ v s
+  pub bit-named : (s : ℕ) → bitCost g ls t c v s ≡ bitCost g′ ls t′ c′ v s
   unfolding bitCost baseCost
   bit-named s = rw (node-named s, node-named 0, node-named 1)
 
 -- one graph, whose node v names only indices below B
-module _ (g : Graph) (t t′ : ℕ → Bool) (v B : ℕ) (below : (i : ℕ) → i < 3 → isEdge g (3 * v + i) ≡ true → word g (3 * v + i) / 2 < B) (c c′ : ℕ → ℕ → ℕ)
+module _ (ls : List ℕ) (g : Graph) (t t′ : ℕ → Bool) (v B : ℕ) (below : (i : ℕ) → i < 3 → isEdge g (3 * v + i) ≡ true → word g (3 * v + i) / 2 < B) (c c′ : ℕ → ℕ → ℕ)
     (alike : (u : ℕ) → u < B → t u ≡ t′ u) (same : (u s : ℕ) → t u ≡ true → u < B → s < 2 → c u s ≡ c′ u s) where
   alike-at : (i : ℕ) → i < 3 → isEdge g (3 * v + i) ≡ true → t (word g (3 * v + i) / 2) ≡ t′ (word g (3 * v + i) / 2)
   alike-at i l e = alike _ (below i l e)
@@ -68,5 +69,5 @@ module _ (g : Graph) (t t′ : ℕ → Bool) (v B : ℕ) (below : (i : ℕ) → 
   same-at : (i s : ℕ) → i < 3 → isEdge g (3 * v + i) ≡ true → t′ (word g (3 * v + i) / 2) ≡ true → s < 2 → c (word g (3 * v + i) / 2) s ≡ c′ (word g (3 * v + i) / 2) s
   same-at i s l e q h = same _ s (alike-at i l e ∙ q) (below i l e) h
 
-  pub bit-local : (s : ℕ) → bitCost g t c v s ≡ bitCost g t′ c′ v s
-  bit-local = bit-named g g t t′ c c′ v refl refl (λ i l. refl) (λ i l. refl) alike-at same-at
+  pub bit-local : (s : ℕ) → bitCost g ls t c v s ≡ bitCost g ls t′ c′ v s
+  bit-local = bit-named ls g g t t′ c c′ v refl refl (λ i l. refl) (λ i l. refl) alike-at same-at

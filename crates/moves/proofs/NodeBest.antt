@@ -152,30 +152,30 @@ unfolding given naming
 given-sum g p h a v =
     swapped-sum (ownCosts g v) _ _ _ (named-bit g p h a (word g (3 * v + 0) / 2)) (named-bit g p h a (word g (3 * v + 1) / 2)) (named-bit g p h a (word g (3 * v + 2) / 2))
 
--- the node call's decision
-module _ (g : Graph) (adm : Admitted g) (v : ℕ) (h : v < g .N) where
-  pub node-cost : (k : ℕ) → C (apply g (at none (node g v) k)) ≡ costOf (numbersOf g v) k + restOf g none v
+-- the node call's decision, with the locks ls
+module _ (g : Graph) (ls : List ℕ) (adm : Admitted g) (v : ℕ) (h : v < g .N) where
+  pub node-cost : (k : ℕ) → C (apply g (at none (node g v) k)) ≡ costOf (numbersOf g ls v) k + restOf g none v
   unfolding numbersOf
   node-cost k = rw (← costs-none g v) (cost-step g adm none v h (λ w l. refl) k)
 
-  node-run : (k : ℕ) → movedC g (node g v ∷ []) (k ∷ []) ≡ costOf (numbersOf g v) k + restOf g none v
+  node-run : (k : ℕ) → movedC g (node g v ∷ []) (k ∷ []) ≡ costOf (numbersOf g ls v) k + restOf g none v
   unfolding movedC moved put
   node-run k = node-cost k
 
-  pub node-best : (m : ℕ) → FirstBelow (costOf (numbersOf g v)) (movesAt g (node g v)) m → m ∷ [] ≡ bestAt g (node g v ∷ [])
+  pub node-best : (m : ℕ) → FirstBelow (costOf (numbersOf g ls v)) (movesAt g ls (node g v)) m → m ∷ [] ≡ bestAt g ls (node g v ∷ [])
   unfolding bestAt
-  node-best m b = unique (movedC g (node g v ∷ [])) (map (movesAt g) (node g v ∷ [])) (m ∷ []) (record {
+  node-best m b = unique (movedC g (node g v ∷ [])) (map (movesAt g ls) (node g v ∷ [])) (m ∷ []) (record {
     fits = (b .below, tt);
     none-less = none-less;
     earlier-more = earlier-more;
   })
     where
-      none-less : (l : List ℕ) → Fits (map (movesAt g) (node g v ∷ [])) l → movedC g (node g v ∷ []) (m ∷ []) ≤ movedC g (node g v ∷ []) l
+      none-less : (l : List ℕ) → Fits (map (movesAt g ls) (node g v ∷ [])) l → movedC g (node g v ∷ []) (m ∷ []) ≤ movedC g (node g v ∷ []) l
       none-less [] f = absurd f
       none-less (k ∷ []) f = omega (arith, node-run k, node-run m, b .low k (f .0))
       none-less (k ∷ j ∷ l) f = absurd (f .1)
 
-      earlier-more : (l : List ℕ) → Fits (map (movesAt g) (node g v ∷ [])) l → l ≺ (m ∷ []) → movedC g (node g v ∷ []) (m ∷ []) < movedC g (node g v ∷ []) l
+      earlier-more : (l : List ℕ) → Fits (map (movesAt g ls) (node g v ∷ [])) l → l ≺ (m ∷ []) → movedC g (node g v ∷ []) (m ∷ []) < movedC g (node g v ∷ []) l
       earlier-more [] f e = absurd f
       earlier-more (k ∷ []) f (inl e) = omega (arith, node-run k, node-run m, b .first k e)
       earlier-more (k ∷ []) f (inr e) = absurd (e .1)
@@ -186,7 +186,7 @@ module _ (g : Graph) (adm : Admitted g) (v : ℕ) (h : v < g .N) where
   zero-is = rw (at-zero none (node g v) refl) (ap C (apply-idle g none adm (λ u. refl)))
 
 -- the pair call's
-module _ (g : Graph) (adm : Admitted g) (p v : ℕ) (l : p < v) (h : v < g .N) where
+module _ (g : Graph) (ls : List ℕ) (adm : Admitted g) (p v : ℕ) (l : p < v) (h : v < g .N) where
   lower : p < g .N
   lower = omega arith
 
@@ -200,7 +200,7 @@ module _ (g : Graph) (adm : Admitted g) (p v : ℕ) (l : p < v) (h : v < g .N) w
   pub both-costs : ℕ
   both-costs = whole (ownCosts g v) + shown g (node g v) 0
 
-  pub pair-cost-is : (a k : ℕ) → C (apply g (at (at none (node g p) a) (node g v) k)) + both-costs ≡ pairCost (numbersOf g p) (numbersOf g v) (naming g v (node g p)) a k + both-rest
+  pub pair-cost-is : (a k : ℕ) → C (apply g (at (at none (node g p) a) (node g v) k)) + both-costs ≡ pairCost (numbersOf g ls p) (numbersOf g ls v) (naming g v (node g p)) a k + both-rest
   unfolding numbersOf pairCost costGiven both-rest both-costs
   pair-cost-is a k =
       let d : Choice = at none (node g p) a in
@@ -210,29 +210,29 @@ module _ (g : Graph) (adm : Admitted g) (p v : ℕ) (l : p < v) (h : v < g .N) w
       let o : ℕ = shown g (node g v) 0 in
       let step : (j : ℕ) → C (apply g (at d (node g v) j)) ≡ costWith x z r o j + restOf g d v = λ j. rw (← costs-given g p lower a v) (cost-step g adm d v h (below a) j) in
       let zero-step : C (apply g d) ≡ costWith x z r o 0 + restOf g d v = rw (at-zero d (node g v) (below a (node g v) (omega arith))) at (step 0) in
-      omega (arith, step k, zero-step, node-cost g adm p lower a, cost-stands x z r o, given-sum g p lower a v)
+      omega (arith, step k, zero-step, node-cost g ls adm p lower a, cost-stands x z r o, given-sum g p lower a v)
 
   run-is : (a k : ℕ) → movedC g (node g p ∷ node g v ∷ []) (a ∷ k ∷ []) ≡ C (apply g (at (at none (node g p) a) (node g v) k))
   unfolding movedC moved put
   run-is a k = refl
 
-  pub pair-best : (a k : ℕ) → FirstPair (pairCost (numbersOf g p) (numbersOf g v) (naming g v (node g p))) (movesAt g (node g p)) (movesAt g (node g v)) a k
-      → a ∷ k ∷ [] ≡ bestAt g (node g p ∷ node g v ∷ [])
+  pub pair-best : (a k : ℕ) → FirstPair (pairCost (numbersOf g ls p) (numbersOf g ls v) (naming g v (node g p))) (movesAt g ls (node g p)) (movesAt g ls (node g v)) a k
+      → a ∷ k ∷ [] ≡ bestAt g ls (node g p ∷ node g v ∷ [])
   unfolding bestAt
-  pair-best a k b = unique (movedC g (node g p ∷ node g v ∷ [])) (map (movesAt g) (node g p ∷ node g v ∷ [])) (a ∷ k ∷ []) (record {
+  pair-best a k b = unique (movedC g (node g p ∷ node g v ∷ [])) (map (movesAt g ls) (node g p ∷ node g v ∷ [])) (a ∷ k ∷ []) (record {
     fits = (b .below, (b .fits, tt));
     none-less = none-less;
     earlier-more = earlier-more;
   })
     where
-      none-less : (l : List ℕ) → Fits (map (movesAt g) (node g p ∷ node g v ∷ [])) l → movedC g (node g p ∷ node g v ∷ []) (a ∷ k ∷ []) ≤ movedC g (node g p ∷ node g v ∷ []) l
+      none-less : (l : List ℕ) → Fits (map (movesAt g ls) (node g p ∷ node g v ∷ [])) l → movedC g (node g p ∷ node g v ∷ []) (a ∷ k ∷ []) ≤ movedC g (node g p ∷ node g v ∷ []) l
       none-less [] f = absurd f
       none-less (c ∷ []) f = absurd (f .1)
       none-less (c ∷ j ∷ []) f =
           omega (arith, run-is a k, run-is c j, pair-cost-is a k, pair-cost-is c j, b .low c j (f .0) (f .1 .0))
       none-less (c ∷ j ∷ i ∷ l) f = absurd (f .1 .1)
 
-      earlier-more : (l : List ℕ) → Fits (map (movesAt g) (node g p ∷ node g v ∷ [])) l → l ≺ (a ∷ k ∷ [])
+      earlier-more : (l : List ℕ) → Fits (map (movesAt g ls) (node g p ∷ node g v ∷ [])) l → l ≺ (a ∷ k ∷ [])
           → movedC g (node g p ∷ node g v ∷ []) (a ∷ k ∷ []) < movedC g (node g p ∷ node g v ∷ []) l
       earlier-more [] f e = absurd f
       earlier-more (c ∷ []) f e = absurd (f .1)

@@ -42,27 +42,30 @@ module _ (g : Graph) (t : ℕ → Bool) (c : ℕ → ℕ → ℕ) (v : ℕ) wher
   unfolding rootCost
   root-is = fun-ext (λ m. omega (arith, own-is (readers g (node g v)) (shown g (node g v) 0) m, all-readers g (node g v) (flag (isXor g v) m 3) (flag-bit (isXor g v) m 3 (omega arith))))
 
-  -- the cost of a node is that of any first least move
-  node-is : (s m : ℕ) → FirstBelow (moveCost g t c v s) (movesAt g (node g v)) m → nodeCost g t c v s ≡ moveCost g t c v s m
-  unfolding nodeCost
-  node-is s m h =
-      let b = least-moves g (moveCost g t c v s) (node g v) in
-      omega (arith, h .low _ (b .below), b .low m (h .below))
-
-  pub node-found : (s m r : ℕ) → s < 2 → FirstBelow (costWith (isXor g v) (wordCosts g t c v) 1 s) (movesAt g (node g v)) m → r ≡ costWith (isXor g v) (wordCosts g t c v) 1 s m → r ≡ nodeCost g t c v s
-  node-found s m r h f e = e ∙ ap (λ k. k m) (move-is s h) ∙ sym (node-is s m (rw (move-is s h) at f))
-
-  -- the two costs of a node differ by 1 at most
+  -- what a move costs at either bit differs by 1 at most
   near : (m : ℕ) → (moveCost g t c v 0 m ≤ moveCost g t c v 1 m + 1) × (moveCost g t c v 1 m ≤ moveCost g t c v 0 m + 1)
   unfolding moveCost
   near m = omega arith
 
-  pub nodes-near : (nodeCost g t c v 0 ≤ nodeCost g t c v 1 + 1) × (nodeCost g t c v 1 ≤ nodeCost g t c v 0 + 1)
-  unfolding nodeCost
-  nodes-near =
-      let a = least-moves g (moveCost g t c v 0) (node g v) in
-      let b = least-moves g (moveCost g t c v 1) (node g v) in
-      omega (arith, a .low _ (b .below), b .low _ (a .below), near (pick (moveCost g t c v 0) (movesAt g (node g v))), near (pick (moveCost g t c v 1) (movesAt g (node g v))))
+  -- with the locks ls
+  module _ (ls : List ℕ) where
+    -- the cost of a node is that of any first least move
+    node-is : (s m : ℕ) → FirstBelow (moveCost g t c v s) (movesAt g ls (node g v)) m → nodeCost g ls t c v s ≡ moveCost g t c v s m
+    unfolding nodeCost
+    node-is s m h =
+        let b = least-moves g ls (moveCost g t c v s) (node g v) in
+        omega (arith, h .low _ (b .below), b .low m (h .below))
+
+    pub node-found : (s m r : ℕ) → s < 2 → FirstBelow (costWith (isXor g v) (wordCosts g t c v) 1 s) (movesAt g ls (node g v)) m → r ≡ costWith (isXor g v) (wordCosts g t c v) 1 s m → r ≡ nodeCost g ls t c v s
+    node-found s m r h f e = e ∙ ap (λ k. k m) (move-is s h) ∙ sym (node-is s m (rw (move-is s h) at f))
+
+    -- the two costs of a node differ by 1 at most
+    pub nodes-near : (nodeCost g ls t c v 0 ≤ nodeCost g ls t c v 1 + 1) × (nodeCost g ls t c v 1 ≤ nodeCost g ls t c v 0 + 1)
+    unfolding nodeCost
+    nodes-near =
+        let a = least-moves g ls (moveCost g t c v 0) (node g v) in
+        let b = least-moves g ls (moveCost g t c v 1) (node g v) in
+        omega (arith, a .low _ (b .below), b .low _ (a .below), near (pick (moveCost g t c v 0) (movesAt g ls (node g v))), near (pick (moveCost g t c v 1) (movesAt g ls (node g v))))
 
 -- where costs are bits, so are the numbers
 module _ (g : Graph) (t : ℕ → Bool) (c : ℕ → ℕ → ℕ) (v : ℕ) (low : (u s : ℕ) → c u s ≤ 1) where

@@ -23,24 +23,23 @@ use Rattle.graph.proofs.Tests.{less, no-less}
 use Rattle.choice.specs.Choice.{FirstBelow}
 use Rattle.moves.specs.Apply.{none, at, put, apply}
 use Rattle.moves.specs.Call.{moved, movedC}
-use Rattle.moves.specs.Decide.{MovesOf, costBy, costWith, given, others, costGiven, pairCost, Counted, FirstPair, numbersOf, naming}
+use Rattle.moves.specs.Decide.{MovesOf, given, others, costGiven, pairCost, Counted, FirstPair, numbersOf, naming}
 use Rattle.moves.specs.Pair.{pairSaving, FirstGreatest, costNumbered, savingNumbered, GreatestBelow}
 use Rattle.moves.specs.Rows.{arity, flag}
 use Rattle.moves.specs.declared.decide.NodeNumbers.{NodeNumbers}
 use Rattle.moves.specs.declared.decide.Combination.{Combination}
-use Rattle.moves.proofs.Changed.{flag-zero}
 use Rattle.moves.proofs.Deciding.{cost-le, given-numbers}
 use Rattle.moves.proofs.Moves.{moves-some}
 use Rattle.moves.proofs.NodeBest.{pair-cost-is, zeros-are}
 use Rattle.moves.proofs.Scan.{scan-one, scan-keep, scan-take}
 
-pub pair-saving : (g : Graph) → Admitted g → (p v : ℕ) → p < v → v < g .N → (a k : ℕ)
-    → pairSaving (numbersOf g p) (numbersOf g v) (naming g v (node g p)) a k ≡ difference (C g) (movedC g (node g p ∷ node g v ∷ []) (a ∷ k ∷ []))
+pub pair-saving : (g : Graph) (ls : List ℕ) → Admitted g → (p v : ℕ) → p < v → v < g .N → (a k : ℕ)
+    → pairSaving (numbersOf g ls p) (numbersOf g ls v) (naming g v (node g p)) a k ≡ difference (C g) (movedC g (node g p ∷ node g v ∷ []) (a ∷ k ∷ []))
 unfolding pairSaving movedC moved put
-pair-saving g adm p v l h a k =
-    same-difference (pairCost (numbersOf g p) (numbersOf g v) (naming g v (node g p)) 0 0) (pairCost (numbersOf g p) (numbersOf g v) (naming g v (node g p)) a k) (C g)
+pair-saving g ls adm p v l h a k =
+    same-difference (pairCost (numbersOf g ls p) (numbersOf g ls v) (naming g v (node g p)) 0 0) (pairCost (numbersOf g ls p) (numbersOf g ls v) (naming g v (node g p)) a k) (C g)
     (C (apply g (at (at none (node g p) a) (node g v) k)))
-    (omega (arith, pair-cost-is g adm p v l h 0 0, pair-cost-is g adm p v l h a k, zeros-are g adm p v l h))
+    (omega (arith, pair-cost-is g ls adm p v l h 0 0, pair-cost-is g ls adm p v l h a k, zeros-are g ls adm p v l h))
 
 module _ (p n : NodeNumbers) (w : List ℕ) where
   pub from-costs : (a k x y : ℕ) → x ≡ pairCost p n w 0 0 → y ≡ pairCost p n w a k → difference x y ≡ pairSaving p n w a k
@@ -115,31 +114,36 @@ module _ (f : ℕ → ℕ → ℕ) (r s c : ℕ) (quotient : (b l : ℕ) → l <
         second = λ l i. let j : l < s = omega arith in rw (quotient (c / s) l j, rest (c / s) l j) at (h .first (s * (c / s) + l) (before-second l i));
       }
 
+-- each number of moves that a node can have: 1, 2 and 4
+by-moves : (P : ℕ → Type 0) → P 1 → P 2 → P 4 → (x : Bool) (s : ℕ) → MovesOf x s → P s
+unfolding arity
+by-moves P one two four true s h = ⊎-elim (λ (e : s ≡ 1). rw e one) (λ (e : s ≡ 4). rw e four) h
+by-moves P one two four false s h = ⊎-elim (λ (e : s ≡ 1). rw e one) (λ (e : s ≡ 2). rw e two) h
+
 module _ (f : ℕ → ℕ → ℕ) (r c : ℕ) where
   by-number : (x : Bool) (s : ℕ) → MovesOf x s → FirstBelow (λ i. f (i / s) (i % s)) (r * s) c → FirstPair f r s (c / s) (c % s)
-  unfolding arity
-  by-number true s e =
-      rw e
+  by-number =
+      by-moves (λ s. FirstBelow (λ i. f (i / s) (i % s)) (r * s) c → FirstPair f r s (c / s) (c % s))
       (λ h.
-      in-order f r 4 c (λ b l i. omega arith) (λ b l i. omega arith) (λ b l i j. omega arith) (omega (arith, h .below)) (omega arith) (λ b l i j. omega arith)
+      in-order f r 1 c (λ b l i. omega arith) (λ b l i. omega arith) (λ b l i j. omega arith) (omega (arith, h .below)) (omega arith) (λ b l i j. omega arith)
       (λ l i. omega arith) h)
-  by-number false s e =
-      rw e
       (λ h.
       in-order f r 2 c (λ b l i. omega arith) (λ b l i. omega arith) (λ b l i j. omega arith) (omega (arith, h .below)) (omega arith) (λ b l i j. omega arith)
       (λ l i. omega arith) h)
+      (λ h.
+      in-order f r 4 c (λ b l i. omega arith) (λ b l i. omega arith) (λ b l i j. omega arith) (omega (arith, h .below)) (omega arith) (λ b l i j. omega arith)
+      (λ l i. omega arith) h)
 
 halves : (r c : ℕ) (x : Bool) (s : ℕ) → MovesOf x s → c < r * s → (c / s < r) × (c % s < s)
-unfolding arity
-halves r c true s e = rw e (λ h. (omega arith, omega arith))
-halves r c false s e = rw e (λ h. (omega arith, omega arith))
+halves r c = by-moves (λ s. c < r * s → (c / s < r) × (c % s < s)) (λ h. (omega arith, omega arith)) (λ h. (omega arith, omega arith)) (λ h. (omega arith, omega arith))
 
 product : (x y : Bool) (r s : ℕ) → MovesOf x r → MovesOf y s → (1 ≤ r * s) × (r * s ≤ 16)
-unfolding arity
-product true true r s e f = rw (e, f) (omega arith)
-product true false r s e f = rw (e, f) (omega arith)
-product false true r s e f = rw (e, f) (omega arith)
-product false false r s e f = rw (e, f) (omega arith)
+product x y r s h k =
+    by-moves (λ r. (1 ≤ r * s) × (r * s ≤ 16))
+    (by-moves (λ s. (1 ≤ 1 * s) × (1 * s ≤ 16)) (omega arith) (omega arith) (omega arith) y s k)
+    (by-moves (λ s. (1 ≤ 2 * s) × (2 * s ≤ 16)) (omega arith) (omega arith) (omega arith) y s k)
+    (by-moves (λ s. (1 ≤ 4 * s) × (4 * s ≤ 16)) (omega arith) (omega arith) (omega arith) y s k)
+    x r h
 
 -- the numbers are low, so that a saving that went through memory or a field is the same
 module _ (p n : NodeNumbers) (w : List ℕ) (i : Counted p) (j : Counted n) where
@@ -224,44 +228,10 @@ module _ (p n : NodeNumbers) (w : List ℕ) (i : Counted p) (j : Counted n) wher
     unfolding savingNumbered
     won-saving r e = ap pos e ∙ sym (not-negative .0) ∙ numbered-back (b .number) (b .saving) (h .saving)
 
--- a move that a kind lacks is as move 0
-had-is : (m s : ℕ) → m < s → ifLess m s m 0 ≡ m
-had-is m s h = sym (less m s m 0 h refl)
-
-lacks-is : (m s : ℕ) → s ≤ m → ifLess m s m 0 ≡ 0
-lacks-is m s h = sym (no-less m s m 0 h refl)
-
-lacks-flag : (x : Bool) (m k : ℕ) → arity x ≤ m → 0 ≡ flag x m k
-unfolding flag
-lacks-flag x m k h = no-less m (arity x) _ 0 h refl
-
-flag-had : (x : Bool) (m k : ℕ) → flag x (ifLess m (arity x) m 0) k ≡ flag x m k
-flag-had x m k =
-    ⊎-elim
-    (λ (h : m < arity x). rw (had-is m (arity x) h))
-    (λ (h : arity x ≤ m). rw (lacks-is m (arity x) h, flag-zero x k) (lacks-flag x m k h))
-    (lt-or-le m (arity x))
-
-module _ (p n : NodeNumbers) (w : List ℕ) (i : Counted p) (j : Counted n) where
-  had-cost : (a k r s : ℕ) → MovesOf (p .xor) r → MovesOf (n .xor) s → pairCost p n w (ifLess a r a 0) (ifLess k s k 0) ≡ pairCost p n w a k
-  unfolding pairCost costGiven costWith costBy
-  had-cost a k r s e f =
-      rw (
-        e,
-        f,
-        flag-had (p .xor) a 0,
-        flag-had (p .xor) a 1,
-        flag-had (p .xor) a 2,
-        flag-had (p .xor) a 3,
-        flag-had (n .xor) k 0,
-        flag-had (n .xor) k 1,
-        flag-had (n .xor) k 2,
-        flag-had (n .xor) k 3,
-      )
-
-  pub had-saving : (a k : ℕ) → pairSaving p n w (ifLess a (p .moves) a 0) (ifLess k (n .moves) k 0) ≡ pairSaving p n w a k
-  unfolding pairSaving
-  had-saving a k = ap (difference (pairCost p n w 0 0)) (had-cost a k (p .moves) (n .moves) (i .has) (j .has))
-
+-- a move that a node lacks is as move 0, which it has
 pub had-fits : (m s : ℕ) → 0 < s → ifLess m s m 0 < s
-had-fits m s z = ⊎-elim (λ (h : m < s). rw (had-is m s h) h) (λ (h : s ≤ m). rw (lacks-is m s h) z) (lt-or-le m s)
+had-fits m s z =
+    ⊎-elim
+    (λ (h : m < s). rw (← less {k = m} m s m 0 h refl) h)
+    (λ (h : s ≤ m). rw (← no-less {k = 0} m s m 0 h refl) z)
+    (lt-or-le m s)

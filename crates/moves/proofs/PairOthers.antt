@@ -4,7 +4,7 @@ use mathlib.Core.Path.{_≡_, refl, sym, ap, _∙_}
 use mathlib.Core.Bool.{true, false, cond}
 use mathlib.Core.List.{List, [], _∷_}
 use mathlib.Core.Logic.{⊎-elim, _≢_}
-use Prim.Native.Nat.{ℕ, zero, suc, _+_, _-_, _*_, _/_, _%_, _≤_, _<_}
+use Prim.Native.Nat.{ℕ, zero, suc, _+_, _*_, _/_, _%_, _≤_, _<_}
 use native.Mathlib.Omega.{arith}
 use borrow.Author.Tests.{eq-eqb, ne-eqb}
 use lib.Dec.{eqb}
@@ -168,25 +168,25 @@ module _ (g : Graph) (v u : ℕ) where
       rw (a, cond-same {A = ℕ} (eqb (cond (eqb (word g (3 * v + i) / 2) u) 1 0) 0) 0) (sym (not-read g u t (3 * v + i) (λ y z. clash y a))))
       (true-or-false (isEdge g (3 * v + i)))
 
-  between-is : (t : ℕ) → t ≤ 1 → betweenBy (numbersOf g v) (naming g v u) t ≡ oddBetween g u t v
+  between-is : (ls : List ℕ) (t : ℕ) → t ≤ 1 → betweenBy (numbersOf g ls v) (naming g v u) t ≡ oddBetween g u t v
   unfolding betweenBy numbersOf naming ownCosts oddBetween
-  between-is zero l = sum-three (word-between 0 0) (word-between 1 0) (word-between 2 0)
-  between-is (suc zero) l = sum-three (word-between 0 1) (word-between 1 1) (word-between 2 1)
-  between-is (suc (suc t)) l = absurd (omega arith)
+  between-is ls zero l = sum-three (word-between 0 0) (word-between 1 0) (word-between 2 0)
+  between-is ls (suc zero) l = sum-three (word-between 0 1) (word-between 1 1) (word-between 2 1)
+  between-is ls (suc (suc t)) l = absurd (omega arith)
 
-pub odd-is : (g : Graph) (v t : ℕ) → t ≤ 1 → oddBy (numbersOf g v) t ≡ shown g (node g v) t
+pub odd-is : (g : Graph) (ls : List ℕ) (v t : ℕ) → t ≤ 1 → oddBy (numbersOf g ls v) t ≡ shown g (node g v) t
 unfolding oddBy numbersOf
-odd-is g v t l = all-readers g (node g v) t l
+odd-is g ls v t l = all-readers g (node g v) t l
 
-module _ (g : Graph) (adm : Admitted g) (p v : ℕ) (l : p < v) (h : v < g .N) where
+module _ (g : Graph) (ls : List ℕ) (adm : Admitted g) (p v : ℕ) (l : p < v) (h : v < g .N) where
   by-numbers : (m : Choice) → Only (node g p ∷ node g v ∷ []) m → (f e : ℕ) → f ≤ 1 → e ≤ 1 → seen g m (node g p) ≡ f → seen g m (node g v) ≡ e
-      → oddOutside (apply g m) (node g p ∷ node g v ∷ []) + betweenBy (numbersOf g v) (naming g v (node g p)) f ≡ oddBy (numbersOf g p) f + oddBy (numbersOf g v) e
+      → oddOutside (apply g m) (node g p ∷ node g v ∷ []) + betweenBy (numbersOf g ls v) (naming g v (node g p)) f ≡ oddBy (numbersOf g ls p) f + oddBy (numbersOf g ls v) e
   by-numbers m only f e i j a b =
       let t : oddOutside (apply g m) (node g p ∷ node g v ∷ []) + oddBetween g (node g p) f v ≡ shown g (node g p) f + shown g (node g v) e = rw (← a, ← b) (outside-turned g adm p v l h m only) in
-      omega (arith, t, between-is g v (node g p) f i, odd-is g p f i, odd-is g v e j)
+      omega (arith, t, between-is g v (node g p) ls f i, odd-is g ls p f i, odd-is g ls v e j)
 
   -- M-104: a pair call's others, from the numbers of both nodes before it
-  pub pair-others : (a k : ℕ) (o : Odds) → PairOdds (numbersOf g p) (numbersOf g v) (naming g v (node g p)) a k o
+  pub pair-others : (a k : ℕ) (o : Odds) → PairOdds (numbersOf g ls p) (numbersOf g ls v) (naming g v (node g p)) a k o
       → split (node g p ∷ node g v ∷ []) g (moved g (node g p ∷ node g v ∷ []) (a ∷ k ∷ [])) .others ≡ difference (o .before) (o .after)
   unfolding moved put pairOdd numbersOf
   pair-others a k o r =
@@ -200,6 +200,6 @@ module _ (g : Graph) (adm : Admitted g) (p v : ℕ) (l : p < v) (h : v < g .N) w
       let y = by-numbers m only (flag (isXor g p) a 3) (flag (isXor g v) k 3) (flag-bit (isXor g p) a 3 (omega arith)) (flag-bit (isXor g v) k 3 (omega arith)) f e in
       others-are g adm us m only ∙ same-difference (oddOutside g us) (oddOutside (apply g m) us) (o .before) (o .after) (omega (arith, r .before, r .after, x, y))
 
-  pub pair-best-others : (a k : ℕ) → a ∷ k ∷ [] ≡ bestAt g (node g p ∷ node g v ∷ []) → (o : Odds) → PairOdds (numbersOf g p) (numbersOf g v) (naming g v (node g p)) a k o
-      → othersOf (rewrite g (node g p ∷ node g v ∷ []) .answer) ≡ difference (o .before) (o .after)
-  pair-best-others a k e o r = rewrite-others g (node g p ∷ node g v ∷ []) ∙ rw (← e) (pair-others a k o r)
+  pub pair-best-others : (a k : ℕ) → a ∷ k ∷ [] ≡ bestAt g ls (node g p ∷ node g v ∷ []) → (o : Odds) → PairOdds (numbersOf g ls p) (numbersOf g ls v) (naming g v (node g p)) a k o
+      → othersOf (rewrite g ls (node g p ∷ node g v ∷ []) .answer) ≡ difference (o .before) (o .after)
+  pair-best-others a k e o r = rewrite-others g ls (node g p ∷ node g v ∷ []) ∙ rw (← e) (pair-others a k o r)

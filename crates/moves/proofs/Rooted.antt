@@ -139,17 +139,17 @@ module _ (g : Graph) (adm : Admitted g) (v : ℕ) where
       }
 
   -- M-104: a node call's others, from the numbers of the node before it
-  pub node-others : v < g .N → (k : ℕ) (o : Odds) → NodeOdds (numbersOf g v) k o
+  pub node-others : (ls : List ℕ) → v < g .N → (k : ℕ) (o : Odds) → NodeOdds (numbersOf g ls v) k o
       → split (node g v ∷ []) g (moved g (node g v ∷ []) (k ∷ [])) .others ≡ difference (o .before) (o .after)
   unfolding put oddBy numbersOf
-  node-others l k o r =
+  node-others ls l k o r =
       let b : o .before ≡ shown g (node g v) 0 = r .before ∙ all-readers g (node g v) 0 (omega arith) in
       let a : o .after ≡ shown g (node g v) (flag (isXor g v) k 3) = r .after ∙ all-readers g (node g v) (flag (isXor g v) k 3) (flag-bit (isXor g v) k 3 (omega arith)) in
       root-others g adm (node g v ∷ []) (node g v) node-rooted (k ∷ []) ∙ rw (b, a, seen-node g (put none (node g v ∷ []) (k ∷ [])) v l, at-same none (node g v) k)
 
-  pub node-best-others : v < g .N → (k : ℕ) → k ∷ [] ≡ bestAt g (node g v ∷ []) → (o : Odds) → NodeOdds (numbersOf g v) k o
-      → othersOf (rewrite g (node g v ∷ []) .answer) ≡ difference (o .before) (o .after)
-  node-best-others l k e o r = rewrite-others g (node g v ∷ []) ∙ rw (← e) (node-others l k o r)
+  pub node-best-others : (ls : List ℕ) → v < g .N → (k : ℕ) → k ∷ [] ≡ bestAt g ls (node g v ∷ []) → (o : Odds) → NodeOdds (numbersOf g ls v) k o
+      → othersOf (rewrite g ls (node g v ∷ []) .answer) ≡ difference (o .before) (o .after)
+  node-best-others ls l k e o r = rewrite-others g ls (node g v ∷ []) ∙ rw (← e) (node-others ls l k o r)
 
 -- the tree of a root
 module _ (g : Graph) (r : ℕ) where
@@ -209,5 +209,5 @@ module _ (g : Graph) (adm : Admitted g) (n : ℕ) (h : n < g .N) (t : isRoot g (
       }
 
   -- M-104: a tree call's others are its root's odd readers, before less after
-  pub tree-best-others : othersOf (rewrite g (tree g (node g n)) .answer) ≡ difference (shown g (node g n) 0) (shown (moved g (tree g (node g n)) (bestAt g (tree g (node g n)))) (node g n) 0)
-  tree-best-others = rewrite-others g (tree g (node g n)) ∙ root-others-after g adm (tree g (node g n)) (node g n) tree-rooted (bestAt g (tree g (node g n)))
+  pub tree-best-others : (ls : List ℕ) → othersOf (rewrite g ls (tree g (node g n)) .answer) ≡ difference (shown g (node g n) 0) (shown (moved g (tree g (node g n)) (bestAt g ls (tree g (node g n)))) (node g n) 0)
+  tree-best-others ls = rewrite-others g ls (tree g (node g n)) ∙ root-others-after g adm (tree g (node g n)) (node g n) tree-rooted (bestAt g ls (tree g (node g n)))

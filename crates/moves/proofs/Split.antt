@@ -39,10 +39,10 @@ pub own-by : (us : List ℕ) (g h : Graph) (c d : ℕ) → split us g h .others 
 own-by us g h c d e = part-by (split us g h .own) (split us g h .others) (C g) (C h) c d (split-whole us g h) e
 
 -- the answer by counts is that of the rewriting
-pub saved-outcome : (g : Graph) (us : List ℕ) (h : Graph) (b a o l : ℕ) → h ≡ moved g us (bestAt g us) → C g + a ≡ C h + b
-    → split us g h .others ≡ difference o l → outcome (savedBy b a o l) h ≡ rewrite g us
+pub saved-outcome : (g : Graph) (ls us : List ℕ) (h : Graph) (b a o l : ℕ) → h ≡ moved g us (bestAt g ls us) → C g + a ≡ C h + b
+    → split us g h .others ≡ difference o l → outcome (savedBy b a o l) h ≡ rewrite g ls us
 unfolding rewrite
-saved-outcome g us h b a o l e c q =
+saved-outcome g ls us h b a o l e c q =
     rw (← e)
     (ap (λ (x : ℤ). outcome (gained [] x (difference o l)) h) (same-difference (b + l) (a + o) (C g + l) (C h + o) (omega arith) ∙ sym (own-by us g h o l q))
     ∙ ap (λ (x : ℤ). outcome (gained [] (split us g h .own) x) h) (sym q))
@@ -52,6 +52,6 @@ pub split-none : (us : List ℕ) (g : Graph) → (split us g g .own ≡ pos 0) �
 unfolding split
 split-none us g = (no-difference (ownAdds g us), no-difference (otherAdds g us))
 
-pub rewrite-others : (g : Graph) (us : List ℕ) → othersOf (rewrite g us .answer) ≡ split us g (moved g us (bestAt g us)) .others
+pub rewrite-others : (g : Graph) (ls us : List ℕ) → othersOf (rewrite g ls us .answer) ≡ split us g (moved g us (bestAt g ls us)) .others
 unfolding rewrite
-rewrite-others g us = refl
+rewrite-others g ls us = refl

@@ -5,7 +5,7 @@ use Prim.Native.Nat.{ℕ, _+_, _-_, _*_, _/_, _%_, _<_}
 use lib.Dec.{ltb, eqb}
 use Rattle.graph.specs.Graph.{Graph, node, word, output, index, isXor, isEdge}
 use Rattle.graph.specs.Turned.{turnedBy}
-use Rattle.moves.specs.Rows.{flag, movesAt, combined}
+use Rattle.moves.specs.Rows.{flag, kindMoves, combined}
 
 -- a choice gives each node, by index, a move number; a node that is not concerned has move 0
 abbrev pub Choice : Type 0
@@ -25,9 +25,9 @@ put d [] ms = d
 put d (u ∷ us) [] = d
 put d (u ∷ us) (k ∷ ms) = put (at d u k) us ms
 
--- every move is one that its node has
+-- every move is one that its node's kind has
 abbrev pub Permitted : Graph → Choice → Type 0
-Permitted g m = (v : ℕ) → v < g .N → m (node g v) < movesAt g (node g v)
+Permitted g m = (v : ℕ) → v < g .N → m (node g v) < kindMoves g (node g v)
 
 -- whether the readers of index u are turned: they are where u is a node whose move says so
 unfoldable pub seen : Graph → Choice → ℕ → ℕ

@@ -1,4 +1,4 @@
--- The node, pair and tree calls: one notion of best, at three lists of nodes.
+-- The node, pair and tree calls on a graph g with the locks ls, which no call changes: one notion of best, at three lists of nodes.
 use mathlib.Core.Bool.{Bool, cond, _&&_}
 use mathlib.Core.List.{List, [], _∷_, map}
 use Prim.Native.Nat.{ℕ, _+_, _-_, _*_}
@@ -30,14 +30,14 @@ moved g us ms = apply g (put none us ms)
 unfoldable pub movedC : Graph → List ℕ → List ℕ → ℕ
 movedC g us ms = C (moved g us ms)
 
--- of all lists of moves at the nodes us, the first with the least C
-unfoldable pub bestAt : Graph → List ℕ → List ℕ
-bestAt g us = best (movedC g us) (map (movesAt g) us)
+-- of all lists of moves at the nodes us that leave locked nodes alone, the first with the least C
+unfoldable pub bestAt : Graph → List ℕ → List ℕ → List ℕ
+bestAt g ls us = best (movedC g us) (map (movesAt g ls) us)
 
 -- those moves made, with what they save in both parts
-unfoldable pub rewrite : Graph → List ℕ → Outcome
-rewrite g us =
-    let h = moved g us (bestAt g us) in
+unfoldable pub rewrite : Graph → List ℕ → List ℕ → Outcome
+rewrite g ls us =
+    let h = moved g us (bestAt g ls us) in
     let d = split us g h in
     outcome (gained [] (d .own) (d .others)) h
 
@@ -62,29 +62,29 @@ unfoldable pub scratchFault : Graph → ℕ → ℕ
 scratchFault g s = ifLess s (8 * g .N) 8 0
 
 -- the node call
-unfoldable pub nodeNumber : Graph → ℕ → ℕ
-nodeNumber g u = first (admissionNumber g) (nodeFault g u)
+unfoldable pub nodeNumber : Graph → List ℕ → ℕ → ℕ
+nodeNumber g ls u = first (admissionNumber g ls) (nodeFault g u)
 
-unfoldable pub nodeCall : Graph → ℕ → Outcome
-nodeCall g u = guarded (nodeNumber g u) g (rewrite g (u ∷ []))
+unfoldable pub nodeCall : Graph → List ℕ → ℕ → Outcome
+nodeCall g ls u = guarded (nodeNumber g ls u) g (rewrite g ls (u ∷ []))
 
 -- the index that word k (1 to 3) of node u names
 unfoldable pub namedBy : Graph → ℕ → ℕ → ℕ
 namedBy g u k = index (word g (3 * (u - (g .I + 1)) + (k - 1)))
 
 -- the pair call: the named node's move is compared first; a word that names no node changes nothing
-unfoldable pub pairNumber : Graph → ℕ → ℕ → ℕ
-pairNumber g u k = first (admissionNumber g) (first (nodeFault g u) (wordFault g u k))
+unfoldable pub pairNumber : Graph → List ℕ → ℕ → ℕ → ℕ
+pairNumber g ls u k = first (admissionNumber g ls) (first (nodeFault g u) (wordFault g u k))
 
-unfoldable pub pairRewrite : Graph → ℕ → ℕ → Outcome
-pairRewrite g u k = cond (isNode g (namedBy g u k)) (rewrite g (namedBy g u k ∷ u ∷ [])) (outcome (gained [] (pos 0) (pos 0)) g)
+unfoldable pub pairRewrite : Graph → List ℕ → ℕ → ℕ → Outcome
+pairRewrite g ls u k = cond (isNode g (namedBy g u k)) (rewrite g ls (namedBy g u k ∷ u ∷ [])) (outcome (gained [] (pos 0) (pos 0)) g)
 
-unfoldable pub pairCall : Graph → ℕ → ℕ → Outcome
-pairCall g u k = guarded (pairNumber g u k) g (pairRewrite g u k)
+unfoldable pub pairCall : Graph → List ℕ → ℕ → ℕ → Outcome
+pairCall g ls u k = guarded (pairNumber g ls u k) g (pairRewrite g ls u k)
 
 -- the tree call, with s words of scratch
-unfoldable pub treeNumber : Graph → ℕ → ℕ → ℕ
-treeNumber g s r = first (admissionNumber g) (first (nodeFault g r) (first (rootFault g r) (scratchFault g s)))
+unfoldable pub treeNumber : Graph → List ℕ → ℕ → ℕ → ℕ
+treeNumber g ls s r = first (admissionNumber g ls) (first (nodeFault g r) (first (rootFault g r) (scratchFault g s)))
 
-unfoldable pub treeCall : Graph → ℕ → ℕ → Outcome
-treeCall g s r = guarded (treeNumber g s r) g (rewrite g (tree g r))
+unfoldable pub treeCall : Graph → List ℕ → ℕ → ℕ → Outcome
+treeCall g ls s r = guarded (treeNumber g ls s r) g (rewrite g ls (tree g r))

@@ -1,5 +1,5 @@
 -- What a tree costs, node by node: what the tree's programme computes, and no promise to a caller. c u s is the cost of the
--- non-root u whose reader shows it the bit s.
+-- non-root u whose reader shows it the bit s; the locks ls say how many moves a node has.
 use mathlib.Core.Path.{_≡_}
 use mathlib.Core.Bool.{Bool, false, not, cond, _&&_}
 use mathlib.Core.List.{List, [], _∷_}
@@ -47,8 +47,8 @@ moveCost g t c v s k = (s + flag (isXor g v) k 3) % 2 + ownCost g t c v k
 unfoldable pub pick : (ℕ → ℕ) → ℕ → ℕ
 pick f n = least f 0 (from 0 n)
 
-unfoldable pub nodeCost : Graph → (ℕ → Bool) → (ℕ → ℕ → ℕ) → ℕ → ℕ → ℕ
-nodeCost g t c v s = moveCost g t c v s (pick (moveCost g t c v s) (movesAt g (node g v)))
+unfoldable pub nodeCost : Graph → List ℕ → (ℕ → Bool) → (ℕ → ℕ → ℕ) → ℕ → ℕ → ℕ
+nodeCost g ls t c v s = moveCost g t c v s (pick (moveCost g t c v s) (movesAt g ls (node g v)))
 
 -- how many readers of u are odd, all of them turned f times
 unfoldable pub shown : Graph → ℕ → ℕ → ℕ
@@ -59,23 +59,23 @@ unfoldable pub rootCost : Graph → (ℕ → Bool) → (ℕ → ℕ → ℕ) →
 rootCost g t c v k = shown g (node g v) (flag (isXor g v) k 3) + ownCost g t c v k
 
 -- c has the costs of all non-roots, each up to a number o of its own, which no bit changes
-abbrev pub Costs : Graph → (ℕ → ℕ → ℕ) → (ℕ → ℕ) → Type 0
-Costs g c o = (v s : ℕ) → v < g .N → s < 2 → isRoot g (node g v) ≡ false → c (node g v) s + o v ≡ nodeCost g (inner g) c v s
+abbrev pub Costs : Graph → List ℕ → (ℕ → ℕ → ℕ) → (ℕ → ℕ) → Type 0
+Costs g ls c o = (v s : ℕ) → v < g .N → s < 2 → isRoot g (node g v) ≡ false → c (node g v) s + o v ≡ nodeCost g ls (inner g) c v s
 
 -- the bit that u's reader shows it, once d has decided the reader
 unfoldable pub shows : Graph → Choice → ℕ → ℕ
 shows g d u = (word g (place g u) + own g d (place g u)) % 2
 
 -- d has the first least move at each node of the tree of r; elsewhere it is free
-pub record Decided (g : Graph) (c : ℕ → ℕ → ℕ) (r : ℕ) (d : Choice) : Type 0 where
-  pub top : (v : ℕ) → node g v ≡ r → FirstBelow (rootCost g (inner g) c v) (movesAt g (node g v)) (d r)
+pub record Decided (g : Graph) (ls : List ℕ) (c : ℕ → ℕ → ℕ) (r : ℕ) (d : Choice) : Type 0 where
+  pub top : (v : ℕ) → node g v ≡ r → FirstBelow (rootCost g (inner g) c v) (movesAt g ls (node g v)) (d r)
   pub rest : (v : ℕ) → v < g .N → rootOf g (node g v) ≡ r → node g v ≢ r
-      → FirstBelow (moveCost g (inner g) c v (shows g d (node g v))) (movesAt g (node g v)) (d (node g v))
+      → FirstBelow (moveCost g (inner g) c v (shows g d (node g v))) (movesAt g ls (node g v)) (d (node g v))
 
 -- what both bits cost
-unfoldable pub baseCost : Graph → (ℕ → Bool) → (ℕ → ℕ → ℕ) → ℕ → ℕ
-baseCost g t c v = min (nodeCost g t c v 0) (nodeCost g t c v 1)
+unfoldable pub baseCost : Graph → List ℕ → (ℕ → Bool) → (ℕ → ℕ → ℕ) → ℕ → ℕ
+baseCost g ls t c v = min (nodeCost g ls t c v 0) (nodeCost g ls t c v 1)
 
 -- what a bit costs besides: 0 or 1
-unfoldable pub bitCost : Graph → (ℕ → Bool) → (ℕ → ℕ → ℕ) → ℕ → ℕ → ℕ
-bitCost g t c v s = nodeCost g t c v s - baseCost g t c v
+unfoldable pub bitCost : Graph → List ℕ → (ℕ → Bool) → (ℕ → ℕ → ℕ) → ℕ → ℕ → ℕ
+bitCost g ls t c v s = nodeCost g ls t c v s - baseCost g ls t c v

@@ -2,6 +2,7 @@
 use mathlib.Core.Path.{_≡_}
 use mathlib.Core.Bool.{Bool, cond}
 use mathlib.Core.List.{List, [], _∷_}
+use mathlib.Core.Logic.{_⊎_}
 use Prim.Native.Nat.{ℕ, _+_, _-_, _*_, _/_, _%_, _≤_, _<_}
 use lib.ListN.{getD}
 use Rattle.graph.specs.Finite.{ifEqual, sum}
@@ -38,9 +39,9 @@ pub record Numbers (z : List ℕ) (r d : ℕ) : Type 0 where
   pub some : d ≤ r
   pub few : r ≤ 304096
 
--- a node of kind x can have n moves
+-- a node of kind x can have n moves: one where it is locked
 abbrev pub MovesOf : Bool → ℕ → Type 0
-MovesOf x n = n ≡ arity x
+MovesOf x n = (n ≡ 1) ⊎ (n ≡ arity x)
 
 -- what word i + 1 of node v adds, turned t times
 unfoldable pub wordAfter : Graph → ℕ → ℕ → ℕ → ℕ
@@ -111,9 +112,9 @@ pub record FirstPair (f : ℕ → ℕ → ℕ) (m n a k : ℕ) : Type 0 where
   pub first : (b l : ℕ) → b < a → l < n → f a k < f b l
   pub second : (l : ℕ) → l < k → f a k < f a l
 
--- the numbers of node v
-unfoldable pub numbersOf : Graph → ℕ → NodeNumbers
-numbersOf g v = record { xor = isXor g v; moves = movesAt g (node g v); costs = ownCosts g v; readers = readers g (node g v); odd = shown g (node g v) 0 }
+-- the numbers of node v, with the locks ls
+unfoldable pub numbersOf : Graph → List ℕ → ℕ → NodeNumbers
+numbersOf g ls v = record { xor = isXor g v; moves = movesAt g ls (node g v); costs = ownCosts g v; readers = readers g (node g v); odd = shown g (node g v) 0 }
 
 -- which words of node v name index u
 unfoldable pub naming : Graph → ℕ → ℕ → List ℕ

@@ -3,6 +3,7 @@ pub mod Apply
 pub mod Tree
 pub mod Split
 pub mod Call
+pub mod Free
 pub mod Cost
 pub mod Decide
 pub mod Outside

@@ -1,10 +1,10 @@
--- Document 01's table of moves.
+-- Document 01's table of moves, and the moves of a node.
 use mathlib.Core.Bool.{Bool, cond}
 use mathlib.Core.List.{List, [], _∷_}
 use Prim.Native.Nat.{ℕ, _+_, _-_, _*_, _/_, _%_}
 use lib.ListN.{getD}
-use Rattle.graph.specs.Finite.{ifLess}
-use Rattle.graph.specs.Graph.{Graph, isXor}
+use Rattle.graph.specs.Finite.{ifLess, ifEqual}
+use Rattle.graph.specs.Graph.{Graph, node, isXor}
 
 -- the six rows: whether words 1 to 3, and every reader, are turned. A majority's two, then an XOR's four
 unfoldable pub rows : List (List ℕ)
@@ -28,9 +28,17 @@ arity x = cond x 4 2
 unfoldable pub flag : Bool → ℕ → ℕ → ℕ
 flag x m k = ifLess m (arity x) (getD (getD rows (firstRow x + m) []) k 0) 0
 
--- how many moves the node with index u has: move numbers are those below
-unfoldable pub movesAt : Graph → ℕ → ℕ
-movesAt g u = arity (isXor g (u - (g .I + 1)))
+-- how many moves the kind of the node with index u has
+unfoldable pub kindMoves : Graph → ℕ → ℕ
+kindMoves g u = arity (isXor g (u - (g .I + 1)))
+
+-- the byte of index u among the locks ls: 1 for a locked node; what is no node is free
+unfoldable pub lockAt : Graph → List ℕ → ℕ → ℕ
+lockAt g ls u = ifLess (g .I) u (ifLess u (node g (g .N)) (getD ls (u - (g .I + 1)) 0) 0) 0
+
+-- how many moves the node with index u has: move numbers are those below. A locked node has only move 0
+unfoldable pub movesAt : Graph → List ℕ → ℕ → ℕ
+movesAt g ls u = ifEqual (lockAt g ls u) 1 1 (kindMoves g u)
 
 -- two moves of one kind, made one after the other, are one move
 unfoldable pub combined : Bool → ℕ → ℕ → ℕ

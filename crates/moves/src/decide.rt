@@ -94,11 +94,14 @@ pub fn least_of_xor(z: [u32; 6], still: u32, turned: u32) -> LeastMove
     if_less(true, z, still, turned, least, 3)
 }
 
-// The first of the least moves of a node of either kind that has so many.
+// The first of the least moves of a node of either kind that has so many: of one, where it is locked.
 pub fn least_of(xor: bool, moves: u32, z: [u32; 6], still: u32, turned: u32) -> LeastMove
     requires { ⌜ Weighed z still turned × MovesOf xor moves ⌝ }
     ensures { λ r. ⌜ LeastBelow (costBy xor z still turned) moves (r .number) (r .cost) ⌝ }
 {
+    if moves == 1 {
+        return no_move(xor, z, still, turned);
+    }
     if xor {
         return least_of_xor(z, still, turned);
     }

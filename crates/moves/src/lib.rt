@@ -8,10 +8,7 @@ pub mod words;
 // What a node, pair or tree call answers: how much it saved, over the words of the nodes that it names and over all other
 // edges, or why it is refused.
 pub enum Saving {
-    Saved {
-        own: i64,
-        others: i64,
-    },
+    Saved { own: i64, others: i64 },
     Refused(graph::Refusal),
 }
 

@@ -66,10 +66,11 @@ pub fn numbers_of(
     outputs: u32,
     node_table: &[u32],
     output_table: &[u32],
+    locks: &[u8],
     v: u32,
 ) -> NodeNumbers
-    requires { ⌜ Admitted (graphOf inputs nodes outputs (now «node_table») (now «output_table»)) × (v < nodes) ⌝ }
-    ensures { λ r. ⌜ r ≡ numbersOf (graphOf inputs nodes outputs (now («node_table» .entry)) (now («output_table» .entry))) v ⌝ }
+    requires { ⌜ Admitted (graphOf inputs nodes outputs (now «node_table») (now «output_table»)) × (v < nodes) × (nodes ≤ length (now locks)) ⌝ }
+    ensures { λ r. ⌜ r ≡ numbersOf (graphOf inputs nodes outputs (now («node_table» .entry)) (now («output_table» .entry))) (now (locks .entry)) v ⌝ }
 {
     let at = v as usize;
     let all = readers_of(
@@ -82,7 +83,7 @@ pub fn numbers_of(
     );
     NodeNumbers {
         xor: rows::is_xor(node_table, at),
-        moves: rows::moves_at(node_table, at),
+        moves: rows::moves_at(node_table, locks, at),
         costs: words::own_costs(node_table, at),
         readers: all.all,
         odd: all.odd,

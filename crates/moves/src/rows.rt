@@ -34,11 +34,14 @@ pub fn is_xor(node_table: &[u32], v: usize) -> bool
     table::is_mark_at(node_table, at)
 }
 
-// How many moves node v has.
-pub fn moves_at(node_table: &[u32], v: usize) -> u32
-    requires { ⌜ (3 * v + 2 < length (now «node_table»)) × (v ≤ 100000) ⌝ }
-    ensures { λ r. ⌜ ((i n o : ℕ) (os : List ℕ) → r ≡ movesAt (graphOf i n o (now («node_table» .entry)) os) (i + 1 + v)) ⌝ }
+// How many moves node v has: one where it is locked.
+pub fn moves_at(node_table: &[u32], locks: &[u8], v: usize) -> u32
+    requires { ⌜ (3 * v + 2 < length (now «node_table»)) × (v ≤ 100000) × (v < length (now locks)) ⌝ }
+    ensures { λ r. ⌜ ((i n o : ℕ) (os : List ℕ) → v < n → r ≡ movesAt (graphOf i n o (now («node_table» .entry)) os) (now (locks .entry)) (i + 1 + v)) ⌝ }
 {
+    if locks[v] == 1 {
+        return 1;
+    }
     if is_xor(node_table, v) {
         return 4;
     }

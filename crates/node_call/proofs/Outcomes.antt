@@ -21,24 +21,24 @@ use Rattle.moves.specs.Call.{moved, movedC, rewrite, isNode, namedBy, pairRewri
 use Rattle.moves.specs.Decide.{costOf, pairCost, FirstPair, numbersOf, naming, Counted}
 use Rattle.moves.specs.Outside.{NodeOdds, PairOdds, savedBy}
 use Rattle.moves.specs.Pair.{pairSaving, FirstGreatest}
-use Rattle.moves.specs.Rows.{movesAt}
+use Rattle.moves.specs.Rows.{kindMoves, movesAt}
 use Rattle.moves.specs.Split.{split}
-use Rattle.moves.specs.Trial.{triedUnless, trialSaving}
+use Rattle.moves.specs.Trial.{moveHad, triedUnless, trialSaving}
 use Rattle.moves.specs.declared.decide.NodeNumbers.{NodeNumbers}
 use Rattle.moves.specs.declared.gains.Odds.{Odds}
 use Rattle.moves.proofs.Changed.{at-same, at-other}
 use Rattle.moves.proofs.Deciding.{numbers-low, naming-le}
 use Rattle.moves.proofs.NodeBest.{node-cost, node-best, zero-is, pair-cost-is, pair-best, zeros-are}
-use Rattle.moves.proofs.Pair.{least-of-greatest, pair-saving, had-saving, had-fits}
-use Rattle.moves.proofs.Moves.{moves-some}
+use Rattle.moves.proofs.Pair.{least-of-greatest, pair-saving, had-fits}
+use Rattle.moves.proofs.Moves.{moves-some, moves-no-more}
 use Rattle.moves.proofs.PairOthers.{pair-others}
 use Rattle.moves.proofs.Rooted.{node-others}
 use Rattle.moves.proofs.Split.{saved-outcome}
 use Rattle.node_call.proofs.Refusing.{AcceptedWord, named-below}
 
 -- the numbers are such as can be
-pub counted : (g : Graph) (v : ℕ) (n : NodeNumbers) → Admitted g → n ≡ numbersOf g v → Counted n
-counted g v n adm e = rw e (numbers-low g v adm)
+pub counted : (g : Graph) (ls : List ℕ) (v : ℕ) (n : NodeNumbers) → Admitted g → n ≡ numbersOf g ls v → Counted n
+counted g ls v n adm e = rw e (numbers-low g ls v adm)
 
 pub naming-bits : (g : Graph) (v u : ℕ) (w : List ℕ) → w ≡ naming g v u → (i : ℕ) → getD w i 0 ≤ 1
 naming-bits g v u w e i = rw e (naming-le g v u i)
@@ -52,47 +52,45 @@ at-twice d u k =
     (λ (e : w ≢ u). at-other (at d u k) u k w e)
     (eq-or-ne w u))
 
-module _ (g : Graph) (adm : Admitted g) (v : ℕ) (h : v < g .N) (n : NodeNumbers) (e : n ≡ numbersOf g v) (m : ℕ) (b : FirstBelow (costOf n) (n .moves) m) where
-  pub move-fits : m < movesAt g (node g v)
-  unfolding numbersOf
-  move-fits = rw e at (b .below)
-
-  by-numbers : FirstBelow (costOf (numbersOf g v)) (movesAt g (node g v)) m
+module _ (g : Graph) (ls : List ℕ) (adm : Admitted g) (v : ℕ) (h : v < g .N) (n : NodeNumbers) (e : n ≡ numbersOf g ls v) (m : ℕ) (b : FirstBelow (costOf n) (n .moves) m) where
+  by-numbers : FirstBelow (costOf (numbersOf g ls v)) (movesAt g ls (node g v)) m
   unfolding numbersOf
   by-numbers = rw e at b
 
+  pub move-fits : m < kindMoves g (node g v)
+  move-fits = omega (arith, by-numbers .below, moves-no-more g ls (node g v))
+
   same-fall : C g + costOf n m ≡ C (apply g (at none (node g v) m)) + costOf n 0
-  same-fall = rw e (omega (arith, zero-is g adm v h, node-cost g adm v h 0, node-cost g adm v h m))
+  same-fall = rw e (omega (arith, zero-is g ls adm v h, node-cost g ls adm v h 0, node-cost g ls adm v h m))
 
   odds-are : (o : Odds) → NodeOdds n m o → split (node g v ∷ []) g (moved g (node g v ∷ []) (m ∷ [])) .others ≡ difference (o .before) (o .after)
-  odds-are o r = node-others g adm v h m o (rw e at r)
+  odds-are o r = node-others g adm v ls h m o (rw e at r)
 
   pub node-outcome : (k : Graph) (b a : ℕ) (o : Odds) → k ≡ apply g (at (at none (node g v) m) (node g v) m) → b ≡ costOf n 0 → a ≡ costOf n m → NodeOdds n m o
-      → (x : Answer) → x ≡ savedBy b a (o .before) (o .after) → outcome x k ≡ rewrite g (node g v ∷ [])
+      → (x : Answer) → x ≡ savedBy b a (o .before) (o .after) → outcome x k ≡ rewrite g ls (node g v ∷ [])
   unfolding moved put
   node-outcome k b a o q t u r x y =
       let d : k ≡ apply g (at none (node g v) m) = q ∙ rw (at-twice none (node g v) m) in
       ap (λ (z : Answer). outcome z k) y ∙
-      saved-outcome g (node g v ∷ []) k b a (o .before) (o .after) (d ∙ rw (← node-best g adm v h m by-numbers)) (rw (d, t, u) same-fall) (rw d (odds-are o r))
+      saved-outcome g ls (node g v ∷ []) k b a (o .before) (o .after) (d ∙ rw (← node-best g ls adm v h m by-numbers)) (rw (d, t, u) same-fall) (rw d (odds-are o r))
 
-module _ (g : Graph) (adm : Admitted g) (p v : ℕ) (l : p < v) (h : v < g .N) (a n : NodeNumbers) (w : List ℕ) (f : a ≡ numbersOf g p) (e : n ≡ numbersOf g v) (i : w ≡ naming g v (node g p))
+module _ (g : Graph) (ls : List ℕ) (adm : Admitted g) (p v : ℕ) (l : p < v) (h : v < g .N) (a n : NodeNumbers) (w : List ℕ) (f : a ≡ numbersOf g ls p) (e : n ≡ numbersOf g ls v) (i : w ≡ naming g v (node g p))
     (k m : ℕ) (b : FirstGreatest (pairSaving a n w) (a .moves) (n .moves) k m) where
-  pub both-fit : (k < movesAt g (node g p)) × (m < movesAt g (node g v))
-  unfolding numbersOf
-  both-fit = (rw f at (b .below), rw e at (b .fits))
-
   least-pair : FirstPair (pairCost a n w) (a .moves) (n .moves) k m
   least-pair = least-of-greatest a n w (a .moves) (n .moves) k m b
 
-  both-by-numbers : FirstPair (pairCost (numbersOf g p) (numbersOf g v) (naming g v (node g p))) (movesAt g (node g p)) (movesAt g (node g v)) k m
+  both-by-numbers : FirstPair (pairCost (numbersOf g ls p) (numbersOf g ls v) (naming g v (node g p))) (movesAt g ls (node g p)) (movesAt g ls (node g v)) k m
   unfolding numbersOf
   both-by-numbers = rw (f, e, i) at least-pair
 
+  pub both-fit : (k < kindMoves g (node g p)) × (m < kindMoves g (node g v))
+  both-fit = (omega (arith, both-by-numbers .below, moves-no-more g ls (node g p)), omega (arith, both-by-numbers .fits, moves-no-more g ls (node g v)))
+
   both-fall : C g + pairCost a n w k m ≡ C (apply g (at (at none (node g p) k) (node g v) m)) + pairCost a n w 0 0
-  both-fall = rw (f, e, i) (omega (arith, zeros-are g adm p v l h, pair-cost-is g adm p v l h 0 0, pair-cost-is g adm p v l h k m))
+  both-fall = rw (f, e, i) (omega (arith, zeros-are g ls adm p v l h, pair-cost-is g ls adm p v l h 0 0, pair-cost-is g ls adm p v l h k m))
 
   both-odds : (o : Odds) → PairOdds a n w k m o → split (node g p ∷ node g v ∷ []) g (moved g (node g p ∷ node g v ∷ []) (k ∷ m ∷ [])) .others ≡ difference (o .before) (o .after)
-  both-odds o r = pair-others g adm p v l h k m o (rw (f, e, i) at r)
+  both-odds o r = pair-others g ls adm p v l h k m o (rw (f, e, i) at r)
 
   saved-is : (s : ℕ) → pos s ≡ pairSaving a n w k m → pairCost a n w k m + s ≡ pairCost a n w 0 0
   unfolding pairSaving
@@ -102,54 +100,53 @@ module _ (g : Graph) (adm : Admitted g) (p v : ℕ) (l : p < v) (h : v < g .N) (
       omega (arith, q, low)
 
   pub pair-outcome : (t : Graph) (s : ℕ) (o : Odds) → t ≡ apply g (at (at none (node g p) k) (node g v) m) → pos s ≡ pairSaving a n w k m → PairOdds a n w k m o
-      → (x : Answer) → x ≡ savedBy s 0 (o .before) (o .after) → outcome x t ≡ rewrite g (node g p ∷ node g v ∷ [])
+      → (x : Answer) → x ≡ savedBy s 0 (o .before) (o .after) → outcome x t ≡ rewrite g ls (node g p ∷ node g v ∷ [])
   unfolding moved put
   pair-outcome t s o q r d x y =
       ap (λ (z : Answer). outcome z t) y ∙
-      saved-outcome g (node g p ∷ node g v ∷ []) t s 0 (o .before) (o .after) (q ∙ rw (← pair-best g adm p v l h k m both-by-numbers)) (rw q (omega (arith, both-fall, saved-is s r))) (rw q (both-odds o d))
+      saved-outcome g ls (node g p ∷ node g v ∷ []) t s 0 (o .before) (o .after) (q ∙ rw (← pair-best g ls adm p v l h k m both-by-numbers)) (rw q (omega (arith, both-fall, saved-is s r))) (rw q (both-odds o d))
 
--- a trial from the numbers of both nodes, a move that a kind lacks being as move 0
-module _ (g : Graph) (adm : Admitted g) (p v : ℕ) (l : p < v) (h : v < g .N) (a n : NodeNumbers) (w : List ℕ) (f : a ≡ numbersOf g p) (e : n ≡ numbersOf g v) (i : w ≡ naming g v (node g p))
+-- a trial from the numbers of both nodes, a move that a node lacks being as move 0
+module _ (g : Graph) (ls : List ℕ) (adm : Admitted g) (p v : ℕ) (l : p < v) (h : v < g .N) (a n : NodeNumbers) (w : List ℕ) (f : a ≡ numbersOf g ls p) (e : n ≡ numbersOf g ls v) (i : w ≡ naming g v (node g p))
     (k m x y : ℕ) (d : x ≡ ifLess k (a .moves) k 0) (u : y ≡ ifLess m (n .moves) m 0) where
   pub tried-fit : (x < a .moves) × (y < n .moves)
   tried-fit =
-      let j = counted g p a adm f in
-      let o = counted g v n adm e in
+      let j = counted g ls p a adm f in
+      let o = counted g ls v n adm e in
       rw (d, u) (had-fits k (a .moves) (moves-some (a .xor) (a .moves) (j .has)), had-fits m (n .moves) (moves-some (n .xor) (n .moves) (o .has)))
 
-  pub tried-saving : pairSaving a n w x y ≡ difference (C g) (movedC g (node g p ∷ node g v ∷ []) (k ∷ m ∷ []))
-  tried-saving = rw (d, u) (had-saving a n w (counted g p a adm f) (counted g v n adm e) k m ∙ by-numbers)
-    where
-      by-numbers : pairSaving a n w k m ≡ difference (C g) (movedC g (node g p ∷ node g v ∷ []) (k ∷ m ∷ []))
-      by-numbers = rw (f, e, i) (pair-saving g adm p v l h k m)
+  pub tried-saving : pairSaving a n w x y ≡ difference (C g) (movedC g (node g p ∷ node g v ∷ []) (moveHad g ls (node g p) k ∷ moveHad g ls (node g v) m ∷ []))
+  unfolding moveHad numbersOf
+  tried-saving = rw (d, u, f, e, i) (pair-saving g ls adm p v l h _ _)
 
 -- the word of a pair names a node, or none
-module _ (g : Graph) (u k n : ℕ) (e : n ≡ namedBy g u k) where
-  pub no-node : n ≤ g .I → outcome (gained [] (pos 0) (pos 0)) g ≡ pairRewrite g u k
+module _ (g : Graph) (ls : List ℕ) (u k n : ℕ) (e : n ≡ namedBy g u k) where
+  pub no-node : n ≤ g .I → outcome (gained [] (pos 0) (pos 0)) g ≡ pairRewrite g ls u k
   unfolding pairRewrite isNode
   no-node h = rw (← e, le-ltb (g .I) n h)
 
-  pub no-gain : (a m : ℕ) → n ≤ g .I → pos 0 ≡ trialSaving g u k a m
+  pub no-gain : (a m : ℕ) → n ≤ g .I → pos 0 ≡ trialSaving g ls u k a m
   unfolding trialSaving isNode
   no-gain a m h = rw (← e, le-ltb (g .I) n h)
 
-  pub a-gain : AcceptedWord g u k → g .I < n → (a m : ℕ) (z : ℤ)
-      → z ≡ difference (C g) (movedC g ((g .I + 1 + (n - (g .I + 1))) ∷ (g .I + 1 + (u - (g .I + 1))) ∷ []) (a ∷ m ∷ [])) → z ≡ trialSaving g u k a m
+  pub a-gain : AcceptedWord g ls u k → g .I < n → (a m : ℕ) (z : ℤ)
+      → (let p : ℕ = g .I + 1 + (n - (g .I + 1)) in let v : ℕ = g .I + 1 + (u - (g .I + 1)) in z ≡ difference (C g) (movedC g (p ∷ v ∷ []) (moveHad g ls p a ∷ moveHad g ls v m ∷ [])))
+      → z ≡ trialSaving g ls u k a m
   unfolding trialSaving isNode
   a-gain w h a m z q =
       let d = w .at-node in
       let p : g .I + 1 + (n - (g .I + 1)) ≡ n = omega arith in
       let v : g .I + 1 + (u - (g .I + 1)) ≡ u = omega (arith, d .after) in
-      let b : n < node g (g .N) = omega (arith, d .before, named-below g u k w) in
+      let b : n < node g (g .N) = omega (arith, d .before, named-below g ls u k w) in
       q ∙ rw (p, v, ← e, lt-ltb (g .I) n h, lt-ltb n (node g (g .N)) b)
 
-  pub a-node : AcceptedWord g u k → g .I < n → (o : Outcome) → o ≡ rewrite g ((g .I + 1 + (n - (g .I + 1))) ∷ (g .I + 1 + (u - (g .I + 1))) ∷ []) → o ≡ pairRewrite g u k
+  pub a-node : AcceptedWord g ls u k → g .I < n → (o : Outcome) → o ≡ rewrite g ls ((g .I + 1 + (n - (g .I + 1))) ∷ (g .I + 1 + (u - (g .I + 1))) ∷ []) → o ≡ pairRewrite g ls u k
   unfolding pairRewrite isNode
   a-node w h o q =
       let a = w .at-node in
       let p : g .I + 1 + (n - (g .I + 1)) ≡ n = omega arith in
       let v : g .I + 1 + (u - (g .I + 1)) ≡ u = omega (arith, a .after) in
-      let b : n < node g (g .N) = omega (arith, a .before, named-below g u k w) in
+      let b : n < node g (g .N) = omega (arith, a .before, named-below g ls u k w) in
       q ∙ rw (p, v, ← e, lt-ltb (g .I) n h, lt-ltb n (node g (g .N)) b)
 
 -- a trial that is refused, and one that is not

@@ -1,16 +1,18 @@
 -- The numbers that refuse a node or pair call: their range, and what is known where there is none. From the laws on faults.
 use mathlib.Core.Path.{_≡_, refl, sym, _∙_}
 use mathlib.Core.Bool.{Bool, true, false, cond, _&&_}
+use mathlib.Core.List.{List}
 use mathlib.Core.Logic.{⊎-elim, _≢_}
 use Prim.Native.Nat.{ℕ, zero, suc, _+_, _-_, _*_, _%_, _≤_, _<_}
 use native.Mathlib.Omega.{arith}
 use borrow.Author.Tests.{leb-true, ne-eqb}
 use lib.Dec.{leb}
+use lib.ListN.{length}
 use Rattle.graph.specs.Answer.{IsRefusal}
 use Rattle.graph.specs.Admission.{Admitted, admissionNumber}
 use Rattle.graph.specs.Finite.{first}
 use Rattle.graph.specs.Graph.{Graph, node, isEdge, isXor}
-use Rattle.graph.proofs.Admit.{admitted}
+use Rattle.graph.proofs.Admit.{admitted, locks-admitted}
 use Rattle.graph.proofs.Answers.{admission-le, first-le}
 use Rattle.graph.proofs.Cases.{cond-le, eq-or-ne}
 use Rattle.graph.proofs.Tests.{both, passes}
@@ -31,28 +33,29 @@ two-words : (b : Bool) (k : ℕ) → k ≤ cond b 2 3 → 2 < k → b ≡ false
 two-words true k h l = absurd (omega arith)
 two-words false k h l = refl
 
-module _ (g : Graph) (u : ℕ) where
+module _ (g : Graph) (ls : List ℕ) (u : ℕ) where
   -- what an accepted node is
   pub record Accepted : Type 0 where
     pub admitted : Admitted g
+    pub enough : g .N ≤ length ls
     pub after : g .I < u
     pub before : u < node g (g .N)
 
-  pub node-is : admissionNumber g ≡ 0 → nodeFault g u ≡ 0 → Accepted
-  node-is a e = let b = node-known g u e in record { admitted = admitted g a; after = b .0; before = b .1 }
+  pub node-is : admissionNumber g ls ≡ 0 → nodeFault g u ≡ 0 → Accepted
+  node-is a e = let b = node-known g u e in record { admitted = admitted g ls a; enough = locks-admitted g ls a .enough; after = b .0; before = b .1 }
 
-  pub node-accepted : nodeNumber g u ≡ 0 → Accepted
+  pub node-accepted : nodeNumber g ls u ≡ 0 → Accepted
   unfolding nodeNumber
-  node-accepted e = let b = both (admissionNumber g) (nodeFault g u) e in node-is (b .0) (b .1)
+  node-accepted e = let b = both (admissionNumber g ls) (nodeFault g u) e in node-is (b .0) (b .1)
 
-  pub node-range : (k : ℕ) → k ≡ nodeNumber g u → (k ≡ 0 → ⊥) → IsRefusal k
+  pub node-range : (k : ℕ) → k ≡ nodeNumber g ls u → (k ≡ 0 → ⊥) → IsRefusal k
   unfolding nodeNumber
-  node-range k e n = let a = admission-le g in (omega arith, omega (arith, first-le (admissionNumber g) (nodeFault g u) 9 (omega arith) (node-fault-le g u)))
+  node-range k e n = let a = admission-le g ls in (omega arith, omega (arith, first-le (admissionNumber g ls) (nodeFault g u) 13 (omega arith) (omega (arith, node-fault-le g u))))
 
   module _ (k : ℕ) where
-    pub pair-is : pairNumber g u k ≡ first (nodeNumber g u) (wordFault g u k)
+    pub pair-is : pairNumber g ls u k ≡ first (nodeNumber g ls u) (wordFault g u k)
     unfolding pairNumber nodeNumber
-    pair-is = sym (first-first (admissionNumber g) (nodeFault g u) (wordFault g u k))
+    pair-is = sym (first-first (admissionNumber g ls) (nodeFault g u) (wordFault g u k))
 
     -- what an accepted word is
     pub record AcceptedWord : Type 0 where
@@ -60,23 +63,23 @@ module _ (g : Graph) (u : ℕ) where
       pub from-one : 1 ≤ k
       pub to-last : k ≤ cond (isXor g (u - (g .I + 1))) 2 3
 
-    pub pair-accepted : pairNumber g u k ≡ 0 → AcceptedWord
+    pub pair-accepted : pairNumber g ls u k ≡ 0 → AcceptedWord
     unfolding wordFault
     pair-accepted e =
-        let b = both (nodeNumber g u) (wordFault g u k) (sym pair-is ∙ e) in
+        let b = both (nodeNumber g ls u) (wordFault g u k) (sym pair-is ∙ e) in
         let c = both-true (leb 1 k) (leb k (cond (isXor g (u - (g .I + 1))) 2 3)) (passes (leb 1 k && leb k (cond (isXor g (u - (g .I + 1))) 2 3)) 6 (b .1)) in
         record { at-node = node-accepted (b .0); from-one = leb-true 1 k (c .0); to-last = leb-true k _ (c .1) }
 
-    word-le : wordFault g u k ≤ 9
+    word-le : wordFault g u k ≤ 13
     unfolding wordFault
-    word-le = cond-le (leb 1 k && leb k (cond (isXor g (u - (g .I + 1))) 2 3)) 0 7 9 (omega arith) (omega arith)
+    word-le = cond-le (leb 1 k && leb k (cond (isXor g (u - (g .I + 1))) 2 3)) 0 7 13 (omega arith) (omega arith)
 
-    node-le : nodeNumber g u ≤ 9
+    node-le : nodeNumber g ls u ≤ 13
     unfolding nodeNumber
-    node-le = let a = admission-le g in first-le _ _ 9 (omega arith) (node-fault-le g u)
+    node-le = let a = admission-le g ls in first-le _ _ 13 (omega arith) (omega (arith, node-fault-le g u))
 
-    pub pair-range : (n : ℕ) → n ≡ pairNumber g u k → (n ≡ 0 → ⊥) → IsRefusal n
-    pair-range n e z = (omega arith, omega (arith, pair-is, first-le (nodeNumber g u) (wordFault g u k) 9 node-le word-le))
+    pub pair-range : (n : ℕ) → n ≡ pairNumber g ls u k → (n ≡ 0 → ⊥) → IsRefusal n
+    pair-range n e z = (omega arith, omega (arith, pair-is, first-le (nodeNumber g ls u) (wordFault g u k) 13 node-le word-le))
 
     -- the word is an edge, so it names an index below the node's
     module _ (w : AcceptedWord) where

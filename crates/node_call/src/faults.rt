@@ -1,4 +1,4 @@
-// Which of document 01's numbers 3, 4, 5 and 7 refuses a node or pair call; 0 is none.
+// Which of the numbers 3, 4, 5, 13 and 7 refuses a node or pair call; 0 is none.
 ghost use mathlib.Core.Path.{_≡_};
 ghost use mathlib.Core.Bool.{cond, _&&_};
 ghost use lib.Dec.{leb};
@@ -12,11 +12,19 @@ pub fn node_number(
     outputs: u32,
     node_table: &[u32],
     output_table: &[u32],
+    locks: &[u8],
     node: u32,
 ) -> u32
-    ensures { λ r. ⌜ r ≡ nodeNumber (graphOf inputs nodes outputs (now («node_table» .entry)) (now («output_table» .entry))) node ⌝ }
+    ensures { λ r. ⌜ r ≡ nodeNumber (graphOf inputs nodes outputs (now («node_table» .entry)) (now («output_table» .entry))) (now (locks .entry)) node ⌝ }
 {
-    let number = graph::faults::admission_number(inputs, nodes, outputs, node_table, output_table);
+    let number = graph::faults::admission_number(
+        inputs,
+        nodes,
+        outputs,
+        node_table,
+        output_table,
+        locks,
+    );
     if number != 0 {
         return number;
     }
@@ -48,12 +56,21 @@ pub fn pair_number(
     outputs: u32,
     node_table: &[u32],
     output_table: &[u32],
+    locks: &[u8],
     node: u32,
     word: u32,
 ) -> u32
-    ensures { λ r. ⌜ r ≡ pairNumber (graphOf inputs nodes outputs (now («node_table» .entry)) (now («output_table» .entry))) node word ⌝ }
+    ensures { λ r. ⌜ r ≡ pairNumber (graphOf inputs nodes outputs (now («node_table» .entry)) (now («output_table» .entry))) (now (locks .entry)) node word ⌝ }
 {
-    let number = node_number(inputs, nodes, outputs, node_table, output_table, node);
+    let number = node_number(
+        inputs,
+        nodes,
+        outputs,
+        node_table,
+        output_table,
+        locks,
+        node,
+    );
     if number != 0 {
         return number;
     }

@@ -19,16 +19,25 @@ pub fn node_call(
     outputs: u32,
     node_table: &mut [u32],
     output_table: &mut [u32],
+    locks: &[u8],
     node: u32,
 ) -> Saving
-    ensures { λ r. ⌜ outcome (savingAnswer r) (graphOf inputs nodes outputs (now («node_table» .exit)) (now («output_table» .exit))) ≡ nodeCall (graphOf inputs nodes outputs (now («node_table» .entry)) (now («output_table» .entry))) node ⌝ }
+    ensures { λ r. ⌜ outcome (savingAnswer r) (graphOf inputs nodes outputs (now («node_table» .exit)) (now («output_table» .exit))) ≡ nodeCall (graphOf inputs nodes outputs (now («node_table» .entry)) (now («output_table» .entry))) (now (locks .entry)) node ⌝ }
 {
-    let number = faults::node_number(inputs, nodes, outputs, node_table, output_table, node);
+    let number = faults::node_number(
+        inputs,
+        nodes,
+        outputs,
+        node_table,
+        output_table,
+        locks,
+        node,
+    );
     if number != 0 {
         return Saving::Refused(graph::faults::refused_by(number));
     }
     let v = node - (inputs + 1);
-    rewrite::rewrite_node(inputs, nodes, outputs, node_table, output_table, v)
+    rewrite::rewrite_node(inputs, nodes, outputs, node_table, output_table, locks, v)
 }
 
 // The pair call: of all moves at the node that a word names and at the node itself, those with the least C, the lowest move at
@@ -39,16 +48,35 @@ pub fn pair_call(
     outputs: u32,
     node_table: &mut [u32],
     output_table: &mut [u32],
+    locks: &[u8],
     node: u32,
     word: u32,
 ) -> Saving
-    ensures { λ r. ⌜ outcome (savingAnswer r) (graphOf inputs nodes outputs (now («node_table» .exit)) (now («output_table» .exit))) ≡ pairCall (graphOf inputs nodes outputs (now («node_table» .entry)) (now («output_table» .entry))) node word ⌝ }
+    ensures { λ r. ⌜ outcome (savingAnswer r) (graphOf inputs nodes outputs (now («node_table» .exit)) (now («output_table» .exit))) ≡ pairCall (graphOf inputs nodes outputs (now («node_table» .entry)) (now («output_table» .entry))) (now (locks .entry)) node word ⌝ }
 {
-    let number = faults::pair_number(inputs, nodes, outputs, node_table, output_table, node, word);
+    let number = faults::pair_number(
+        inputs,
+        nodes,
+        outputs,
+        node_table,
+        output_table,
+        locks,
+        node,
+        word,
+    );
     if number != 0 {
         return Saving::Refused(graph::faults::refused_by(number));
     }
-    rewrite::rewrite_named(inputs, nodes, outputs, node_table, output_table, node, word)
+    rewrite::rewrite_named(
+        inputs,
+        nodes,
+        outputs,
+        node_table,
+        output_table,
+        locks,
+        node,
+        word,
+    )
 }
 
 // A trial: what a move at the node that a word names and a move at the node itself would save. Nothing is changed.
@@ -58,14 +86,24 @@ pub fn trial(
     outputs: u32,
     node_table: &[u32],
     output_table: &[u32],
+    locks: &[u8],
     node: u32,
     word: u32,
     named_move: u32,
     node_move: u32,
 ) -> Trial
-    ensures { λ r. ⌜ trialAnswer r ≡ trialCall (graphOf inputs nodes outputs (now («node_table» .entry)) (now («output_table» .entry))) node word «named_move» «node_move» ⌝ }
+    ensures { λ r. ⌜ trialAnswer r ≡ trialCall (graphOf inputs nodes outputs (now («node_table» .entry)) (now («output_table» .entry))) (now (locks .entry)) node word «named_move» «node_move» ⌝ }
 {
-    let number = faults::pair_number(inputs, nodes, outputs, node_table, output_table, node, word);
+    let number = faults::pair_number(
+        inputs,
+        nodes,
+        outputs,
+        node_table,
+        output_table,
+        locks,
+        node,
+        word,
+    );
     if number != 0 {
         return Trial::Refused(graph::faults::refused_by(number));
     }
@@ -75,6 +113,7 @@ pub fn trial(
         outputs,
         node_table,
         output_table,
+        locks,
         node,
         word,
         named_move,

@@ -22,12 +22,13 @@ pub fn rewrite_node(
     outputs: u32,
     node_table: &mut [u32],
     output_table: &mut [u32],
+    locks: &[u8],
     v: u32,
 ) -> Saving
-    requires { ⌜ Admitted (graphOf inputs nodes outputs (now «node_table») (now «output_table»)) × (v < nodes) ⌝ }
-    ensures { λ r. ⌜ outcome (savingAnswer r) (graphOf inputs nodes outputs (now («node_table» .exit)) (now («output_table» .exit))) ≡ rewrite (graphOf inputs nodes outputs (now («node_table» .entry)) (now («output_table» .entry))) ((inputs + 1 + v) ∷ []) ⌝ }
+    requires { ⌜ Admitted (graphOf inputs nodes outputs (now «node_table») (now «output_table»)) × (v < nodes) × (nodes ≤ length (now locks)) ⌝ }
+    ensures { λ r. ⌜ outcome (savingAnswer r) (graphOf inputs nodes outputs (now («node_table» .exit)) (now («output_table» .exit))) ≡ rewrite (graphOf inputs nodes outputs (now («node_table» .entry)) (now («output_table» .entry))) (now (locks .entry)) ((inputs + 1 + v) ∷ []) ⌝ }
 {
-    let n = reading::numbers_of(inputs, nodes, outputs, node_table, output_table, v);
+    let n = reading::numbers_of(inputs, nodes, outputs, node_table, output_table, locks, v);
     let z = n.costs;
     let m = decide::first_least(n.xor, n.moves, z, n.readers, n.odd);
     let before = decide::move_cost(n.xor, z, n.readers, n.odd, 0);
@@ -44,14 +45,15 @@ pub fn rewrite_pair(
     outputs: u32,
     node_table: &mut [u32],
     output_table: &mut [u32],
+    locks: &[u8],
     p: u32,
     v: u32,
 ) -> Saving
-    requires { ⌜ Admitted (graphOf inputs nodes outputs (now «node_table») (now «output_table»)) × (p < v) × (v < nodes) ⌝ }
-    ensures { λ r. ⌜ outcome (savingAnswer r) (graphOf inputs nodes outputs (now («node_table» .exit)) (now («output_table» .exit))) ≡ rewrite (graphOf inputs nodes outputs (now («node_table» .entry)) (now («output_table» .entry))) ((inputs + 1 + p) ∷ (inputs + 1 + v) ∷ []) ⌝ }
+    requires { ⌜ Admitted (graphOf inputs nodes outputs (now «node_table») (now «output_table»)) × (p < v) × (v < nodes) × (nodes ≤ length (now locks)) ⌝ }
+    ensures { λ r. ⌜ outcome (savingAnswer r) (graphOf inputs nodes outputs (now («node_table» .exit)) (now («output_table» .exit))) ≡ rewrite (graphOf inputs nodes outputs (now («node_table» .entry)) (now («output_table» .entry))) (now (locks .entry)) ((inputs + 1 + p) ∷ (inputs + 1 + v) ∷ []) ⌝ }
 {
-    let named = reading::numbers_of(inputs, nodes, outputs, node_table, output_table, p);
-    let node = reading::numbers_of(inputs, nodes, outputs, node_table, output_table, v);
+    let named = reading::numbers_of(inputs, nodes, outputs, node_table, output_table, locks, p);
+    let node = reading::numbers_of(inputs, nodes, outputs, node_table, output_table, locks, v);
     let which = words::which_name(node_table, v as usize, inputs + 1 + p);
     let best = decide::best_pair(named, node, which);
     let k = best.named;
@@ -78,11 +80,12 @@ pub fn rewrite_named(
     outputs: u32,
     node_table: &mut [u32],
     output_table: &mut [u32],
+    locks: &[u8],
     node: u32,
     word: u32,
 ) -> Saving
-    requires { ⌜ pairNumber (graphOf inputs nodes outputs (now «node_table») (now «output_table»)) node word ≡ 0 ⌝ }
-    ensures { λ r. ⌜ outcome (savingAnswer r) (graphOf inputs nodes outputs (now («node_table» .exit)) (now («output_table» .exit))) ≡ pairRewrite (graphOf inputs nodes outputs (now («node_table» .entry)) (now («output_table» .entry))) node word ⌝ }
+    requires { ⌜ pairNumber (graphOf inputs nodes outputs (now «node_table») (now «output_table»)) (now locks) node word ≡ 0 ⌝ }
+    ensures { λ r. ⌜ outcome (savingAnswer r) (graphOf inputs nodes outputs (now («node_table» .exit)) (now («output_table» .exit))) ≡ pairRewrite (graphOf inputs nodes outputs (now («node_table» .entry)) (now («output_table» .entry))) (now (locks .entry)) node word ⌝ }
 {
     let named = named_by(inputs, node_table, node, word);
     if named <= inputs {
@@ -90,5 +93,14 @@ pub fn rewrite_named(
     }
     let p = named - (inputs + 1);
     let v = node - (inputs + 1);
-    rewrite_pair(inputs, nodes, outputs, node_table, output_table, p, v)
+    rewrite_pair(
+        inputs,
+        nodes,
+        outputs,
+        node_table,
+        output_table,
+        locks,
+        p,
+        v,
+    )
 }

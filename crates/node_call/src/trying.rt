@@ -1,13 +1,14 @@
 // What two moves on a pair would save, from the words as they stand.
 ghost use mathlib.Core.Path.{_≡_};
 ghost use mathlib.Core.List.{[], _∷_};
-ghost use Prim.Native.Nat.{_+_, _<_};
+ghost use Prim.Native.Nat.{_+_, _≤_, _<_};
+ghost use lib.ListN.{length};
 ghost use Rattle.graph.specs.Admission.{Admitted};
 ghost use Rattle.graph.specs.Count.{C};
 ghost use Rattle.graph.specs.Difference.{difference};
 ghost use Rattle.graph.specs.Graph.{graphOf};
 ghost use Rattle.moves.specs.Call.{movedC, pairNumber};
-ghost use Rattle.moves.specs.Trial.{trialSaving};
+ghost use Rattle.moves.specs.Trial.{moveHad, trialSaving};
 use crate::rewrite;
 use moves::decide;
 use moves::reading;
@@ -21,16 +22,17 @@ pub fn pair_saving(
     outputs: u32,
     node_table: &[u32],
     output_table: &[u32],
+    locks: &[u8],
     p: u32,
     v: u32,
     a: u32,
     k: u32,
 ) -> i64
-    requires { ⌜ Admitted (graphOf inputs nodes outputs (now «node_table») (now «output_table»)) × (p < v) × (v < nodes) ⌝ }
-    ensures { λ r. ⌜ r ≡ difference (C (graphOf inputs nodes outputs (now («node_table» .entry)) (now («output_table» .entry)))) (movedC (graphOf inputs nodes outputs (now («node_table» .entry)) (now («output_table» .entry))) ((inputs + 1 + p) ∷ (inputs + 1 + v) ∷ []) (a ∷ k ∷ [])) ⌝ }
+    requires { ⌜ Admitted (graphOf inputs nodes outputs (now «node_table») (now «output_table»)) × (p < v) × (v < nodes) × (nodes ≤ length (now locks)) ⌝ }
+    ensures { λ r. ⌜ r ≡ difference (C (graphOf inputs nodes outputs (now («node_table» .entry)) (now («output_table» .entry)))) (movedC (graphOf inputs nodes outputs (now («node_table» .entry)) (now («output_table» .entry))) ((inputs + 1 + p) ∷ (inputs + 1 + v) ∷ []) (moveHad (graphOf inputs nodes outputs (now («node_table» .entry)) (now («output_table» .entry))) (now (locks .entry)) (inputs + 1 + p) a ∷ moveHad (graphOf inputs nodes outputs (now («node_table» .entry)) (now («output_table» .entry))) (now (locks .entry)) (inputs + 1 + v) k ∷ [])) ⌝ }
 {
-    let named = reading::numbers_of(inputs, nodes, outputs, node_table, output_table, p);
-    let node = reading::numbers_of(inputs, nodes, outputs, node_table, output_table, v);
+    let named = reading::numbers_of(inputs, nodes, outputs, node_table, output_table, locks, p);
+    let node = reading::numbers_of(inputs, nodes, outputs, node_table, output_table, locks, v);
     let which = words::which_name(node_table, v as usize, inputs + 1 + p);
     let first = rows::had(named.moves, a);
     let second = rows::had(node.moves, k);
@@ -44,13 +46,14 @@ pub fn named_saving(
     outputs: u32,
     node_table: &[u32],
     output_table: &[u32],
+    locks: &[u8],
     node: u32,
     word: u32,
     a: u32,
     k: u32,
 ) -> i64
-    requires { ⌜ pairNumber (graphOf inputs nodes outputs (now «node_table») (now «output_table»)) node word ≡ 0 ⌝ }
-    ensures { λ r. ⌜ r ≡ trialSaving (graphOf inputs nodes outputs (now («node_table» .entry)) (now («output_table» .entry))) node word a k ⌝ }
+    requires { ⌜ pairNumber (graphOf inputs nodes outputs (now «node_table») (now «output_table»)) (now locks) node word ≡ 0 ⌝ }
+    ensures { λ r. ⌜ r ≡ trialSaving (graphOf inputs nodes outputs (now («node_table» .entry)) (now («output_table» .entry))) (now (locks .entry)) node word a k ⌝ }
 {
     let named = rewrite::named_by(inputs, node_table, node, word);
     if named <= inputs {
@@ -58,5 +61,16 @@ pub fn named_saving(
     }
     let p = named - (inputs + 1);
     let v = node - (inputs + 1);
-    pair_saving(inputs, nodes, outputs, node_table, output_table, p, v, a, k)
+    pair_saving(
+        inputs,
+        nodes,
+        outputs,
+        node_table,
+        output_table,
+        locks,
+        p,
+        v,
+        a,
+        k,
+    )
 }

@@ -6,7 +6,7 @@ ghost use Rattle.graph.specs.Admission.{Admitted};
 ghost use Rattle.graph.specs.Graph.{graphOf, node};
 ghost use Rattle.graph.specs.Turned.{Low};
 ghost use Rattle.moves.specs.Apply.{none, at, apply};
-ghost use Rattle.moves.specs.Rows.{arity, movesAt};
+ghost use Rattle.moves.specs.Rows.{arity, kindMoves};
 ghost use Rattle.node_call.specs.Write.{moveWith, Bits, flagAt, wordTurns, readTurns, nodesAfter, outputsAfter};
 use graph::literal;
 use graph::table;
@@ -100,7 +100,7 @@ pub fn write_moves(
     v: u32,
     m: u32,
 )
-    requires { ⌜ Admitted (graphOf inputs nodes outputs (now «node_table») (now «output_table»)) × (p < nodes) × (v < nodes) × (k < movesAt (graphOf inputs nodes outputs (now «node_table») (now «output_table»)) (inputs + 1 + p)) × (m < movesAt (graphOf inputs nodes outputs (now «node_table») (now «output_table»)) (inputs + 1 + v)) ⌝ }
+    requires { ⌜ Admitted (graphOf inputs nodes outputs (now «node_table») (now «output_table»)) × (p < nodes) × (v < nodes) × (k < kindMoves (graphOf inputs nodes outputs (now «node_table») (now «output_table»)) (inputs + 1 + p)) × (m < kindMoves (graphOf inputs nodes outputs (now «node_table») (now «output_table»)) (inputs + 1 + v)) ⌝ }
     ensures { λ _. ⌜ graphOf inputs nodes outputs (now («node_table» .exit)) (now («output_table» .exit)) ≡ apply (graphOf inputs nodes outputs (now («node_table» .entry)) (now («output_table» .entry))) (at (at none (inputs + 1 + p) k) (inputs + 1 + v) m) ⌝ }
 {
     let a = move_with(rows::is_xor(node_table, p as usize), inputs + 1 + p, k);
@@ -121,7 +121,7 @@ pub fn make_moves(
     v: u32,
     m: u32,
 )
-    requires { ⌜ Admitted (graphOf inputs nodes outputs (now «node_table») (now «output_table»)) × (p < nodes) × (v < nodes) × (k < movesAt (graphOf inputs nodes outputs (now «node_table») (now «output_table»)) (inputs + 1 + p)) × (m < movesAt (graphOf inputs nodes outputs (now «node_table») (now «output_table»)) (inputs + 1 + v)) ⌝ }
+    requires { ⌜ Admitted (graphOf inputs nodes outputs (now «node_table») (now «output_table»)) × (p < nodes) × (v < nodes) × (k < kindMoves (graphOf inputs nodes outputs (now «node_table») (now «output_table»)) (inputs + 1 + p)) × (m < kindMoves (graphOf inputs nodes outputs (now «node_table») (now «output_table»)) (inputs + 1 + v)) ⌝ }
     ensures { λ _. ⌜ graphOf inputs nodes outputs (now («node_table» .exit)) (now («output_table» .exit)) ≡ apply (graphOf inputs nodes outputs (now («node_table» .entry)) (now («output_table» .entry))) (at (at none (inputs + 1 + p) k) (inputs + 1 + v) m) ⌝ }
 {
     if k + m == 0 {

@@ -2,3 +2,4 @@ pub mod AfterMoves
 pub mod ToldMoves
 pub mod Refusing
 pub mod SameCall
+pub mod Free

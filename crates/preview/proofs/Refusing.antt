@@ -3,7 +3,7 @@
 use mathlib.Core.Path.{_≡_, refl, ap, _∙_}
 use mathlib.Core.List.{List}
 use mathlib.Core.Logic.{⊎-elim, _≢_}
-use Prim.Native.Nat.{ℕ, _-_, _*_, _≤_, _<_}
+use Prim.Native.Nat.{ℕ, _*_, _≤_, _<_}
 use native.Mathlib.Omega.{arith}
 use lib.ListN.{length}
 use Rattle.graph.specs.Finite.{ifLess}
@@ -24,46 +24,46 @@ short-bytes b n h = less b n 4 0 h refl
 pub long-bytes : (b n : ℕ) → n ≤ b → _≡_ {A = ℕ} 0 (ifLess b n 4 0)
 long-bytes b n h = no-less b n 4 0 h refl
 
-module _ (g : Graph) (b s r : ℕ) where
-  tables-le : tablesNumber g ≤ 9
+module _ (g : Graph) (ls : List ℕ) (b s r : ℕ) where
+  tables-le : tablesNumber g ls ≤ 9
   unfolding tablesNumber
-  tables-le = omega (arith, room-le (g .I) (g .N) (g .O) (length (g .nodes)) (length (g .outputs)))
+  tables-le = omega (arith, room-le (g .I) (g .N) (g .O) (length (g .nodes)) (length (g .outputs)) (length ls))
 
-  tree-le : treeNumber g s r ≤ 12
+  tree-le : treeNumber g ls s r ≤ 13
   tree-le =
-      ⊎-elim (λ (e : treeNumber g s r ≡ 0). omega (arith, e)) (λ (e : treeNumber g s r ≢ 0). tree-range g s r (treeNumber g s r) refl e .1) (eq-or-ne (treeNumber g s r) 0)
+      ⊎-elim (λ (e : treeNumber g ls s r ≡ 0). omega (arith, e)) (λ (e : treeNumber g ls s r ≢ 0). tree-range g ls s r (treeNumber g ls s r) refl e .1) (eq-or-ne (treeNumber g ls s r) 0)
 
-  preview-le : previewNumber g b s r ≤ 12
+  preview-le : previewNumber g ls b s r ≤ 13
   unfolding previewNumber
-  preview-le = first-le _ _ 12 (omega (arith, tables-le)) (first-le _ _ 12 (ifLess-le b (g .N) 4 0 12 (omega arith) (omega arith)) tree-le)
+  preview-le = first-le _ _ 13 (omega (arith, tables-le)) (first-le _ _ 13 (ifLess-le b (g .N) 4 0 13 (omega arith) (omega arith)) tree-le)
 
   -- what `refused_by` asks of the number
-  pub preview-range : (k : ℕ) → k ≡ previewNumber g b s r → k ≢ 0 → IsRefusal k
+  pub preview-range : (k : ℕ) → k ≡ previewNumber g ls b s r → k ≢ 0 → IsRefusal k
   preview-range k e d = (omega (arith, d), omega (arith, e, preview-le))
 
   -- what an accepted preview may rest on
-  pub accepted-preview : previewNumber g b s r ≡ 0 → (Admitted g) × (IsRoot g r) × (8 * g .N ≤ s) × (g .N ≤ b)
+  pub accepted-preview : previewNumber g ls b s r ≡ 0 → (Admitted g) × (IsRoot g r) × (8 * g .N ≤ s) × (g .N ≤ b) × (g .N ≤ length ls)
   unfolding previewNumber
   accepted-preview e =
       let t = both _ _ (both _ _ e .1) in
-      let a = accepted-by g s r (t .1) in
-      (a .0, a .1, a .2, off b (g .N) 3 0 (t .0) .0)
+      let a = accepted-by g ls s r (t .1) in
+      (a .0, a .1, a .2, off b (g .N) 3 0 (t .0) .0, a .3)
 
-rewritten : (g : Graph) (us : List ℕ) → rewrite g us .answer .number ≡ 0
+rewritten : (g : Graph) (ls us : List ℕ) → rewrite g ls us .answer .number ≡ 0
 unfolding rewrite
-rewritten g us = refl
+rewritten g ls us = refl
 
 -- the preview, refused and not
-pub refused-preview : (g : Graph) (bs : List ℕ) (s r k : ℕ) → k ≡ previewNumber g (length bs) s r → k ≢ 0 → (refused k ≡ previewAnswer g (length bs) s r) × (bs ≡ previewBytes g bs s r)
+pub refused-preview : (g : Graph) (ls bs : List ℕ) (s r k : ℕ) → k ≡ previewNumber g ls (length bs) s r → k ≢ 0 → (refused k ≡ previewAnswer g ls (length bs) s r) × (bs ≡ previewBytes g ls bs s r)
 unfolding previewAnswer previewBytes
-refused-preview g bs s r k e d =
-    (refused-is k (previewNumber g (length bs) s r) (rewrite g (tree g r) .answer) e (λ z. d (e ∙ z)), unequal (previewNumber g (length bs) s r) 0 (movesTold g r bs) bs (λ z. d (e ∙ z)) refl)
+refused-preview g ls bs s r k e d =
+    (refused-is k (previewNumber g ls (length bs) s r) (rewrite g ls (tree g r) .answer) e (λ z. d (e ∙ z)), unequal (previewNumber g ls (length bs) s r) 0 (movesTold g ls r bs) bs (λ z. d (e ∙ z)) refl)
 
-pub told-preview : (g : Graph) (bs bs′ : List ℕ) (s r : ℕ) (x : Answer) → previewNumber g (length bs) s r ≡ 0 → x ≡ rewrite g (tree g r) .answer → bs′ ≡ movesTold g r bs
-    → (x ≡ previewAnswer g (length bs) s r) × (bs′ ≡ previewBytes g bs s r) × (x .number ≡ 0)
+pub told-preview : (g : Graph) (ls bs bs′ : List ℕ) (s r : ℕ) (x : Answer) → previewNumber g ls (length bs) s r ≡ 0 → x ≡ rewrite g ls (tree g r) .answer → bs′ ≡ movesTold g ls r bs
+    → (x ≡ previewAnswer g ls (length bs) s r) × (bs′ ≡ previewBytes g ls bs s r) × (x .number ≡ 0)
 unfolding previewAnswer previewBytes
-told-preview g bs bs′ s r x e p q = (
-  p ∙ accepted-is (previewNumber g (length bs) s r) (rewrite g (tree g r) .answer) e,
-  equal (previewNumber g (length bs) s r) 0 (movesTold g r bs) bs e q,
-  ap (λ (a : Answer). a .number) p ∙ rewritten g (tree g r),
+told-preview g ls bs bs′ s r x e p q = (
+  p ∙ accepted-is (previewNumber g ls (length bs) s r) (rewrite g ls (tree g r) .answer) e,
+  equal (previewNumber g ls (length bs) s r) 0 (movesTold g ls r bs) bs e q,
+  ap (λ (a : Answer). a .number) p ∙ rewritten g ls (tree g r),
 )

@@ -11,7 +11,7 @@ use lib.Dec.{ltb}
 use lib.ListN.{length, getD}
 use Rattle.graph.specs.Finite.{ifLess, first}
 use Rattle.graph.specs.Graph.{Graph, node}
-use Rattle.graph.specs.Admission.{tablesNumber, literalNumber, admissionNumber}
+use Rattle.graph.specs.Admission.{tablesNumber, contentNumber, admissionNumber}
 use Rattle.graph.proofs.Cases.{eq-or-ne, true-or-false}
 use Rattle.graph.proofs.Finite.{getD-tab}
 use Rattle.graph.proofs.Tests.{less, equal}
@@ -75,57 +75,57 @@ node-of g u e =
     let b = ltb-true u (node g (g .N)) (t .1) in
     (omega (arith, a, b), omega (arith, a, b))
 
-module _ (g : Graph) (r : ℕ) where
-  moves-past : (u : ℕ) → isNode g u ≡ false → treeMoves g r u ≡ 0
+module _ (g : Graph) (ls : List ℕ) (r : ℕ) where
+  moves-past : (u : ℕ) → isNode g u ≡ false → treeMoves g ls r u ≡ 0
   unfolding treeMoves tree
-  moves-past u e = put-past g r u (g .N) (bestAt g (members g r (g .N))) none (λ v l z. clash (node-is g v l) (rw (← z) e))
+  moves-past u e = put-past g r u (g .N) (bestAt g ls (members g r (g .N))) none (λ v l z. clash (node-is g v l) (rw (← z) e))
 
   module _ (bs : List ℕ) (enough : g .N ≤ length bs) where
-    told-at : (v : ℕ) → v < g .N → getD (movesTold g r bs) v 0 ≡ treeMoves g r (node g v)
+    told-at : (v : ℕ) → v < g .N → getD (movesTold g ls r bs) v 0 ≡ treeMoves g ls r (node g v)
     unfolding movesTold
     told-at v l =
-        getD-tab (length bs) (λ j. ifLess j (g .N) (treeMoves g r (node g j)) (getD bs j 0)) v (omega arith)
-        ∙ sym (less v (g .N) (treeMoves g r (node g v)) (getD bs v 0) l refl)
+        getD-tab (length bs) (λ j. ifLess j (g .N) (treeMoves g ls r (node g j)) (getD bs j 0)) v (omega arith)
+        ∙ sym (less v (g .N) (treeMoves g ls r (node g v)) (getD bs v 0) l refl)
 
     -- what the bytes tell, index by index
-    choice-told : (u : ℕ) → choiceIn g (movesTold g r bs) u ≡ treeMoves g r u
+    choice-told : (u : ℕ) → choiceIn g (movesTold g ls r bs) u ≡ treeMoves g ls r u
     choice-told u =
         ⊎-elim
         (λ (e : isNode g u ≡ true).
         let n = node-of g u e in
-        rw (← n .1) (choice-at g (movesTold g r bs) (u - (g .I + 1)) (n .0) ∙ told-at (u - (g .I + 1)) (n .0)))
+        rw (← n .1) (choice-at g (movesTold g ls r bs) (u - (g .I + 1)) (n .0) ∙ told-at (u - (g .I + 1)) (n .0)))
         (λ (e : isNode g u ≡ false). choice-past e ∙ sym (moves-past u e))
         (true-or-false (isNode g u))
       where
-        choice-past : isNode g u ≡ false → choiceIn g (movesTold g r bs) u ≡ 0
-        choice-past e = choice-none g (movesTold g r bs) u e
+        choice-past : isNode g u ≡ false → choiceIn g (movesTold g ls r bs) u ≡ 0
+        choice-past e = choice-none g (movesTold g ls r bs) u e
 
-    pub choice-is : choiceIn g (movesTold g r bs) ≡ treeMoves g r
+    pub choice-is : choiceIn g (movesTold g ls r bs) ≡ treeMoves g ls r
     choice-is = fun-ext choice-told
 
     -- the moves in the bytes, made, give the tree call's graph
-    pub graph-told : apply g (choiceIn g (movesTold g r bs)) ≡ moved g (tree g r) (bestAt g (tree g r))
+    pub graph-told : apply g (choiceIn g (movesTold g ls r bs)) ≡ moved g (tree g r) (bestAt g ls (tree g r))
     unfolding moved treeMoves
     graph-told = ap (apply g) choice-is
 
 -- the moves of the root's tree told, C after them, and the root's odd readers: what the tree call saves, in both parts
-pub preview-is : (g : Graph) (bs bs′ : List ℕ) (r v b a : ℕ) (o : Odds) (x : Answer) → Admitted g → IsRoot g r → v ≡ r - (g .I + 1) → g .N ≤ length bs
-    → bs′ ≡ movesTold g (node g v) bs → b ≡ C g → a ≡ C (apply g (choiceIn g bs′)) → RootOdds g v bs′ o → x ≡ savedBy b a (o .before) (o .after)
-    → (x ≡ rewrite g (tree g r) .answer) × (bs′ ≡ movesTold g r bs)
+pub preview-is : (g : Graph) (ls bs bs′ : List ℕ) (r v b a : ℕ) (o : Odds) (x : Answer) → Admitted g → IsRoot g r → v ≡ r - (g .I + 1) → g .N ≤ length bs
+    → bs′ ≡ movesTold g ls (node g v) bs → b ≡ C g → a ≡ C (apply g (choiceIn g bs′)) → RootOdds g v bs′ o → x ≡ savedBy b a (o .before) (o .after)
+    → (x ≡ rewrite g ls (tree g r) .answer) × (bs′ ≡ movesTold g ls r bs)
 unfolding treeMoves
-preview-is g bs bs′ r v b a o x adm i e l t p q d k =
+preview-is g ls bs bs′ r v b a o x adm i e l t p q d k =
     let n : node g v ≡ r = omega (arith, e, i .after-inputs) in
     let h : v < g .N = omega (arith, e, i .after-inputs, i .within) in
-    let m : bs′ ≡ movesTold g r bs = t ∙ ap (λ u. movesTold g u bs) n in
+    let m : bs′ ≡ movesTold g ls r bs = t ∙ ap (λ u. movesTold g ls u bs) n in
     let us : List ℕ = tree g r in
-    let j : C (apply g (choiceIn g bs′)) ≡ C (moved g us (bestAt g us)) = ap (λ y. C (apply g (choiceIn g y))) m ∙ ap C (graph-told g r bs l) in
-    let c : choiceIn g bs′ ≡ put none us (bestAt g us) = ap (choiceIn g) m ∙ choice-is g r bs l in
+    let j : C (apply g (choiceIn g bs′)) ≡ C (moved g us (bestAt g ls us)) = ap (λ y. C (apply g (choiceIn g y))) m ∙ ap C (graph-told g ls r bs l) in
+    let c : choiceIn g bs′ ≡ put none us (bestAt g ls us) = ap (choiceIn g) m ∙ choice-is g ls r bs l in
     let w : o .before ≡ shown g r 0 = d .before ∙ ap (λ (u : ℕ). shown g u 0) n in
-    let y : o .after ≡ shown g r (seen g (put none us (bestAt g us)) r) =
-    d .after ∙ ap (λ (f : Choice). shown g (node g v) (seen g f (node g v))) c ∙ ap (λ (u : ℕ). shown g u (seen g (put none us (bestAt g us)) u)) n in
-    let z : split us g (moved g us (bestAt g us)) .others ≡ difference (o .before) (o .after) =
-    root-others g adm us r (subst (λ (u : ℕ). Rooted g (tree g u) u) n (tree-rooted g adm v h (rw n (i .root)))) (bestAt g us) ∙ rw (w, y) in
-    (k ∙ ap (λ (u : Outcome). u .answer) (saved-outcome g us (moved g us (bestAt g us)) b a (o .before) (o .after) refl (omega (arith, p, q, j)) z), m)
+    let y : o .after ≡ shown g r (seen g (put none us (bestAt g ls us)) r) =
+    d .after ∙ ap (λ (f : Choice). shown g (node g v) (seen g f (node g v))) c ∙ ap (λ (u : ℕ). shown g u (seen g (put none us (bestAt g ls us)) u)) n in
+    let z : split us g (moved g us (bestAt g ls us)) .others ≡ difference (o .before) (o .after) =
+    root-others g adm us r (subst (λ (u : ℕ). Rooted g (tree g u) u) n (tree-rooted g adm v h (rw n (i .root)))) (bestAt g ls us) ∙ rw (w, y) in
+    (k ∙ ap (λ (u : Outcome). u .answer) (saved-outcome g ls us (moved g us (bestAt g ls us)) b a (o .before) (o .after) refl (omega (arith, p, q, j)) z), m)
 
 -- a fault that two numbers begin with is told once
 first-again : (t l x : ℕ) → first t (first (first t l) x) ≡ first (first t l) x
@@ -137,29 +137,29 @@ first-none : (x : ℕ) → first 0 x ≡ x
 unfolding first
 first-none x = refl
 
-module _ (g : Graph) (bs : List ℕ) (s r : ℕ) where
-  number-alike : g .N ≤ length bs → previewNumber g (length bs) s r ≡ treeNumber g s r
+module _ (g : Graph) (ls bs : List ℕ) (s r : ℕ) where
+  number-alike : g .N ≤ length bs → previewNumber g ls (length bs) s r ≡ treeNumber g ls s r
   unfolding previewNumber treeNumber admissionNumber
-  number-alike l = rw (← long-bytes (length bs) (g .N) l, first-none _) (first-again (tablesNumber g) (literalNumber g) _)
+  number-alike l = rw (← long-bytes (length bs) (g .N) l, first-none _) (first-again (tablesNumber g ls) (contentNumber g ls) _)
 
-  tree-accepted : previewNumber g (length bs) s r ≡ 0 → (treeNumber g s r ≡ 0) × (g .N ≤ length bs)
-  tree-accepted e = let l = accepted-preview g (length bs) s r e .3 in (sym (number-alike l) ∙ e, l)
+  tree-accepted : previewNumber g ls (length bs) s r ≡ 0 → (treeNumber g ls s r ≡ 0) × (g .N ≤ length bs)
+  tree-accepted e = let l = accepted-preview g ls (length bs) s r e .3 in (sym (number-alike l) ∙ e, l)
 
-  call-is : treeNumber g s r ≡ 0 → treeCall g s r ≡ rewrite g (tree g r)
+  call-is : treeNumber g ls s r ≡ 0 → treeCall g ls s r ≡ rewrite g ls (tree g r)
   unfolding treeCall
-  call-is e = sym (accepted-outcome (treeNumber g s r) g (rewrite g (tree g r)) e)
+  call-is e = sym (accepted-outcome (treeNumber g ls s r) g (rewrite g ls (tree g r)) e)
 
-  answered : previewNumber g (length bs) s r ≡ 0 → previewAnswer g (length bs) s r ≡ treeCall g s r .answer
+  answered : previewNumber g ls (length bs) s r ≡ 0 → previewAnswer g ls (length bs) s r ≡ treeCall g ls s r .answer
   unfolding previewAnswer
   answered e =
-      sym (accepted-is (previewNumber g (length bs) s r) (rewrite g (tree g r) .answer) e) ∙ ap (λ o. o .answer) (sym (call-is (tree-accepted e .0)))
+      sym (accepted-is (previewNumber g ls (length bs) s r) (rewrite g ls (tree g r) .answer) e) ∙ ap (λ o. o .answer) (sym (call-is (tree-accepted e .0)))
 
-  left : previewNumber g (length bs) s r ≡ 0 → apply g (choiceIn g (previewBytes g bs s r)) ≡ treeCall g s r .graph
+  left : previewNumber g ls (length bs) s r ≡ 0 → apply g (choiceIn g (previewBytes g ls bs s r)) ≡ treeCall g ls s r .graph
   unfolding previewBytes rewrite
   left e =
       let t = tree-accepted e in
-      let b : movesTold g r bs ≡ previewBytes g bs s r = equal (previewNumber g (length bs) s r) 0 (movesTold g r bs) bs e refl in
-      ap (λ x. apply g (choiceIn g x)) (sym b) ∙ graph-told g r bs (t .1) ∙ ap (λ o. o .graph) (sym (call-is (t .0)))
+      let b : movesTold g ls r bs ≡ previewBytes g ls bs s r = equal (previewNumber g ls (length bs) s r) 0 (movesTold g ls r bs) bs e refl in
+      ap (λ x. apply g (choiceIn g x)) (sym b) ∙ graph-told g ls r bs (t .1) ∙ ap (λ o. o .graph) (sym (call-is (t .0)))
 
-  pub as-tree-call : AsTreeCall g bs s r
+  pub as-tree-call : AsTreeCall g ls bs s r
   as-tree-call = record { refused-alike = number-alike; same-answer = answered; same-graph = left }

@@ -12,32 +12,32 @@ use Rattle.moves.specs.Apply.{Choice, none, put, apply}
 use Rattle.moves.specs.Tree.{tree}
 use Rattle.moves.specs.Call.{bestAt, rewrite, isNode, treeNumber, treeCall}
 
--- the move that the tree call at the root r makes at each node: 0 outside the tree
-unfoldable pub treeMoves : Graph → ℕ → Choice
-treeMoves g r = put none (tree g r) (bestAt g (tree g r))
+-- the move that the tree call at the root r makes at each node, with the locks ls: 0 outside the tree, and at a locked node
+unfoldable pub treeMoves : Graph → List ℕ → ℕ → Choice
+treeMoves g ls r = put none (tree g r) (bestAt g ls (tree g r))
 
 -- bytes after a preview: a move for each node, and what stood past them
-unfoldable pub movesTold : Graph → ℕ → List ℕ → List ℕ
-movesTold g r bs = tab (length bs) (λ j. ifLess j (g .N) (treeMoves g r (node g j)) (getD bs j 0))
+unfoldable pub movesTold : Graph → List ℕ → ℕ → List ℕ → List ℕ
+movesTold g ls r bs = tab (length bs) (λ j. ifLess j (g .N) (treeMoves g ls r (node g j)) (getD bs j 0))
 
 -- the choice of moves that bytes tell
 unfoldable pub choiceIn : Graph → List ℕ → Choice
 choiceIn g bs u = cond (isNode g u) (getD bs (u - (g .I + 1)) 0) 0
 
--- 4: b bytes, where N are needed; it comes after the tables' 4, and all else is refused as by the tree call
-unfoldable pub previewNumber : Graph → ℕ → ℕ → ℕ → ℕ
-previewNumber g b s r = first (tablesNumber g) (first (ifLess b (g .N) 4 0) (treeNumber g s r))
+-- 4: b bytes, where N are needed; it comes after the 4 of tables and locks, and all else is refused as by the tree call
+unfoldable pub previewNumber : Graph → List ℕ → ℕ → ℕ → ℕ → ℕ
+previewNumber g ls b s r = first (tablesNumber g ls) (first (ifLess b (g .N) 4 0) (treeNumber g ls s r))
 
 -- what it answers, and the bytes as it leaves them
-unfoldable pub previewAnswer : Graph → ℕ → ℕ → ℕ → Answer
-previewAnswer g b s r = unless (previewNumber g b s r) (rewrite g (tree g r) .answer)
+unfoldable pub previewAnswer : Graph → List ℕ → ℕ → ℕ → ℕ → Answer
+previewAnswer g ls b s r = unless (previewNumber g ls b s r) (rewrite g ls (tree g r) .answer)
 
-unfoldable pub previewBytes : Graph → List ℕ → ℕ → ℕ → List ℕ
-previewBytes g bs s r = ifEqual (previewNumber g (length bs) s r) 0 (movesTold g r bs) bs
+unfoldable pub previewBytes : Graph → List ℕ → List ℕ → ℕ → ℕ → List ℕ
+previewBytes g ls bs s r = ifEqual (previewNumber g ls (length bs) s r) 0 (movesTold g ls r bs) bs
 
 -- what a preview says is what the tree call does: with bytes enough it is refused by the same number; and where it is not refused,
 -- it answers what the tree call answers, and the moves in its bytes, made on g, give the tree call's graph
-pub record AsTreeCall (g : Graph) (bs : List ℕ) (s r : ℕ) : Type 0 where
-  pub refused-alike : g .N ≤ length bs → previewNumber g (length bs) s r ≡ treeNumber g s r
-  pub same-answer : previewNumber g (length bs) s r ≡ 0 → previewAnswer g (length bs) s r ≡ treeCall g s r .answer
-  pub same-graph : previewNumber g (length bs) s r ≡ 0 → apply g (choiceIn g (previewBytes g bs s r)) ≡ treeCall g s r .graph
+pub record AsTreeCall (g : Graph) (ls bs : List ℕ) (s r : ℕ) : Type 0 where
+  pub refused-alike : g .N ≤ length bs → previewNumber g ls (length bs) s r ≡ treeNumber g ls s r
+  pub same-answer : previewNumber g ls (length bs) s r ≡ 0 → previewAnswer g ls (length bs) s r ≡ treeCall g ls s r .answer
+  pub same-graph : previewNumber g ls (length bs) s r ≡ 0 → apply g (choiceIn g (previewBytes g ls bs s r)) ≡ treeCall g ls s r .graph

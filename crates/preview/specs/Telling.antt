@@ -10,6 +10,7 @@ use Rattle.graph.specs.Graph.{Graph, node}
 use Rattle.moves.specs.Apply.{Permitted, seen, apply}
 use Rattle.moves.specs.Cost.{shown}
 use Rattle.moves.specs.declared.gains.Odds.{Odds}
+use Rattle.moves.specs.Rows.{kindMoves}
 use Rattle.moves.specs.Tree.{rootOf}
 use Rattle.state.specs.State.{field}
 use Rattle.preview.specs.Preview.{choiceIn}
@@ -20,13 +21,17 @@ pub record Cleared (n : ℕ) (bs bs′ : List ℕ) : Type 0 where
   pub none : (j : ℕ) → j < n → getD bs′ j 0 ≡ 0
   pub kept : (j : ℕ) → n ≤ j → getD bs′ j 0 ≡ getD bs j 0
 
+-- the nodes of the tree of u have moves stored that their kinds have
+abbrev pub MovesStored : Graph → ℕ → List ℕ → Type 0
+MovesStored h u sc = (v : ℕ) → v < h .N → rootOf h (node h v) ≡ u → field sc v 4 < kindMoves h (node h v)
+
 -- the moves that stand in scratch told, for the tree of u
 pub record Told (h : Graph) (u : ℕ) (sc bs bs′ : List ℕ) : Type 0 where
   pub same : length bs′ ≡ length bs
   pub told : (v : ℕ) → v < h .N → rootOf h (node h v) ≡ u → getD bs′ v 0 ≡ field sc v 4
   pub kept : (j : ℕ) → (j < h .N → rootOf h (node h j) ≢ u) → getD bs′ j 0 ≡ getD bs j 0
 
--- g is admitted, and the bytes have a move for each of its nodes that the node has
+-- g is admitted, and the bytes have a move for each of its nodes that the node's kind has
 pub record Says (g : Graph) (bs : List ℕ) : Type 0 where
   pub admitted : Admitted g
   pub permitted : Permitted g (choiceIn g bs)

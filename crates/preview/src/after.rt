@@ -58,7 +58,15 @@ pub fn edge_after(
     requires { ⌜ Says (graphOf inputs nodes outputs (now «node_table») (now «output_table»)) (now bytes) × (x / 2 < inputs + 1 + nodes) × (f ≤ 1) ⌝ }
     ensures { λ r. ⌜ (r ≡ (x + f + seen (graphOf inputs nodes outputs (now («node_table» .entry)) (now («output_table» .entry))) (choiceIn (graphOf inputs nodes outputs (now («node_table» .entry)) (now («output_table» .entry))) (now (bytes .entry))) (x / 2)) % 2) × (r ≤ 1) ⌝ }
 {
-    let s = seen_at(inputs, nodes, outputs, node_table, output_table, x / 2, bytes);
+    let s = seen_at(
+        inputs,
+        nodes,
+        outputs,
+        node_table,
+        output_table,
+        x / 2,
+        bytes,
+    );
     (x % 2 + f + s) % 2
 }
 
@@ -80,7 +88,16 @@ pub fn word_after(
     let xor = rows::is_xor(node_table, v);
     let f = rows::flag_of(xor, m, k);
     let x = word_at(node_table, 3 * v + k);
-    edge_after(inputs, nodes, outputs, node_table, output_table, x, f, bytes)
+    edge_after(
+        inputs,
+        nodes,
+        outputs,
+        node_table,
+        output_table,
+        x,
+        f,
+        bytes,
+    )
 }
 
 // What the words of node v would add: an XOR has two.
@@ -96,12 +113,41 @@ pub fn node_after(
     requires { ⌜ Says (graphOf inputs nodes outputs (now «node_table») (now «output_table»)) (now bytes) × (v < nodes) ⌝ }
     ensures { λ r. ⌜ (r ≡ threeAfter (graphOf inputs nodes outputs (now («node_table» .entry)) (now («output_table» .entry))) (now (bytes .entry)) v) × (r ≤ 3) ⌝ }
 {
-    let a = word_after(inputs, nodes, outputs, node_table, output_table, v, 0, bytes);
-    let b = word_after(inputs, nodes, outputs, node_table, output_table, v, 1, bytes);
+    let a = word_after(
+        inputs,
+        nodes,
+        outputs,
+        node_table,
+        output_table,
+        v,
+        0,
+        bytes,
+    );
+    let b = word_after(
+        inputs,
+        nodes,
+        outputs,
+        node_table,
+        output_table,
+        v,
+        1,
+        bytes,
+    );
     if rows::is_xor(node_table, v) {
         return a + b;
     }
-    a + b + word_after(inputs, nodes, outputs, node_table, output_table, v, 2, bytes)
+    a
+        + b
+        + word_after(
+            inputs,
+            nodes,
+            outputs,
+            node_table,
+            output_table,
+            v,
+            2,
+            bytes,
+        )
 }
 
 pub fn nodes_after(
@@ -141,7 +187,16 @@ pub fn outputs_after(
     let mut j: usize = 0;
     while j < n {
         let x = word_at(output_table, j);
-        c += edge_after(inputs, nodes, outputs, node_table, output_table, x, 0, bytes);
+        c += edge_after(
+            inputs,
+            nodes,
+            outputs,
+            node_table,
+            output_table,
+            x,
+            0,
+            bytes,
+        );
         j += 1;
     }
     c

@@ -30,12 +30,13 @@ pub fn tell_tree(
     outputs: u32,
     node_table: &[u32],
     output_table: &[u32],
+    locks: &[u8],
     root: usize,
     bytes: &mut [u8],
     scratch: &mut [u32],
 )
-    requires { ⌜ Admitted (graphOf inputs nodes outputs (now «node_table») (now «output_table»)) × (root < nodes) × (isRoot (graphOf inputs nodes outputs (now «node_table») (now «output_table»)) (inputs + 1 + root) ≡ true) × (8 * nodes ≤ length (now scratch)) × (nodes ≤ length (now bytes)) ⌝ }
-    ensures { λ _. ⌜ (now (bytes .exit) ≡ movesTold (graphOf inputs nodes outputs (now («node_table» .entry)) (now («output_table» .entry))) (inputs + 1 + root) (now (bytes .entry))) × Says (graphOf inputs nodes outputs (now («node_table» .entry)) (now («output_table» .entry))) (now (bytes .exit)) × RootRead (graphOf inputs nodes outputs (now («node_table» .entry)) (now («output_table» .entry))) root (now (scratch .exit)) ⌝ }
+    requires { ⌜ Admitted (graphOf inputs nodes outputs (now «node_table») (now «output_table»)) × (root < nodes) × (isRoot (graphOf inputs nodes outputs (now «node_table») (now «output_table»)) (inputs + 1 + root) ≡ true) × (8 * nodes ≤ length (now scratch)) × (nodes ≤ length (now bytes)) × (nodes ≤ length (now locks)) ⌝ }
+    ensures { λ _. ⌜ (now (bytes .exit) ≡ movesTold (graphOf inputs nodes outputs (now («node_table» .entry)) (now («output_table» .entry))) (now (locks .entry)) (inputs + 1 + root) (now (bytes .entry))) × Says (graphOf inputs nodes outputs (now («node_table» .entry)) (now («output_table» .entry))) (now (bytes .exit)) × RootRead (graphOf inputs nodes outputs (now («node_table» .entry)) (now («output_table» .entry))) root (now (scratch .exit)) ⌝ }
 {
     fill_scratch(inputs, nodes, outputs, node_table, output_table, scratch);
     decide_tree(
@@ -44,6 +45,7 @@ pub fn tell_tree(
         outputs,
         node_table,
         output_table,
+        locks,
         root,
         scratch,
     );
@@ -89,12 +91,13 @@ pub fn preview_tree(
     outputs: u32,
     node_table: &[u32],
     output_table: &[u32],
+    locks: &[u8],
     root: u32,
     bytes: &mut [u8],
     scratch: &mut [u32],
 ) -> Saving
-    requires { ⌜ Admitted (graphOf inputs nodes outputs (now «node_table») (now «output_table»)) × IsRoot (graphOf inputs nodes outputs (now «node_table») (now «output_table»)) root × (8 * nodes ≤ length (now scratch)) × (nodes ≤ length (now bytes)) ⌝ }
-    ensures { λ r. ⌜ (savingAnswer r ≡ rewrite (graphOf inputs nodes outputs (now («node_table» .entry)) (now («output_table» .entry))) (tree (graphOf inputs nodes outputs (now («node_table» .entry)) (now («output_table» .entry))) root) .answer) × (now (bytes .exit) ≡ movesTold (graphOf inputs nodes outputs (now («node_table» .entry)) (now («output_table» .entry))) root (now (bytes .entry))) ⌝ }
+    requires { ⌜ Admitted (graphOf inputs nodes outputs (now «node_table») (now «output_table»)) × IsRoot (graphOf inputs nodes outputs (now «node_table») (now «output_table»)) root × (8 * nodes ≤ length (now scratch)) × (nodes ≤ length (now bytes)) × (nodes ≤ length (now locks)) ⌝ }
+    ensures { λ r. ⌜ (savingAnswer r ≡ rewrite (graphOf inputs nodes outputs (now («node_table» .entry)) (now («output_table» .entry))) (now (locks .entry)) (tree (graphOf inputs nodes outputs (now («node_table» .entry)) (now («output_table» .entry))) root) .answer) × (now (bytes .exit) ≡ movesTold (graphOf inputs nodes outputs (now («node_table» .entry)) (now («output_table» .entry))) (now (locks .entry)) root (now (bytes .entry))) ⌝ }
 {
     let v = wide(root - (inputs + 1));
     tell_tree(
@@ -103,6 +106,7 @@ pub fn preview_tree(
         outputs,
         node_table,
         output_table,
+        locks,
         v,
         bytes,
         scratch,

@@ -11,13 +11,21 @@ pub fn preview_number(
     outputs: u32,
     node_table: &[u32],
     output_table: &[u32],
+    locks: &[u8],
     root: u32,
     bytes: usize,
     length: usize,
 ) -> u32
-    ensures { λ r. ⌜ r ≡ previewNumber (graphOf inputs nodes outputs (now («node_table» .entry)) (now («output_table» .entry))) bytes length root ⌝ }
+    ensures { λ r. ⌜ r ≡ previewNumber (graphOf inputs nodes outputs (now («node_table» .entry)) (now («output_table» .entry))) (now (locks .entry)) bytes length root ⌝ }
 {
-    let room = room_number(inputs, nodes, outputs, node_table.len(), output_table.len());
+    let room = room_number(
+        inputs,
+        nodes,
+        outputs,
+        node_table.len(),
+        output_table.len(),
+        locks.len(),
+    );
     if room != 0 {
         return room;
     }
@@ -30,6 +38,7 @@ pub fn preview_number(
         outputs,
         node_table,
         output_table,
+        locks,
         root,
         length,
     )

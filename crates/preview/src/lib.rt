@@ -20,12 +20,13 @@ pub fn preview(
     outputs: u32,
     node_table: &[u32],
     output_table: &[u32],
+    locks: &[u8],
     root: u32,
     bytes: &mut [u8],
     scratch: &mut [u32],
 ) -> Saving
-    ensures answer { λ r. ⌜ savingAnswer r ≡ previewAnswer (graphOf inputs nodes outputs (now («node_table» .entry)) (now («output_table» .entry))) (length (now (bytes .entry))) (length (now (scratch .entry))) root ⌝ }
-    ensures bytes { λ r. ⌜ now (bytes .exit) ≡ previewBytes (graphOf inputs nodes outputs (now («node_table» .entry)) (now («output_table» .entry))) (now (bytes .entry)) (length (now (scratch .entry))) root ⌝ }
+    ensures answer { λ r. ⌜ savingAnswer r ≡ previewAnswer (graphOf inputs nodes outputs (now («node_table» .entry)) (now («output_table» .entry))) (now (locks .entry)) (length (now (bytes .entry))) (length (now (scratch .entry))) root ⌝ }
+    ensures bytes { λ r. ⌜ now (bytes .exit) ≡ previewBytes (graphOf inputs nodes outputs (now («node_table» .entry)) (now («output_table» .entry))) (now (locks .entry)) (now (bytes .entry)) (length (now (scratch .entry))) root ⌝ }
     ensures scratch { λ r. ⌜ ScratchKept (savingAnswer r) (now (scratch .entry)) (now (scratch .exit)) ⌝ }
 {
     let number = faults::preview_number(
@@ -34,6 +35,7 @@ pub fn preview(
         outputs,
         node_table,
         output_table,
+        locks,
         root,
         bytes.len(),
         scratch.len(),
@@ -47,6 +49,7 @@ pub fn preview(
         outputs,
         node_table,
         output_table,
+        locks,
         root,
         bytes,
         scratch,

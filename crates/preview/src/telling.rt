@@ -6,8 +6,7 @@ ghost use lib.ListN.{length};
 ghost use Rattle.graph.specs.Graph.{graphOf};
 ghost use Rattle.moves.specs.Tree.{isRoot};
 ghost use Rattle.state.specs.State.{stands, Ordered};
-ghost use Rattle.trees.specs.Deciding.{TreeDecided};
-ghost use Rattle.preview.specs.Telling.{Cleared, Told};
+ghost use Rattle.preview.specs.Telling.{Cleared, MovesStored, Told};
 use graph::literal::MARK;
 use moves::words::narrow;
 use moves::words::wide;
@@ -43,7 +42,7 @@ pub fn tell(
     bytes: &mut [u8],
     scratch: &[u32],
 )
-    requires { ⌜ Ordered (graphOf inputs nodes outputs (now «node_table») (now «output_table»)) (now scratch) × (root < nodes) × (isRoot (graphOf inputs nodes outputs (now «node_table») (now «output_table»)) (inputs + 1 + root) ≡ true) × TreeDecided (stands (graphOf inputs nodes outputs (now «node_table») (now «output_table»)) (now scratch)) (inputs + 1 + root) (now scratch) × (nodes ≤ length (now bytes)) ⌝ }
+    requires { ⌜ Ordered (graphOf inputs nodes outputs (now «node_table») (now «output_table»)) (now scratch) × (root < nodes) × (isRoot (graphOf inputs nodes outputs (now «node_table») (now «output_table»)) (inputs + 1 + root) ≡ true) × MovesStored (stands (graphOf inputs nodes outputs (now «node_table») (now «output_table»)) (now scratch)) (inputs + 1 + root) (now scratch) × (nodes ≤ length (now bytes)) ⌝ }
     ensures { λ _. ⌜ Told (stands (graphOf inputs nodes outputs (now («node_table» .entry)) (now («output_table» .entry))) (now (scratch .entry))) (inputs + 1 + root) (now (scratch .entry)) (now (bytes .entry)) (now (bytes .exit)) ⌝ }
 {
     let mut v = narrow(root);

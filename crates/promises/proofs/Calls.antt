@@ -1,5 +1,5 @@
 -- What one call of a list does, of each of the four kinds. From the laws of calls (crates moves and rounds).
-use mathlib.Core.Path.{_≡_, refl, sym, _∙_}
+use mathlib.Core.Path.{_≡_, refl, sym, ap, _∙_}
 use mathlib.Core.Bool.{Bool, true, false, cond}
 use mathlib.Core.List.{List, [], _∷_}
 use Prim.Native.Nat.{ℕ, zero, suc, _-_, _*_, _≤_}
@@ -9,7 +9,7 @@ use lib.ListN.{length}
 use Rattle.graph.specs.Finite.{first}
 use Rattle.graph.specs.Graph.{Graph}
 use Rattle.graph.specs.Count.{C}
-use Rattle.graph.specs.Admission.{Admitted, admissionNumber}
+use Rattle.graph.specs.Admission.{Admitted, LockBytes, admissionNumber}
 use Rattle.graph.specs.Answer.{gained, savingOf, Outcome, outcome, guarded}
 use Rattle.graph.specs.Difference.{difference}
 use Rattle.graph.proofs.DifferenceSum.{no-difference}
@@ -21,7 +21,7 @@ use Rattle.moves.proofs.Kept.{Kept, kept-none, best-lowest}
 use Rattle.rounds.specs.Settle.{settle, settled, settleNumber, settleCall}
 use Rattle.rounds.proofs.Calls.{Honest, node-honest, pair-honest, tree-honest}
 use Rattle.rounds.proofs.Rounds.{settle-ended}
-use Rattle.promises.specs.Demand.{Call, nodeAt, pairAt, treeAt, settling, step, fault, Beside, Made}
+use Rattle.promises.specs.Demand.{Call, nodeAt, pairAt, treeAt, settling, Locked, beside, step, fault, Beside, Made}
 
 -- a call guarded by k, that else answers a without a fault
 module _ (g : Graph) (o : Outcome) (fine : o .answer .number ≡ 0) where
@@ -40,57 +40,64 @@ module _ (g : Graph) (o : Outcome) (fine : o .answer .number ≡ 0) where
   guarded-accepted zero e = refl
   guarded-accepted (suc k) e = absurd (omega arith)
 
--- an admitted graph is refused by nothing but the call's own fault
-passed : (g : Graph) → Admitted g → (k : ℕ) → first (admissionNumber g) k ≡ k
-passed g adm k = sym (none (admissionNumber g) k (admission-none g adm) refl)
+-- an admitted graph with its locks is refused by nothing but the call's own fault
+passed : (g : Graph) → Admitted g → (ls : List ℕ) → LockBytes (g .N) ls → (k : ℕ) → first (admissionNumber g ls) k ≡ k
+passed g adm ls ok k = sym (none (admissionNumber g ls) k (admission-none g adm ls ok) refl)
 
-module _ (g : Graph) (adm : Admitted g) where
+module _ (d : Locked) (adm : Admitted (d .graph)) (ok : LockBytes (d .graph .N) (d .locks)) where
+  abbrev g : Graph
+  g = d .graph
+
+  abbrev ls : List ℕ
+  ls = d .locks
+
   -- what a guarded call whose number comes to the fault f promises
-  made : (c : Call) (k : ℕ) (o : Outcome) → step g c ≡ guarded k g o → o .answer .number ≡ 0 → k ≡ fault g c
-      → (fault g c ≡ 0 → Beside g c o) → Made g c
+  made : (c : Call) (k : ℕ) (o : Outcome) → step d c ≡ beside d (guarded k g o) → o .answer .number ≡ 0 → k ≡ fault g c
+      → (fault g c ≡ 0 → Beside d c (beside d o)) → Made d c
   made c k o e fine q b =
       record {
         admitted = adm;
+        locked = ok;
         number = rw e (guarded-number g o fine k ∙ q);
-        refused = λ h. rw e (guarded-refused g o fine k (λ z. h (sym q ∙ z)));
+        refused = λ h. let r = guarded-refused g o fine k (λ z. h (sym q ∙ z)) in rw e (ap (λ (x : Graph). record { graph = x; locks = ls }) (r .0), r .1, r .2);
         accepted = λ z. rw (e, guarded-accepted g o fine k (q ∙ z)) (b z);
       }
 
-  pair-fine : (u k : ℕ) (b : Bool) → cond b (rewrite g (namedBy g u k ∷ u ∷ [])) (outcome (gained [] (pos 0) (pos 0)) g) .answer .number ≡ 0
+  pair-fine : (u k : ℕ) (b : Bool) → cond b (rewrite g ls (namedBy g u k ∷ u ∷ [])) (outcome (gained [] (pos 0) (pos 0)) g) .answer .number ≡ 0
   unfolding rewrite
   pair-fine u k true = refl
   pair-fine u k false = refl
 
-  node-made : (u : ℕ) → Made g (nodeAt u)
+  node-made : (u : ℕ) → Made d (nodeAt u)
   unfolding nodeCall nodeNumber rewrite
-  node-made u = made (nodeAt u) (nodeNumber g u) (rewrite g (u ∷ [])) refl refl (passed g adm (nodeFault g u)) (λ z. tt)
+  node-made u = made (nodeAt u) (nodeNumber g ls u) (rewrite g ls (u ∷ [])) refl refl (passed g adm ls ok (nodeFault g u)) (λ z. tt)
 
-  pair-made : (u k : ℕ) → Made g (pairAt u k)
+  pair-made : (u k : ℕ) → Made d (pairAt u k)
   unfolding pairCall pairNumber pairRewrite
   pair-made u k =
-      made (pairAt u k) (pairNumber g u k) (pairRewrite g u k) refl (pair-fine u k (isNode g (namedBy g u k)))
-      (passed g adm (first (nodeFault g u) (wordFault g u k))) (λ z. tt)
+      made (pairAt u k) (pairNumber g ls u k) (pairRewrite g ls u k) refl (pair-fine u k (isNode g (namedBy g u k)))
+      (passed g adm ls ok (first (nodeFault g u) (wordFault g u k))) (λ z. tt)
 
-  tree-made : (r : ℕ) (scratch : List ℕ) → Made g (treeAt r scratch)
+  tree-made : (r : ℕ) (scratch : List ℕ) → Made d (treeAt r scratch)
   unfolding treeCall treeNumber rewrite
   tree-made r scratch =
-      made (treeAt r scratch) (treeNumber g (length scratch) r) (rewrite g (tree g r)) refl refl
-      (passed g adm (first (nodeFault g r) (first (rootFault g r) (scratchFault g (length scratch)))))
-      (λ z ms f. best-lowest g adm (tree g r) ms f)
+      made (treeAt r scratch) (treeNumber g ls (length scratch) r) (rewrite g ls (tree g r)) refl refl
+      (passed g adm ls ok (first (nodeFault g r) (first (rootFault g r) (scratchFault g (length scratch)))))
+      (λ z ms f. best-lowest g ls adm (tree g r) ms f)
 
   enough : (scratch : List ℕ) → scratchFault g (length scratch) ≡ 0 → 8 * g .N ≤ length scratch
   unfolding scratchFault
   enough scratch e = off (length scratch) (8 * g .N) 7 0 e .0
 
-  settling-made : (scratch : List ℕ) → Made g (settling scratch)
+  settling-made : (scratch : List ℕ) → Made d (settling scratch)
   unfolding settleCall settleNumber
   settling-made scratch =
-      made (settling scratch) (settleNumber g (length scratch)) (settled g (settle (length scratch) g)) refl refl (passed g adm (scratchFault g (length scratch)))
+      made (settling scratch) (settleNumber g ls (length scratch)) (settled g (settle ls (length scratch) g)) refl refl (passed g adm ls ok (scratchFault g (length scratch)))
       (λ z.
-      let e = settle-ended (length scratch) g adm (enough scratch z) in
+      let e = settle-ended ls (length scratch) g adm ok (enough scratch z) in
       ((e .lowest), record { values = refl; signed = refl; few = e .few }))
 
-  pub call-made : (c : Call) → Made g c
+  pub call-made : (c : Call) → Made d c
   call-made (nodeAt u) = node-made u
   call-made (pairAt u k) = pair-made u k
   call-made (treeAt r scratch) = tree-made r scratch
@@ -104,26 +111,29 @@ module _ (g : Graph) (adm : Admitted g) where
   honest : (call : Graph → Outcome) → Honest call → Kind (call g)
   honest call h = record { keeps = h .keeps g adm; adds = h .adds g }
 
-  guarded-kind : (scratch : List ℕ) (k : ℕ) → (k ≡ 0 → 8 * g .N ≤ length scratch) → Kind (guarded k g (settled g (settle (length scratch) g)))
+  guarded-kind : (scratch : List ℕ) (k : ℕ) → (k ≡ 0 → 8 * g .N ≤ length scratch) → Kind (guarded k g (settled g (settle ls (length scratch) g)))
   unfolding guarded
-  guarded-kind scratch zero h = let e = settle-ended (length scratch) g adm (h refl) in record { keeps = e .keeps; adds = e .sums }
+  guarded-kind scratch zero h = let e = settle-ended ls (length scratch) g adm ok (h refl) in record { keeps = e .keeps; adds = e .sums }
   guarded-kind scratch (suc k) h =
       let z : C g - C g ≡ 0 = omega arith in
       record { keeps = rw z (kept-none g adm); adds = sym (no-difference (C g)) }
 
-  settling-kind : (scratch : List ℕ) → Kind (step g (settling scratch))
+  settling-kind : (scratch : List ℕ) → Kind (settleCall g ls (length scratch))
   unfolding settleCall settleNumber
   settling-kind scratch =
-      guarded-kind scratch (settleNumber g (length scratch)) (λ z. enough scratch (sym (passed g adm (scratchFault g (length scratch))) ∙ z))
+      guarded-kind scratch (settleNumber g ls (length scratch)) (λ z. enough scratch (sym (passed g adm ls ok (scratchFault g (length scratch))) ∙ z))
 
-  call-kind : (c : Call) → Kind (step g c)
-  call-kind (nodeAt u) = honest (λ x. nodeCall x u) (node-honest (λ x. u))
-  call-kind (pairAt u k) = honest (λ x. pairCall x u k) (pair-honest (λ x. u) k)
-  call-kind (treeAt r scratch) = honest (λ x. treeCall x (length scratch) r) (tree-honest (λ x. r) (length scratch))
-  call-kind (settling scratch) = settling-kind scratch
+  -- the same of a call of the list, which leaves the locks
+  pub record Keeps (c : Call) : Type 0 where
+    pub kept : Kept g (step d c .graph) (C g - C (step d c .graph))
+    pub adds : savingOf (step d c .answer) ≡ difference (C g) (C (step d c .graph))
+    pub locks : step d c .locks ≡ ls
 
-  pub call-kept : (c : Call) → Kept g (step g c .graph) (C g - C (step g c .graph))
-  call-kept c = call-kind c .keeps
+  keeps : (c : Call) → Kind (outcome (step d c .answer) (step d c .graph)) → step d c .locks ≡ ls → Keeps c
+  keeps c k e = record { kept = k .keeps; adds = k .adds; locks = e }
 
-  pub call-adds : (c : Call) → savingOf (step g c .answer) ≡ difference (C g) (C (step g c .graph))
-  call-adds c = call-kind c .adds
+  pub call-keeps : (c : Call) → Keeps c
+  call-keeps (nodeAt u) = keeps (nodeAt u) (honest (λ x. nodeCall x ls u) (node-honest ls (λ x. u))) refl
+  call-keeps (pairAt u k) = keeps (pairAt u k) (honest (λ x. pairCall x ls u k) (pair-honest ls (λ x. u) k)) refl
+  call-keeps (treeAt r scratch) = keeps (treeAt r scratch) (honest (λ x. treeCall x ls (length scratch) r) (tree-honest ls (λ x. r) (length scratch))) refl
+  call-keeps (settling scratch) = keeps (settling scratch) (settling-kind scratch) refl

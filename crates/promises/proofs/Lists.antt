@@ -1,60 +1,80 @@
 -- Demand 3: whatever the list of calls, from any admitted start. By induction over the list, from what each call does (Calls).
-use mathlib.Core.Path.{_≡_, sym, ap, _∙_}
+use mathlib.Core.Path.{_≡_, refl, sym, ap, _∙_}
 use mathlib.Core.List.{List, [], _∷_}
 use Prim.Native.Nat.{ℕ, _+_, _-_}
 use native.Mathlib.Omega.{arith}
 use lib.IntN.{ℤ, pos, _+ℤ_}
-use Rattle.graph.specs.Graph.{Graph}
 use Rattle.graph.specs.Count.{C}
 use Rattle.graph.specs.Difference.{difference}
 use Rattle.graph.proofs.Difference.{at-least}
 use Rattle.graph.proofs.DifferenceSum.{sum-is, telescope, no-difference}
-use Rattle.graph.specs.Admission.{Admitted}
+use Rattle.graph.specs.Admission.{Admitted, LockBytes}
 use Rattle.tagged_file.specs.Load.{loadCall}
-use Rattle.tagged_file.proofs.RoundTrip.{Accepts, load-admitted}
+use Rattle.tagged_file.proofs.RoundTrip.{Accepts, load-admitted, load-locks}
 use Rattle.aiger.specs.Import.{importCall}
-use Rattle.aiger.proofs.Imported.{import-admitted}
+use Rattle.aiger.proofs.Imported.{import-admitted, import-locks}
 use Rattle.moves.proofs.Kept.{Kept, kept-none, kept-then}
-use Rattle.promises.specs.Demand.{Call, step, run, savings, Demand}
-use Rattle.promises.proofs.Calls.{call-made, call-kept, call-adds}
+use Rattle.promises.specs.Demand.{Call, Locked, step, left, run, savings, Demand}
+use Rattle.promises.proofs.Calls.{call-made, call-keeps}
 
-list-kept : (g : Graph) → Admitted g → (calls : List Call) → Kept g (run g calls) (C g - C (run g calls))
-list-kept g adm [] = let z : C g - C g ≡ 0 = omega arith in rw z (kept-none g adm)
-list-kept g adm (c ∷ cs) =
-    let h = step g c .graph in
-    let k = call-kept g adm c in
-    let l = list-kept h (k .admitted) cs in
-    let z : C g - C (run h cs) ≡ (C g - C h) + (C h - C (run h cs)) = omega (arith, k .count, l .count) in
-    rw z (kept-then g h (run h cs) (C g - C h) (C h - C (run h cs)) k l)
+-- what a list keeps: the graph but for complement bits, and the locks
+record Kind (d : Locked) (calls : List Call) : Type 0 where
+  kept : Kept (d .graph) (run d calls .graph) (C (d .graph) - C (run d calls .graph))
+  locks : run d calls .locks ≡ d .locks
+
+-- locks that were admitted still are, where the number of nodes is the same
+still : (d e : Locked) → e .graph .N ≡ d .graph .N → e .locks ≡ d .locks → LockBytes (d .graph .N) (d .locks) → LockBytes (e .graph .N) (e .locks)
+still d e p q ok = rw (p, q) ok
+
+module _ (d : Locked) (adm : Admitted (d .graph)) (ok : LockBytes (d .graph .N) (d .locks)) (c : Call) where
+  next-admitted : Admitted (step d c .graph)
+  next-admitted = call-keeps d adm ok c .kept .admitted
+
+  next-locked : LockBytes (step d c .graph .N) (step d c .locks)
+  next-locked = let k = call-keeps d adm ok c in still d (left (step d c)) (k .kept .same-N) (k .locks) ok
+
+list-kind : (d : Locked) → Admitted (d .graph) → LockBytes (d .graph .N) (d .locks) → (calls : List Call) → Kind d calls
+list-kind d adm ok [] = let z : C (d .graph) - C (d .graph) ≡ 0 = omega arith in record { kept = rw z (kept-none (d .graph) adm); locks = refl }
+list-kind d adm ok (c ∷ cs) =
+    let g = d .graph in
+    let h = step d c .graph in
+    let e = run (left (step d c)) cs .graph in
+    let k = call-keeps d adm ok c in
+    let l = list-kind (left (step d c)) (next-admitted d adm ok c) (next-locked d adm ok c) cs in
+    let z : C g - C e ≡ (C g - C h) + (C h - C e) = omega (arith, k .kept .count, l .kept .count) in
+    record { kept = rw z (kept-then g h e (C g - C h) (C h - C e) (k .kept) (l .kept)); locks = l .locks ∙ k .locks }
 
 -- the running total is of both numbers together
-list-adds : (g : Graph) → Admitted g → (calls : List Call) → savings g calls ≡ difference (C g) (C (run g calls))
-list-adds g adm [] = sym (no-difference (C g))
-list-adds g adm (c ∷ cs) =
-    let h = step g c .graph in
-    ap (λ (x : ℤ). x +ℤ savings h cs) (call-adds g adm c) ∙
-    ap (λ (x : ℤ). difference (C g) (C h) +ℤ x) (list-adds h (call-kept g adm c .admitted) cs) ∙
-    telescope (C g) (C h) (C (run h cs))
+list-adds : (d : Locked) → Admitted (d .graph) → LockBytes (d .graph .N) (d .locks) → (calls : List Call) → savings d calls ≡ difference (C (d .graph)) (C (run d calls .graph))
+list-adds d adm ok [] = sym (no-difference (C (d .graph)))
+list-adds d adm ok (c ∷ cs) =
+    let e = left (step d c) in
+    ap (λ (x : ℤ). x +ℤ savings e cs) (call-keeps d adm ok c .adds) ∙
+    ap (λ (x : ℤ). difference (C (d .graph)) (C (e .graph)) +ℤ x) (list-adds e (next-admitted d adm ok c) (next-locked d adm ok c) cs) ∙
+    telescope (C (d .graph)) (C (e .graph)) (C (run e cs .graph))
 
 total : (c b : ℕ) (z : ℤ) → z ≡ difference b c → pos c +ℤ z ≡ pos b
 total c b z e =
     rw e
     (ap (λ (x : ℤ). x +ℤ difference b c) (sym (at-least c 0 c (omega arith))) ∙ sum-is c 0 b c b 0 (omega arith) ∙ at-least b 0 b (omega arith))
 
-pub demand : (g : Graph) → Admitted g → (calls : List Call) → Demand g calls
-demand g adm calls =
-    let k = list-kept g adm calls in
+pub demand : (d : Locked) → Admitted (d .graph) → LockBytes (d .graph .N) (d .locks) → (calls : List Call) → Demand d calls
+demand d adm ok calls =
+    let k = list-kind d adm ok calls in
     record {
-      each = λ before c after e. call-made (run g before) (list-kept g adm before .admitted) c;
-      wired = k .wired;
-      outputs = k .outputs;
-      count = total (C (run g calls)) (C g) (savings g calls) (list-adds g adm calls);
+      each = λ before c after e.
+          let l = list-kind d adm ok before in
+          call-made (run d before) (l .kept .admitted) (still d (run d before) (l .kept .same-N) (l .locks) ok) c;
+      wired = k .kept .wired;
+      locked = k .locks;
+      outputs = k .kept .outputs;
+      count = total (C (run d calls .graph)) (C (d .graph)) (savings d calls) (list-adds d adm ok calls);
     }
 
--- after an accepted load of the file s into the tables ns and os
-pub after-load : (s ns os : List ℕ) → Accepts s ns os → (calls : List Call) → Demand (loadCall s ns os .graph) calls
-after-load s ns os e calls = demand (loadCall s ns os .graph) (load-admitted s ns os e) calls
+-- after an accepted load of the file s into the tables ns and os and the lock bytes ls
+pub after-load : (s ns os ls : List ℕ) → Accepts s ns os ls → (calls : List Call) → Demand (left (loadCall s ns os ls)) calls
+after-load s ns os ls e calls = demand (left (loadCall s ns os ls)) (load-admitted s ns os ls e) (load-locks s ns os ls e) calls
 
 -- and after an accepted import of the text s
-pub after-import : (s ns os : List ℕ) → importCall s ns os .answer .number ≡ 0 → (calls : List Call) → Demand (importCall s ns os .graph) calls
-after-import s ns os e calls = demand (importCall s ns os .graph) (import-admitted s ns os e) calls
+pub after-import : (s ns os ls : List ℕ) → importCall s ns os ls .answer .number ≡ 0 → (calls : List Call) → Demand (left (importCall s ns os ls)) calls
+after-import s ns os ls e calls = demand (left (importCall s ns os ls)) (import-admitted s ns os ls e) (import-locks s ns os ls e) calls

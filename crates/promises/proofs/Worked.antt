@@ -1,14 +1,14 @@
 -- P1 to P10 hold of the definitions: by computation.
 use mathlib.Core.Path.{refl}
 use mathlib.Core.List.{flatMap}
-use Rattle.graph.specs.Finite.{tab, sum, count, ifLess, first, firstOf}
+use Rattle.graph.specs.Finite.{tab, sum, count, ifLess, ifEqual, first, firstOf}
 use Rattle.graph.specs.Graph.{turn, isXor, isEdge}
 use Rattle.graph.specs.Turned.{turnedTable, turnedBy}
 use Rattle.graph.specs.Count.{adds, wordAdds, nodeAdds, outputAdds, C, named, outputNamed, nodeReaders, readers}
-use Rattle.graph.specs.Admission.{roomNumber, tablesNumber, wordNumber, outputNumber, literalNumber, admissionNumber}
+use Rattle.graph.specs.Admission.{roomNumber, tablesNumber, wordNumber, outputNumber, literalNumber, lockNumber, locksNumber, contentNumber, admissionNumber}
 use Rattle.graph.specs.Answer.{guarded}
 use Rattle.choice.specs.Choice.{from, choices, unlessLess, least, best}
-use Rattle.moves.specs.Rows.{rows, firstRow, arity, flag, movesAt}
+use Rattle.moves.specs.Rows.{rows, firstRow, arity, flag, kindMoves, lockAt, movesAt}
 use Rattle.moves.specs.Apply.{at, put, seen, own, turns, outputTurns, apply}
 use Rattle.moves.specs.Tree.{isRoot, last, place, reader, rootIn, rootOf, members, tree}
 use Rattle.moves.specs.Call.{moved, movedC, bestAt, rewrite, isNode, nodeFault, wordFault, rootFault, scratchFault, nodeNumber, nodeCall, namedBy, pairNumber, pairRewrite, pairCall, treeNumber, treeCall}
@@ -19,5 +19,5 @@ use Rattle.rounds.specs.Settle.{settleIn, settle, settleNumber, settleCall}
 use Rattle.promises.specs.Worked.{Right}
 
 pub right : Right
-unfolding flatMap tab sum count ifLess first firstOf turn isXor isEdge adds wordAdds nodeAdds outputAdds C named outputNamed nodeReaders readers tablesNumber roomNumber wordNumber outputNumber literalNumber admissionNumber guarded from choices unlessLess least best rows firstRow arity flag movesAt at put seen own turns outputTurns turnedTable turnedBy apply isRoot last place reader rootIn rootOf members tree moved movedC bestAt rewrite isNode nodeFault wordFault rootFault scratchFault nodeNumber nodeCall namedBy pairNumber pairRewrite pairCall treeNumber treeCall difference among ownAdds otherAdds split start after each treeAt nodeAt pairAt pairsAt round settleIn settle settleNumber settleCall
+unfolding flatMap tab sum count ifLess ifEqual first firstOf turn isXor isEdge adds wordAdds nodeAdds outputAdds C named outputNamed nodeReaders readers tablesNumber roomNumber wordNumber outputNumber literalNumber lockNumber locksNumber contentNumber admissionNumber guarded from choices unlessLess least best rows firstRow arity flag kindMoves lockAt movesAt at put seen own turns outputTurns turnedTable turnedBy apply isRoot last place reader rootIn rootOf members tree moved movedC bestAt rewrite isNode nodeFault wordFault rootFault scratchFault nodeNumber nodeCall namedBy pairNumber pairRewrite pairCall treeNumber treeCall difference among ownAdds otherAdds split start after each treeAt nodeAt pairAt pairsAt round settleIn settle settleNumber settleCall
 right = refl

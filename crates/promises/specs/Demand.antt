@@ -8,8 +8,8 @@ use Rattle.graph.specs.Finite.{first}
 use Rattle.graph.specs.Graph.{Graph, wiring}
 use Rattle.graph.specs.Value.{Assignment, outputValue}
 use Rattle.graph.specs.Count.{C}
-use Rattle.graph.specs.Admission.{Admitted}
-use Rattle.graph.specs.Answer.{Outcome, savingOf}
+use Rattle.graph.specs.Admission.{Admitted, LockBytes}
+use Rattle.graph.specs.Answer.{Outcome, LockedOutcome, lockedOutcome, savingOf}
 use Rattle.choice.specs.Choice.{Fits}
 use Rattle.moves.specs.Rows.{movesAt}
 use Rattle.moves.specs.Tree.{tree}
@@ -23,22 +23,37 @@ pub data Call : Type 0 where
   treeAt : (root : ℕ) (scratch : List ℕ) → Call
   settling : (scratch : List ℕ) → Call
 
--- the outcome of a call: what its entry's contract says
-abbrev pub step : Graph → Call → Outcome
-step g (nodeAt u) = nodeCall g u
-step g (pairAt u k) = pairCall g u k
-step g (treeAt r scratch) = treeCall g (length scratch) r
-step g (settling scratch) = settleCall g (length scratch)
+-- a graph with its locks
+pub record Locked : Type 0 where
+  pub graph : Graph
+  pub locks : List ℕ
 
--- the graph after a list of calls, each made on the graph as the one before left it
-abbrev pub run : Graph → List Call → Graph
-run g [] = g
-run g (c ∷ cs) = run (step g c .graph) cs
+abbrev pub withLocks : Graph → List ℕ → Locked
+withLocks g ls = record { graph = g; locks = ls }
+
+-- the outcome of a call on it: what the call's entry says. Its locks are lent to be read, so that the call leaves them
+abbrev pub beside : Locked → Outcome → LockedOutcome
+beside d o = lockedOutcome (o .answer) (o .graph) (d .locks)
+
+abbrev pub step : Locked → Call → LockedOutcome
+step d (nodeAt u) = beside d (nodeCall (d .graph) (d .locks) u)
+step d (pairAt u k) = beside d (pairCall (d .graph) (d .locks) u k)
+step d (treeAt r scratch) = beside d (treeCall (d .graph) (d .locks) (length scratch) r)
+step d (settling scratch) = beside d (settleCall (d .graph) (d .locks) (length scratch))
+
+-- what it leaves for the next call
+abbrev pub left : LockedOutcome → Locked
+left o = withLocks (o .graph) (o .locks)
+
+-- the graph and the locks after a list of calls, each made on what the one before left
+abbrev pub run : Locked → List Call → Locked
+run d [] = d
+run d (c ∷ cs) = run (left (step d c)) cs
 
 -- all savings that the calls reported: both numbers of each, together
-abbrev pub savings : Graph → List Call → ℤ
-savings g [] = pos 0
-savings g (c ∷ cs) = savingOf (step g c .answer) +ℤ savings (step g c .graph) cs
+abbrev pub savings : Locked → List Call → ℤ
+savings d [] = pos 0
+savings d (c ∷ cs) = savingOf (step d c .answer) +ℤ savings (left (step d c)) cs
 
 -- what refuses a call on an admitted graph: 7 or 8, or nothing
 abbrev pub fault : Graph → Call → ℕ
@@ -48,33 +63,37 @@ fault g (treeAt r scratch) = first (nodeFault g r) (first (rootFault g r) (scrat
 fault g (settling scratch) = scratchFault g (length scratch)
 
 -- rounds as settling reports them: those of the definition, at most the fall plus one; and the sums over their calls
-pub record RoundsReported (g : Graph) (scratch : List ℕ) (o : Outcome) : Type 0 where
-  pub values : o .answer .values ≡ settle (length scratch) g .rounds ∷ C g ∷ C (o .graph) ∷ []
-  pub signed : o .answer .signed ≡ settle (length scratch) g .made .own ∷ settle (length scratch) g .made .others ∷ []
-  pub few : settle (length scratch) g .rounds ≤ (C g - C (o .graph)) + 1
+pub record RoundsReported (d : Locked) (scratch : List ℕ) (o : LockedOutcome) : Type 0 where
+  pub values : o .answer .values ≡ settle (d .locks) (length scratch) (d .graph) .rounds ∷ C (d .graph) ∷ C (o .graph) ∷ []
+  pub signed : o .answer .signed ≡ settle (d .locks) (length scratch) (d .graph) .made .own ∷ settle (d .locks) (length scratch) (d .graph) .made .others ∷ []
+  pub few : settle (d .locks) (length scratch) (d .graph) .rounds ≤ (C (d .graph) - C (o .graph)) + 1
 
--- what an accepted call on g promises beside: a tree call that every choice of moves at the tree's nodes, made on g, has at
--- least the C that it left; settling that no choice of moves at one node, on a pair or on a tree lowers C then
-abbrev pub Beside : Graph → Call → Outcome → Type 0
-Beside g (nodeAt u) o = Unit
-Beside g (pairAt u k) o = Unit
-Beside g (treeAt r scratch) o = (ms : List ℕ) → Fits (map (movesAt g) (tree g r)) ms → C (o .graph) ≤ C (moved g (tree g r) ms)
-Beside g (settling scratch) o = NothingLowers (o .graph) × RoundsReported g scratch o
+-- what an accepted call on d promises beside: a tree call that every choice of moves at the tree's nodes that leaves locked nodes
+-- alone, made on the graph before the call, has at least the C that it left; settling that no such choice at one node, on a pair or
+-- on a tree lowers C then
+abbrev pub Beside : Locked → Call → LockedOutcome → Type 0
+Beside d (nodeAt u) o = Unit
+Beside d (pairAt u k) o = Unit
+Beside d (treeAt r scratch) o =
+    (ms : List ℕ) → Fits (map (movesAt (d .graph) (d .locks)) (tree (d .graph) r)) ms → C (o .graph) ≤ C (moved (d .graph) (tree (d .graph) r) ms)
+Beside d (settling scratch) o = NothingLowers (o .graph) (o .locks) × RoundsReported d scratch o
 
--- a call on g, the graph as the load or the call before left it
-pub record Made (g : Graph) (c : Call) : Type 0 where
-  pub admitted : Admitted g
-  pub number : step g c .answer .number ≡ fault g c
-  pub refused : (fault g c ≡ 0 → ⊥) → (step g c .graph ≡ g) × (step g c .answer .values ≡ []) × (step g c .answer .signed ≡ [])
-  pub accepted : fault g c ≡ 0 → Beside g c (step g c)
+-- a call on d, the graph and the locks as the load or the call before left them
+pub record Made (d : Locked) (c : Call) : Type 0 where
+  pub admitted : Admitted (d .graph)
+  pub locked : LockBytes (d .graph .N) (d .locks)
+  pub number : step d c .answer .number ≡ fault (d .graph) c
+  pub refused : (fault (d .graph) c ≡ 0 → ⊥) → (left (step d c) ≡ d) × (step d c .answer .values ≡ []) × (step d c .answer .signed ≡ [])
+  pub accepted : fault (d .graph) c ≡ 0 → Beside d c (step d c)
 
--- demand 3 for a start g and a list of calls
-pub record Demand (g : Graph) (calls : List Call) : Type 0 where
+-- demand 3 for a start d and a list of calls
+pub record Demand (d : Locked) (calls : List Call) : Type 0 where
   -- every call of the list, after those before it
-  pub each : (before : List Call) (c : Call) (after : List Call) → calls ≡ before ++ (c ∷ after) → Made (run g before) c
-  -- the wiring is the loaded one
-  pub wired : wiring (run g calls) ≡ wiring g
+  pub each : (before : List Call) (c : Call) (after : List Call) → calls ≡ before ++ (c ∷ after) → Made (run d before) c
+  -- the wiring is the loaded one, and so are the locks
+  pub wired : wiring (run d calls .graph) ≡ wiring (d .graph)
+  pub locked : run d calls .locks ≡ d .locks
   -- every output has, under every assignment, its loaded value
-  pub outputs : (a : Assignment) (j : ℕ) → j < g .O → outputValue (run g calls) a j ≡ outputValue g a j
+  pub outputs : (a : Assignment) (j : ℕ) → j < d .graph .O → outputValue (run d calls .graph) a j ≡ outputValue (d .graph) a j
   -- C is the loaded number less all savings that the calls reported
-  pub count : pos (C (run g calls)) +ℤ savings g calls ≡ pos (C g)
+  pub count : pos (C (run d calls .graph)) +ℤ savings d calls ≡ pos (C (d .graph))

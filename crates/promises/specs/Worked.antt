@@ -1,6 +1,6 @@
--- Document 01's worked graphs P1 to P10, with P7 as request M-101 has it and two rows of that request, as rows: a graph, a call on it,
--- the nodes concerned and the moves that are best there, the answer with both numbers of the saving (request M-104), the graph
--- afterwards, and C before and after.
+-- Document 01's worked graphs P1 to P10, with P7 as request M-101 has it and two rows of that request, and P2 and P3 with locks (M-105),
+-- as rows: a graph, its locks, a call on it, the nodes concerned and the moves that are best there, the answer with both numbers of
+-- the saving (M-104), the graph afterwards, and C before and after.
 use mathlib.Core.Path.{_≡_}
 use mathlib.Core.List.{List, [], _∷_, map}
 use Prim.Native.Nat.{ℕ}
@@ -8,12 +8,13 @@ use lib.IntN.{ℤ, pos}
 use Rattle.graph.specs.Finite.{tab}
 use Rattle.graph.specs.Graph.{Graph, graphOf, mark}
 use Rattle.graph.specs.Count.{C}
-use Rattle.graph.specs.Answer.{Answer, gained, Outcome, outcome}
+use Rattle.graph.specs.Answer.{Answer, gained, LockedOutcome, lockedOutcome}
 use Rattle.moves.specs.Call.{bestAt}
 use Rattle.promises.specs.Demand.{Call, nodeAt, pairAt, treeAt, settling, step}
 
 pub record Row : Type 0 where
   pub graph : Graph
+  pub locks : List ℕ
   pub call : Call
   pub nodes : List ℕ
   pub moves : List ℕ
@@ -26,44 +27,66 @@ pub record Row : Type 0 where
 abbrev scratch : List ℕ
 scratch = tab 16 (λ j. 0)
 
-abbrev row : Graph → Call → List ℕ → List ℕ → List ℕ → ℤ → ℤ → Graph → ℕ → ℕ → Row
-row g c us ms vs own others h b a =
-    record { graph = g; call = c; nodes = us; moves = ms; answer = gained vs own others; after = h; before-C = b; after-C = a }
+abbrev row : Graph → List ℕ → Call → List ℕ → List ℕ → List ℕ → ℤ → ℤ → Graph → ℕ → ℕ → Row
+row g ls c us ms vs own others h b a =
+    record { graph = g; locks = ls; call = c; nodes = us; moves = ms; answer = gained vs own others; after = h; before-C = b; after-C = a }
+
+-- the locks of two nodes: none, the lower one, the upper one
+abbrev free : List ℕ
+free = 0 ∷ 0 ∷ []
+
+abbrev lower : List ℕ
+lower = 1 ∷ 0 ∷ []
+
+abbrev upper : List ℕ
+upper = 0 ∷ 1 ∷ []
+
+abbrev p2 : Graph
+p2 = graphOf 5 2 1 (3 ∷ 5 ∷ 6 ∷ 13 ∷ 8 ∷ 11 ∷ []) (14 ∷ [])
+
+-- P2 and P3 afterwards
+abbrev p2-after : Graph
+p2-after = graphOf 5 2 1 (2 ∷ 4 ∷ 7 ∷ 12 ∷ 8 ∷ 11 ∷ []) (14 ∷ [])
 
 abbrev p3 : Graph
 p3 = graphOf 5 2 1 (3 ∷ 5 ∷ 6 ∷ 12 ∷ 9 ∷ 10 ∷ []) (15 ∷ [])
 
 abbrev pub worked : List Row
 worked =
-    row (graphOf 3 1 1 (3 ∷ 5 ∷ 7 ∷ []) (9 ∷ [])) (nodeAt 4) (4 ∷ []) (1 ∷ []) [] (pos 3) (pos 1) (graphOf 3 1 1 (2 ∷ 4 ∷ 6 ∷ []) (8 ∷ [])) 4 0
-    ∷ row (graphOf 5 2 1 (3 ∷ 5 ∷ 6 ∷ 13 ∷ 8 ∷ 11 ∷ []) (14 ∷ [])) (treeAt 7 scratch) (7 ∷ 6 ∷ []) (0 ∷ 1 ∷ []) [] (pos 2) (pos 0)
-    (graphOf 5 2 1 (2 ∷ 4 ∷ 7 ∷ 12 ∷ 8 ∷ 11 ∷ []) (14 ∷ [])) 4 2
-    ∷ row p3 (pairAt 7 1) (6 ∷ 7 ∷ []) (1 ∷ 1 ∷ []) [] (pos 1) (pos 1) (graphOf 5 2 1 (2 ∷ 4 ∷ 7 ∷ 12 ∷ 8 ∷ 11 ∷ []) (14 ∷ [])) 4 2
-    ∷ row p3 (nodeAt 6) (6 ∷ []) (0 ∷ []) [] (pos 0) (pos 0) p3 4 4
-    ∷ row p3 (nodeAt 7) (7 ∷ []) (0 ∷ []) [] (pos 0) (pos 0) p3 4 4
-    ∷ row (graphOf 2 1 1 (3 ∷ 5 ∷ mark ∷ []) (6 ∷ [])) (nodeAt 3) (3 ∷ []) (1 ∷ []) [] (pos 2) (pos 0) (graphOf 2 1 1 (2 ∷ 4 ∷ mark ∷ []) (6 ∷ [])) 2 0
-    ∷ row (graphOf 2 1 1 (3 ∷ 4 ∷ mark ∷ []) (7 ∷ [])) (nodeAt 3) (3 ∷ []) (2 ∷ []) [] (pos 1) (pos 1) (graphOf 2 1 1 (2 ∷ 4 ∷ mark ∷ []) (6 ∷ [])) 2 0
-    ∷ row (graphOf 2 1 1 (0 ∷ 3 ∷ 5 ∷ []) (6 ∷ [])) (nodeAt 3) (3 ∷ []) (0 ∷ []) [] (pos 0) (pos 0) (graphOf 2 1 1 (0 ∷ 3 ∷ 5 ∷ []) (6 ∷ [])) 2 2
-    ∷ row (graphOf 2 1 1 (2 ∷ 2 ∷ 5 ∷ []) (6 ∷ [])) (treeAt 3 scratch) (3 ∷ []) (0 ∷ []) [] (pos 0) (pos 0) (graphOf 2 1 1 (2 ∷ 2 ∷ 5 ∷ []) (6 ∷ [])) 1 1
-    ∷ row (graphOf 3 1 2 (3 ∷ 5 ∷ 6 ∷ []) (9 ∷ 8 ∷ [])) (nodeAt 4) (4 ∷ []) (1 ∷ []) [] (pos 1) (pos 0) (graphOf 3 1 2 (2 ∷ 4 ∷ 7 ∷ []) (8 ∷ 9 ∷ [])) 3 2
-    ∷ row (graphOf 1 0 1 [] (3 ∷ [])) (settling []) [] [] (1 ∷ 1 ∷ 1 ∷ []) (pos 0) (pos 0) (graphOf 1 0 1 [] (3 ∷ [])) 1 1
-    ∷ row (graphOf 1 1 1 (1 ∷ 2 ∷ mark ∷ []) (4 ∷ [])) (nodeAt 2) (2 ∷ []) (0 ∷ []) [] (pos 0) (pos 0) (graphOf 1 1 1 (1 ∷ 2 ∷ mark ∷ []) (4 ∷ [])) 1 1
-    ∷ row (graphOf 1 0 1 [] (1 ∷ [])) (settling []) [] [] (1 ∷ 1 ∷ 1 ∷ []) (pos 0) (pos 0) (graphOf 1 0 1 [] (1 ∷ [])) 1 1
+    row (graphOf 3 1 1 (3 ∷ 5 ∷ 7 ∷ []) (9 ∷ [])) (0 ∷ []) (nodeAt 4) (4 ∷ []) (1 ∷ []) [] (pos 3) (pos 1) (graphOf 3 1 1 (2 ∷ 4 ∷ 6 ∷ []) (8 ∷ [])) 4 0
+    ∷ row p2 free (treeAt 7 scratch) (7 ∷ 6 ∷ []) (0 ∷ 1 ∷ []) [] (pos 2) (pos 0) p2-after 4 2
+    ∷ row p3 free (pairAt 7 1) (6 ∷ 7 ∷ []) (1 ∷ 1 ∷ []) [] (pos 1) (pos 1) p2-after 4 2
+    ∷ row p3 free (nodeAt 6) (6 ∷ []) (0 ∷ []) [] (pos 0) (pos 0) p3 4 4
+    ∷ row p3 free (nodeAt 7) (7 ∷ []) (0 ∷ []) [] (pos 0) (pos 0) p3 4 4
+    ∷ row (graphOf 2 1 1 (3 ∷ 5 ∷ mark ∷ []) (6 ∷ [])) (0 ∷ []) (nodeAt 3) (3 ∷ []) (1 ∷ []) [] (pos 2) (pos 0) (graphOf 2 1 1 (2 ∷ 4 ∷ mark ∷ []) (6 ∷ [])) 2 0
+    ∷ row (graphOf 2 1 1 (3 ∷ 4 ∷ mark ∷ []) (7 ∷ [])) (0 ∷ []) (nodeAt 3) (3 ∷ []) (2 ∷ []) [] (pos 1) (pos 1) (graphOf 2 1 1 (2 ∷ 4 ∷ mark ∷ []) (6 ∷ [])) 2 0
+    ∷ row (graphOf 2 1 1 (0 ∷ 3 ∷ 5 ∷ []) (6 ∷ [])) (0 ∷ []) (nodeAt 3) (3 ∷ []) (0 ∷ []) [] (pos 0) (pos 0) (graphOf 2 1 1 (0 ∷ 3 ∷ 5 ∷ []) (6 ∷ [])) 2 2
+    ∷ row (graphOf 2 1 1 (2 ∷ 2 ∷ 5 ∷ []) (6 ∷ [])) (0 ∷ []) (treeAt 3 scratch) (3 ∷ []) (0 ∷ []) [] (pos 0) (pos 0) (graphOf 2 1 1 (2 ∷ 2 ∷ 5 ∷ []) (6 ∷ [])) 1 1
+    ∷ row (graphOf 3 1 2 (3 ∷ 5 ∷ 6 ∷ []) (9 ∷ 8 ∷ [])) (0 ∷ []) (nodeAt 4) (4 ∷ []) (1 ∷ []) [] (pos 1) (pos 0) (graphOf 3 1 2 (2 ∷ 4 ∷ 7 ∷ []) (8 ∷ 9 ∷ [])) 3 2
+    ∷ row (graphOf 1 0 1 [] (3 ∷ [])) [] (settling []) [] [] (1 ∷ 1 ∷ 1 ∷ []) (pos 0) (pos 0) (graphOf 1 0 1 [] (3 ∷ [])) 1 1
+    ∷ row (graphOf 1 1 1 (1 ∷ 2 ∷ mark ∷ []) (4 ∷ [])) (0 ∷ []) (nodeAt 2) (2 ∷ []) (0 ∷ []) [] (pos 0) (pos 0) (graphOf 1 1 1 (1 ∷ 2 ∷ mark ∷ []) (4 ∷ [])) 1 1
+    ∷ row (graphOf 1 0 1 [] (1 ∷ [])) [] (settling []) [] [] (1 ∷ 1 ∷ 1 ∷ []) (pos 0) (pos 0) (graphOf 1 0 1 [] (1 ∷ [])) 1 1
+    ∷ row p2 lower (treeAt 7 scratch) (7 ∷ 6 ∷ []) (0 ∷ 0 ∷ []) [] (pos 0) (pos 0) p2 4 4
+    ∷ row p2 upper (treeAt 7 scratch) (7 ∷ 6 ∷ []) (0 ∷ 1 ∷ []) [] (pos 2) (pos 0) p2-after 4 2
+    ∷ row p3 lower (pairAt 7 1) (6 ∷ 7 ∷ []) (0 ∷ 0 ∷ []) [] (pos 0) (pos 0) p3 4 4
+    ∷ row p3 upper (pairAt 7 1) (6 ∷ 7 ∷ []) (0 ∷ 0 ∷ []) [] (pos 0) (pos 0) p3 4 4
+    ∷ row p2 upper (settling scratch) [] [] (2 ∷ 4 ∷ 2 ∷ []) (pos 2) (pos 0) p2-after 4 2
     ∷ []
 
 -- what a row says, and what the definitions give
 pub record Said : Type 0 where
-  pub result : Outcome
+  pub result : LockedOutcome
   pub moves : List ℕ
   pub before-C : ℕ
   pub after-C : ℕ
 
 abbrev pub stated : Row → Said
-stated r = record { result = outcome (r .answer) (r .after); moves = r .moves; before-C = r .before-C; after-C = r .after-C }
+stated r = record { result = lockedOutcome (r .answer) (r .after) (r .locks); moves = r .moves; before-C = r .before-C; after-C = r .after-C }
 
 abbrev pub computed : Row → Said
 computed r =
-    record { result = step (r .graph) (r .call); moves = bestAt (r .graph) (r .nodes); before-C = C (r .graph); after-C = C (step (r .graph) (r .call) .graph) }
+    let o = step (record { graph = r .graph; locks = r .locks }) (r .call) in
+    record { result = o; moves = bestAt (r .graph) (r .locks) (r .nodes); before-C = C (r .graph); after-C = C (o .graph) }
 
 -- every row is so
 abbrev pub Right : Type 0

@@ -6,7 +6,7 @@ use Prim.Native.Nat.{ℕ, zero, suc}
 use native.Mathlib.Omega.{arith}
 use lib.IntN.{ℤ}
 use lib.ListN.{length, getD, take, drop}
-use Rattle.graph.specs.Graph.{Graph, graphOf}
+use Rattle.graph.specs.Graph.{graphOf}
 use Rattle.graph.specs.Answer.{Answer, accepted, unless, ScratchKept}
 use Rattle.graph.proofs.Tests.{equal}
 use Rattle.graph.proofs.Answers.{accepted-is}
@@ -16,7 +16,7 @@ use Rattle.tagged_file.specs.declared.Loaded.the-variants as loaded
 use Rattle.tagged_file.specs.Load.{loadedGraph}
 use Rattle.answers.specs.Told.{told}
 use Rattle.answers.proofs.Same.{same-told}
-use Rattle.promises.specs.Demand.{Call}
+use Rattle.promises.specs.Demand.{Call, Locked, withLocks}
 use Rattle.replay.specs.declared.Replayed.{Replayed}
 use Rattle.replay.specs.declared.Replayed.the-variants as replayed
 use Rattle.replay.specs.declared.CallsFault.the-variants.{LeftOver, UnknownKind}
@@ -48,13 +48,13 @@ replayed-outputs (replayed.NotCalls f) ns os = refl
 replayed-outputs (replayed.Refused r) ns os = refl
 
 -- the graph of an accepted replay is that of the numbers told
-pub replayed-demand : (r : Replayed) (g : Graph) (cs : List Call) (ns os : List ℕ) (l : List ℤ) (before m : List ℕ) → m ≡ told (replayedAnswer r) before
-    → (replayedAnswer r .number ≡ 0 → DemandMet g cs (replayedGraph r ns os) l) → replayedAnswer r .number ≡ 0
-    → DemandMet g cs (graphOf (getD m 0 0) (getD m 1 0) (getD m 2 0) ns os) l
-replayed-demand (replayed.Done i n o) g cs ns os l before m e h z = rw e (h z)
-replayed-demand (replayed.NotCalls LeftOver) g cs ns os l before m e h z = absurd (omega arith)
-replayed-demand (replayed.NotCalls UnknownKind) g cs ns os l before m e h z = absurd (omega arith)
-replayed-demand (replayed.Refused r) g cs ns os l before m e h z = absurd (number-some r z)
+pub replayed-demand : (r : Replayed) (d : Locked) (cs : List Call) (ns os ls : List ℕ) (l : List ℤ) (before m : List ℕ) → m ≡ told (replayedAnswer r) before
+    → (replayedAnswer r .number ≡ 0 → DemandMet d cs (withLocks (replayedGraph r ns os) ls) l) → replayedAnswer r .number ≡ 0
+    → DemandMet d cs (withLocks (graphOf (getD m 0 0) (getD m 1 0) (getD m 2 0) ns os) ls) l
+replayed-demand (replayed.Done i n o) d cs ns os ls l before m e h z = rw e (h z)
+replayed-demand (replayed.NotCalls LeftOver) d cs ns os ls l before m e h z = absurd (omega arith)
+replayed-demand (replayed.NotCalls UnknownKind) d cs ns os ls l before m e h z = absurd (omega arith)
+replayed-demand (replayed.Refused r) d cs ns os ls l before m e h z = absurd (number-some r z)
 
 -- the stretch that a field call tells of is the payload
 take-again : (m : ℕ) (l : List ℕ) → take (length (take m l)) l ≡ take m l

@@ -17,6 +17,7 @@ ghost use Rattle.preview.specs.Preview.{previewAnswer, previewBytes};
 ghost use Rattle.moves.specs.Trial.{trialCall};
 ghost use Rattle.rounds.specs.Settle.{settleCall};
 ghost use Rattle.answers.specs.Told.{told, toldOne, toldSigned, toldGain};
+ghost use Rattle.promises.specs.Demand.{withLocks, left};
 ghost use Rattle.replay.specs.Replay.{decode, replayCall, answersAfter, DemandMet};
 ghost use Rattle.reducer.specs.Interface.{fieldAnswer};
 
@@ -32,38 +33,42 @@ pub extern "C" fn reducer_field(bytes: &[u8], payload: &mut [usize; 2]) -> u32
     number
 }
 
-// Fills the tables, and `numbers` with I, N and O.
+// Fills the tables and the locks, and `numbers` with I, N and O.
 #[no_mangle]
 pub extern "C" fn reducer_load(
     file: &[u8],
     node_table: &mut [u32],
     output_table: &mut [u32],
+    locks: &mut [u8],
     numbers: &mut [u32; 3],
 ) -> u32
-    ensures answer { λ r. ⌜ r ≡ loadCall (now (file .entry)) (now («node_table» .entry)) (now («output_table» .entry)) .answer .number ⌝ }
-    ensures nodes { λ r. ⌜ now («node_table» .exit) ≡ loadCall (now (file .entry)) (now («node_table» .entry)) (now («output_table» .entry)) .graph .nodes ⌝ }
-    ensures outputs { λ r. ⌜ now («output_table» .exit) ≡ loadCall (now (file .entry)) (now («node_table» .entry)) (now («output_table» .entry)) .graph .outputs ⌝ }
-    ensures numbers { λ r. ⌜ now (numbers .exit) ≡ told (loadCall (now (file .entry)) (now («node_table» .entry)) (now («output_table» .entry)) .answer) (now (numbers .entry)) ⌝ }
+    ensures answer { λ r. ⌜ r ≡ loadCall (now (file .entry)) (now («node_table» .entry)) (now («output_table» .entry)) (now (locks .entry)) .answer .number ⌝ }
+    ensures nodes { λ r. ⌜ now («node_table» .exit) ≡ loadCall (now (file .entry)) (now («node_table» .entry)) (now («output_table» .entry)) (now (locks .entry)) .graph .nodes ⌝ }
+    ensures outputs { λ r. ⌜ now («output_table» .exit) ≡ loadCall (now (file .entry)) (now («node_table» .entry)) (now («output_table» .entry)) (now (locks .entry)) .graph .outputs ⌝ }
+    ensures locks { λ r. ⌜ now (locks .exit) ≡ loadCall (now (file .entry)) (now («node_table» .entry)) (now («output_table» .entry)) (now (locks .entry)) .locks ⌝ }
+    ensures numbers { λ r. ⌜ now (numbers .exit) ≡ told (loadCall (now (file .entry)) (now («node_table» .entry)) (now («output_table» .entry)) (now (locks .entry)) .answer) (now (numbers .entry)) ⌝ }
 {
-    let answer = tagged_file::load(file, node_table, output_table);
+    let answer = tagged_file::load(file, node_table, output_table, locks);
     *numbers = answers::told::loaded_told(answer, *numbers);
     answers::told::loaded_number(answer)
 }
 
-// Fills the tables from ASCII AIGER, and `numbers` with I, N and O.
+// Fills the tables from ASCII AIGER, frees every node, and fills `numbers` with I, N and O.
 #[no_mangle]
 pub extern "C" fn reducer_import(
     text: &[u8],
     node_table: &mut [u32],
     output_table: &mut [u32],
+    locks: &mut [u8],
     numbers: &mut [u32; 3],
 ) -> u32
-    ensures answer { λ r. ⌜ r ≡ importCall (now (text .entry)) (now («node_table» .entry)) (now («output_table» .entry)) .answer .number ⌝ }
-    ensures nodes { λ r. ⌜ now («node_table» .exit) ≡ importCall (now (text .entry)) (now («node_table» .entry)) (now («output_table» .entry)) .graph .nodes ⌝ }
-    ensures outputs { λ r. ⌜ now («output_table» .exit) ≡ importCall (now (text .entry)) (now («node_table» .entry)) (now («output_table» .entry)) .graph .outputs ⌝ }
-    ensures numbers { λ r. ⌜ now (numbers .exit) ≡ told (importCall (now (text .entry)) (now («node_table» .entry)) (now («output_table» .entry)) .answer) (now (numbers .entry)) ⌝ }
+    ensures answer { λ r. ⌜ r ≡ importCall (now (text .entry)) (now («node_table» .entry)) (now («output_table» .entry)) (now (locks .entry)) .answer .number ⌝ }
+    ensures nodes { λ r. ⌜ now («node_table» .exit) ≡ importCall (now (text .entry)) (now («node_table» .entry)) (now («output_table» .entry)) (now (locks .entry)) .graph .nodes ⌝ }
+    ensures outputs { λ r. ⌜ now («output_table» .exit) ≡ importCall (now (text .entry)) (now («node_table» .entry)) (now («output_table» .entry)) (now (locks .entry)) .graph .outputs ⌝ }
+    ensures locks { λ r. ⌜ now (locks .exit) ≡ importCall (now (text .entry)) (now («node_table» .entry)) (now («output_table» .entry)) (now (locks .entry)) .locks ⌝ }
+    ensures numbers { λ r. ⌜ now (numbers .exit) ≡ told (importCall (now (text .entry)) (now («node_table» .entry)) (now («output_table» .entry)) (now (locks .entry)) .answer) (now (numbers .entry)) ⌝ }
 {
-    let answer = aiger_import::import(text, node_table, output_table);
+    let answer = aiger_import::import(text, node_table, output_table, locks);
     *numbers = answers::told::loaded_told(answer, *numbers);
     answers::told::loaded_number(answer)
 }
@@ -76,14 +81,23 @@ pub extern "C" fn reducer_write(
     outputs: u32,
     node_table: &[u32],
     output_table: &[u32],
+    locks: &[u8],
     buffer: &mut [u8],
     length: &mut usize,
 ) -> u32
-    ensures answer { λ r. ⌜ r ≡ writeCall (graphOf inputs nodes outputs (now («node_table» .entry)) (now («output_table» .entry))) (now (buffer .entry)) .answer .number ⌝ }
-    ensures buffer { λ r. ⌜ now (buffer .exit) ≡ writeCall (graphOf inputs nodes outputs (now («node_table» .entry)) (now («output_table» .entry))) (now (buffer .entry)) .buffer ⌝ }
-    ensures size { λ r. ⌜ now (length .exit) ≡ toldOne (writeCall (graphOf inputs nodes outputs (now («node_table» .entry)) (now («output_table» .entry))) (now (buffer .entry)) .answer) (now (length .entry)) ⌝ }
+    ensures answer { λ r. ⌜ r ≡ writeCall (graphOf inputs nodes outputs (now («node_table» .entry)) (now («output_table» .entry))) (now (locks .entry)) (now (buffer .entry)) .answer .number ⌝ }
+    ensures buffer { λ r. ⌜ now (buffer .exit) ≡ writeCall (graphOf inputs nodes outputs (now («node_table» .entry)) (now («output_table» .entry))) (now (locks .entry)) (now (buffer .entry)) .buffer ⌝ }
+    ensures size { λ r. ⌜ now (length .exit) ≡ toldOne (writeCall (graphOf inputs nodes outputs (now («node_table» .entry)) (now («output_table» .entry))) (now (locks .entry)) (now (buffer .entry)) .answer) (now (length .entry)) ⌝ }
 {
-    let answer = tagged_file::write(inputs, nodes, outputs, node_table, output_table, buffer);
+    let answer = tagged_file::write(
+        inputs,
+        nodes,
+        outputs,
+        node_table,
+        output_table,
+        locks,
+        buffer,
+    );
     *length = answers::told::written_told(answer, *length);
     answers::told::written_number(answer)
 }
@@ -96,14 +110,15 @@ pub extern "C" fn reducer_export(
     outputs: u32,
     node_table: &[u32],
     output_table: &[u32],
+    locks: &[u8],
     scratch: &mut [u32],
     buffer: &mut [u8],
     length: &mut usize,
 ) -> u32
-    ensures answer { λ r. ⌜ r ≡ exportCall (graphOf inputs nodes outputs (now («node_table» .entry)) (now («output_table» .entry))) (now (scratch .entry)) (now (buffer .entry)) .answer .number ⌝ }
-    ensures buffer { λ r. ⌜ now (buffer .exit) ≡ exportCall (graphOf inputs nodes outputs (now («node_table» .entry)) (now («output_table» .entry))) (now (scratch .entry)) (now (buffer .entry)) .buffer ⌝ }
-    ensures size { λ r. ⌜ now (length .exit) ≡ toldOne (exportCall (graphOf inputs nodes outputs (now («node_table» .entry)) (now («output_table» .entry))) (now (scratch .entry)) (now (buffer .entry)) .answer) (now (length .entry)) ⌝ }
-    ensures scratch { λ r. ⌜ ScratchKept (exportCall (graphOf inputs nodes outputs (now («node_table» .entry)) (now («output_table» .entry))) (now (scratch .entry)) (now (buffer .entry)) .answer) (now (scratch .entry)) (now (scratch .exit)) ⌝ }
+    ensures answer { λ r. ⌜ r ≡ exportCall (graphOf inputs nodes outputs (now («node_table» .entry)) (now («output_table» .entry))) (now (locks .entry)) (now (scratch .entry)) (now (buffer .entry)) .answer .number ⌝ }
+    ensures buffer { λ r. ⌜ now (buffer .exit) ≡ exportCall (graphOf inputs nodes outputs (now («node_table» .entry)) (now («output_table» .entry))) (now (locks .entry)) (now (scratch .entry)) (now (buffer .entry)) .buffer ⌝ }
+    ensures size { λ r. ⌜ now (length .exit) ≡ toldOne (exportCall (graphOf inputs nodes outputs (now («node_table» .entry)) (now («output_table» .entry))) (now (locks .entry)) (now (scratch .entry)) (now (buffer .entry)) .answer) (now (length .entry)) ⌝ }
+    ensures scratch { λ r. ⌜ ScratchKept (exportCall (graphOf inputs nodes outputs (now («node_table» .entry)) (now («output_table» .entry))) (now (locks .entry)) (now (scratch .entry)) (now (buffer .entry)) .answer) (now (scratch .entry)) (now (scratch .exit)) ⌝ }
 {
     let answer = aiger_export::export(
         inputs,
@@ -111,6 +126,7 @@ pub extern "C" fn reducer_export(
         outputs,
         node_table,
         output_table,
+        locks,
         scratch,
         buffer,
     );
@@ -126,13 +142,14 @@ pub extern "C" fn reducer_evaluate(
     outputs: u32,
     node_table: &[u32],
     output_table: &[u32],
+    locks: &[u8],
     input_words: &[u64],
     scratch: &mut [u64],
     results: &mut [u64],
 ) -> u32
-    ensures answer { λ r. ⌜ r ≡ unless (evaluateNumber (graphOf inputs nodes outputs (now («node_table» .entry)) (now («output_table» .entry))) (length (now («input_words» .entry))) (length (now (scratch .entry))) (length (now (results .entry)))) (accepted []) .number ⌝ }
-    ensures results { λ r. ⌜ now (results .exit) ≡ resultsAfter (graphOf inputs nodes outputs (now («node_table» .entry)) (now («output_table» .entry))) (now («input_words» .entry)) (length (now (scratch .entry))) (now (results .entry)) ⌝ }
-    ensures scratch { λ r. ⌜ ScratchKept (unless (evaluateNumber (graphOf inputs nodes outputs (now («node_table» .entry)) (now («output_table» .entry))) (length (now («input_words» .entry))) (length (now (scratch .entry))) (length (now (results .entry)))) (accepted [])) (now (scratch .entry)) (now (scratch .exit)) ⌝ }
+    ensures answer { λ r. ⌜ r ≡ unless (evaluateNumber (graphOf inputs nodes outputs (now («node_table» .entry)) (now («output_table» .entry))) (now (locks .entry)) (length (now («input_words» .entry))) (length (now (scratch .entry))) (length (now (results .entry)))) (accepted []) .number ⌝ }
+    ensures results { λ r. ⌜ now (results .exit) ≡ resultsAfter (graphOf inputs nodes outputs (now («node_table» .entry)) (now («output_table» .entry))) (now (locks .entry)) (now («input_words» .entry)) (length (now (scratch .entry))) (now (results .entry)) ⌝ }
+    ensures scratch { λ r. ⌜ ScratchKept (unless (evaluateNumber (graphOf inputs nodes outputs (now («node_table» .entry)) (now («output_table» .entry))) (now (locks .entry)) (length (now («input_words» .entry))) (length (now (scratch .entry))) (length (now (results .entry)))) (accepted [])) (now (scratch .entry)) (now (scratch .exit)) ⌝ }
 {
     answers::told::evaluated_number(evaluation::evaluate(
         inputs,
@@ -140,6 +157,7 @@ pub extern "C" fn reducer_evaluate(
         outputs,
         node_table,
         output_table,
+        locks,
         input_words,
         scratch,
         results,
@@ -154,12 +172,13 @@ pub extern "C" fn reducer_count(
     outputs: u32,
     node_table: &[u32],
     output_table: &[u32],
+    locks: &[u8],
     count: &mut u32,
 ) -> u32
-    ensures answer { λ r. ⌜ r ≡ unless (admissionNumber (graphOf inputs nodes outputs (now («node_table» .entry)) (now («output_table» .entry)))) (accepted (C (graphOf inputs nodes outputs (now («node_table» .entry)) (now («output_table» .entry))) ∷ [])) .number ⌝ }
-    ensures count { λ r. ⌜ now (count .exit) ≡ toldOne (unless (admissionNumber (graphOf inputs nodes outputs (now («node_table» .entry)) (now («output_table» .entry)))) (accepted (C (graphOf inputs nodes outputs (now («node_table» .entry)) (now («output_table» .entry))) ∷ []))) (now (count .entry)) ⌝ }
+    ensures answer { λ r. ⌜ r ≡ unless (admissionNumber (graphOf inputs nodes outputs (now («node_table» .entry)) (now («output_table» .entry))) (now (locks .entry))) (accepted (C (graphOf inputs nodes outputs (now («node_table» .entry)) (now («output_table» .entry))) ∷ [])) .number ⌝ }
+    ensures count { λ r. ⌜ now (count .exit) ≡ toldOne (unless (admissionNumber (graphOf inputs nodes outputs (now («node_table» .entry)) (now («output_table» .entry))) (now (locks .entry))) (accepted (C (graphOf inputs nodes outputs (now («node_table» .entry)) (now («output_table» .entry))) ∷ []))) (now (count .entry)) ⌝ }
 {
-    let answer = graph::complemented_edges(inputs, nodes, outputs, node_table, output_table);
+    let answer = graph::complemented_edges(inputs, nodes, outputs, node_table, output_table, locks);
     *count = answers::told::count_told(answer, *count);
     answers::told::count_number(answer)
 }
@@ -172,14 +191,23 @@ pub extern "C" fn reducer_node(
     outputs: u32,
     node_table: &mut [u32],
     output_table: &mut [u32],
+    locks: &[u8],
     node: u32,
     saving: &mut [i64; 2],
 ) -> u32
-    ensures answer { λ r. ⌜ r ≡ nodeCall (graphOf inputs nodes outputs (now («node_table» .entry)) (now («output_table» .entry))) node .answer .number ⌝ }
-    ensures graph { λ r. ⌜ graphOf inputs nodes outputs (now («node_table» .exit)) (now («output_table» .exit)) ≡ nodeCall (graphOf inputs nodes outputs (now («node_table» .entry)) (now («output_table» .entry))) node .graph ⌝ }
-    ensures told { λ r. ⌜ now (saving .exit) ≡ toldSigned (nodeCall (graphOf inputs nodes outputs (now («node_table» .entry)) (now («output_table» .entry))) node .answer) (now (saving .entry)) ⌝ }
+    ensures answer { λ r. ⌜ r ≡ nodeCall (graphOf inputs nodes outputs (now («node_table» .entry)) (now («output_table» .entry))) (now (locks .entry)) node .answer .number ⌝ }
+    ensures graph { λ r. ⌜ graphOf inputs nodes outputs (now («node_table» .exit)) (now («output_table» .exit)) ≡ nodeCall (graphOf inputs nodes outputs (now («node_table» .entry)) (now («output_table» .entry))) (now (locks .entry)) node .graph ⌝ }
+    ensures told { λ r. ⌜ now (saving .exit) ≡ toldSigned (nodeCall (graphOf inputs nodes outputs (now («node_table» .entry)) (now («output_table» .entry))) (now (locks .entry)) node .answer) (now (saving .entry)) ⌝ }
 {
-    let answer = node_call::node_call(inputs, nodes, outputs, node_table, output_table, node);
+    let answer = node_call::node_call(
+        inputs,
+        nodes,
+        outputs,
+        node_table,
+        output_table,
+        locks,
+        node,
+    );
     *saving = answers::told::saving_told(answer, *saving);
     answers::told::saving_number(answer)
 }
@@ -192,15 +220,25 @@ pub extern "C" fn reducer_pair(
     outputs: u32,
     node_table: &mut [u32],
     output_table: &mut [u32],
+    locks: &[u8],
     node: u32,
     word: u32,
     saving: &mut [i64; 2],
 ) -> u32
-    ensures answer { λ r. ⌜ r ≡ pairCall (graphOf inputs nodes outputs (now («node_table» .entry)) (now («output_table» .entry))) node word .answer .number ⌝ }
-    ensures graph { λ r. ⌜ graphOf inputs nodes outputs (now («node_table» .exit)) (now («output_table» .exit)) ≡ pairCall (graphOf inputs nodes outputs (now («node_table» .entry)) (now («output_table» .entry))) node word .graph ⌝ }
-    ensures told { λ r. ⌜ now (saving .exit) ≡ toldSigned (pairCall (graphOf inputs nodes outputs (now («node_table» .entry)) (now («output_table» .entry))) node word .answer) (now (saving .entry)) ⌝ }
+    ensures answer { λ r. ⌜ r ≡ pairCall (graphOf inputs nodes outputs (now («node_table» .entry)) (now («output_table» .entry))) (now (locks .entry)) node word .answer .number ⌝ }
+    ensures graph { λ r. ⌜ graphOf inputs nodes outputs (now («node_table» .exit)) (now («output_table» .exit)) ≡ pairCall (graphOf inputs nodes outputs (now («node_table» .entry)) (now («output_table» .entry))) (now (locks .entry)) node word .graph ⌝ }
+    ensures told { λ r. ⌜ now (saving .exit) ≡ toldSigned (pairCall (graphOf inputs nodes outputs (now («node_table» .entry)) (now («output_table» .entry))) (now (locks .entry)) node word .answer) (now (saving .entry)) ⌝ }
 {
-    let answer = node_call::pair_call(inputs, nodes, outputs, node_table, output_table, node, word);
+    let answer = node_call::pair_call(
+        inputs,
+        nodes,
+        outputs,
+        node_table,
+        output_table,
+        locks,
+        node,
+        word,
+    );
     *saving = answers::told::saving_told(answer, *saving);
     answers::told::saving_number(answer)
 }
@@ -213,14 +251,15 @@ pub extern "C" fn reducer_trial(
     outputs: u32,
     node_table: &[u32],
     output_table: &[u32],
+    locks: &[u8],
     node: u32,
     word: u32,
     named_move: u32,
     node_move: u32,
     gain: &mut i64,
 ) -> u32
-    ensures answer { λ r. ⌜ r ≡ trialCall (graphOf inputs nodes outputs (now («node_table» .entry)) (now («output_table» .entry))) node word «named_move» «node_move» .number ⌝ }
-    ensures told { λ r. ⌜ now (gain .exit) ≡ toldGain (trialCall (graphOf inputs nodes outputs (now («node_table» .entry)) (now («output_table» .entry))) node word «named_move» «node_move») (now (gain .entry)) ⌝ }
+    ensures answer { λ r. ⌜ r ≡ trialCall (graphOf inputs nodes outputs (now («node_table» .entry)) (now («output_table» .entry))) (now (locks .entry)) node word «named_move» «node_move» .number ⌝ }
+    ensures told { λ r. ⌜ now (gain .exit) ≡ toldGain (trialCall (graphOf inputs nodes outputs (now («node_table» .entry)) (now («output_table» .entry))) (now (locks .entry)) node word «named_move» «node_move») (now (gain .entry)) ⌝ }
 {
     let answer = node_call::trial(
         inputs,
@@ -228,6 +267,7 @@ pub extern "C" fn reducer_trial(
         outputs,
         node_table,
         output_table,
+        locks,
         node,
         word,
         named_move,
@@ -247,14 +287,15 @@ pub extern "C" fn reducer_tree(
     outputs: u32,
     node_table: &mut [u32],
     output_table: &mut [u32],
+    locks: &[u8],
     root: u32,
     scratch: &mut [u32],
     saving: &mut [i64; 2],
 ) -> u32
-    ensures answer { λ r. ⌜ r ≡ treeCall (graphOf inputs nodes outputs (now («node_table» .entry)) (now («output_table» .entry))) (length (now (scratch .entry))) root .answer .number ⌝ }
-    ensures graph { λ r. ⌜ graphOf inputs nodes outputs (now («node_table» .exit)) (now («output_table» .exit)) ≡ treeCall (graphOf inputs nodes outputs (now («node_table» .entry)) (now («output_table» .entry))) (length (now (scratch .entry))) root .graph ⌝ }
-    ensures told { λ r. ⌜ now (saving .exit) ≡ toldSigned (treeCall (graphOf inputs nodes outputs (now («node_table» .entry)) (now («output_table» .entry))) (length (now (scratch .entry))) root .answer) (now (saving .entry)) ⌝ }
-    ensures scratch { λ r. ⌜ ScratchKept (treeCall (graphOf inputs nodes outputs (now («node_table» .entry)) (now («output_table» .entry))) (length (now (scratch .entry))) root .answer) (now (scratch .entry)) (now (scratch .exit)) ⌝ }
+    ensures answer { λ r. ⌜ r ≡ treeCall (graphOf inputs nodes outputs (now («node_table» .entry)) (now («output_table» .entry))) (now (locks .entry)) (length (now (scratch .entry))) root .answer .number ⌝ }
+    ensures graph { λ r. ⌜ graphOf inputs nodes outputs (now («node_table» .exit)) (now («output_table» .exit)) ≡ treeCall (graphOf inputs nodes outputs (now («node_table» .entry)) (now («output_table» .entry))) (now (locks .entry)) (length (now (scratch .entry))) root .graph ⌝ }
+    ensures told { λ r. ⌜ now (saving .exit) ≡ toldSigned (treeCall (graphOf inputs nodes outputs (now («node_table» .entry)) (now («output_table» .entry))) (now (locks .entry)) (length (now (scratch .entry))) root .answer) (now (saving .entry)) ⌝ }
+    ensures scratch { λ r. ⌜ ScratchKept (treeCall (graphOf inputs nodes outputs (now («node_table» .entry)) (now («output_table» .entry))) (now (locks .entry)) (length (now (scratch .entry))) root .answer) (now (scratch .entry)) (now (scratch .exit)) ⌝ }
 {
     let answer = tree_call::tree_call(
         inputs,
@@ -262,6 +303,7 @@ pub extern "C" fn reducer_tree(
         outputs,
         node_table,
         output_table,
+        locks,
         root,
         scratch,
     );
@@ -277,15 +319,16 @@ pub extern "C" fn reducer_preview(
     outputs: u32,
     node_table: &[u32],
     output_table: &[u32],
+    locks: &[u8],
     root: u32,
     moves: &mut [u8],
     scratch: &mut [u32],
     saving: &mut [i64; 2],
 ) -> u32
-    ensures answer { λ r. ⌜ r ≡ previewAnswer (graphOf inputs nodes outputs (now («node_table» .entry)) (now («output_table» .entry))) (length (now (moves .entry))) (length (now (scratch .entry))) root .number ⌝ }
-    ensures moves { λ r. ⌜ now (moves .exit) ≡ previewBytes (graphOf inputs nodes outputs (now («node_table» .entry)) (now («output_table» .entry))) (now (moves .entry)) (length (now (scratch .entry))) root ⌝ }
-    ensures told { λ r. ⌜ now (saving .exit) ≡ toldSigned (previewAnswer (graphOf inputs nodes outputs (now («node_table» .entry)) (now («output_table» .entry))) (length (now (moves .entry))) (length (now (scratch .entry))) root) (now (saving .entry)) ⌝ }
-    ensures scratch { λ r. ⌜ ScratchKept (previewAnswer (graphOf inputs nodes outputs (now («node_table» .entry)) (now («output_table» .entry))) (length (now (moves .entry))) (length (now (scratch .entry))) root) (now (scratch .entry)) (now (scratch .exit)) ⌝ }
+    ensures answer { λ r. ⌜ r ≡ previewAnswer (graphOf inputs nodes outputs (now («node_table» .entry)) (now («output_table» .entry))) (now (locks .entry)) (length (now (moves .entry))) (length (now (scratch .entry))) root .number ⌝ }
+    ensures moves { λ r. ⌜ now (moves .exit) ≡ previewBytes (graphOf inputs nodes outputs (now («node_table» .entry)) (now («output_table» .entry))) (now (locks .entry)) (now (moves .entry)) (length (now (scratch .entry))) root ⌝ }
+    ensures told { λ r. ⌜ now (saving .exit) ≡ toldSigned (previewAnswer (graphOf inputs nodes outputs (now («node_table» .entry)) (now («output_table» .entry))) (now (locks .entry)) (length (now (moves .entry))) (length (now (scratch .entry))) root) (now (saving .entry)) ⌝ }
+    ensures scratch { λ r. ⌜ ScratchKept (previewAnswer (graphOf inputs nodes outputs (now («node_table» .entry)) (now («output_table» .entry))) (now (locks .entry)) (length (now (moves .entry))) (length (now (scratch .entry))) root) (now (scratch .entry)) (now (scratch .exit)) ⌝ }
 {
     let answer = preview::preview(
         inputs,
@@ -293,6 +336,7 @@ pub extern "C" fn reducer_preview(
         outputs,
         node_table,
         output_table,
+        locks,
         root,
         moves,
         scratch,
@@ -309,42 +353,61 @@ pub extern "C" fn reducer_settle(
     outputs: u32,
     node_table: &mut [u32],
     output_table: &mut [u32],
+    locks: &[u8],
     scratch: &mut [u32],
     figures: &mut [u32; 3],
     savings: &mut [i64; 2],
 ) -> u32
-    ensures answer { λ r. ⌜ r ≡ settleCall (graphOf inputs nodes outputs (now («node_table» .entry)) (now («output_table» .entry))) (length (now (scratch .entry))) .answer .number ⌝ }
-    ensures graph { λ r. ⌜ graphOf inputs nodes outputs (now («node_table» .exit)) (now («output_table» .exit)) ≡ settleCall (graphOf inputs nodes outputs (now («node_table» .entry)) (now («output_table» .entry))) (length (now (scratch .entry))) .graph ⌝ }
-    ensures told { λ r. ⌜ now (figures .exit) ≡ told (settleCall (graphOf inputs nodes outputs (now («node_table» .entry)) (now («output_table» .entry))) (length (now (scratch .entry))) .answer) (now (figures .entry)) ⌝ }
-    ensures savings { λ r. ⌜ now (savings .exit) ≡ toldSigned (settleCall (graphOf inputs nodes outputs (now («node_table» .entry)) (now («output_table» .entry))) (length (now (scratch .entry))) .answer) (now (savings .entry)) ⌝ }
-    ensures scratch { λ r. ⌜ ScratchKept (settleCall (graphOf inputs nodes outputs (now («node_table» .entry)) (now («output_table» .entry))) (length (now (scratch .entry))) .answer) (now (scratch .entry)) (now (scratch .exit)) ⌝ }
+    ensures answer { λ r. ⌜ r ≡ settleCall (graphOf inputs nodes outputs (now («node_table» .entry)) (now («output_table» .entry))) (now (locks .entry)) (length (now (scratch .entry))) .answer .number ⌝ }
+    ensures graph { λ r. ⌜ graphOf inputs nodes outputs (now («node_table» .exit)) (now («output_table» .exit)) ≡ settleCall (graphOf inputs nodes outputs (now («node_table» .entry)) (now («output_table» .entry))) (now (locks .entry)) (length (now (scratch .entry))) .graph ⌝ }
+    ensures told { λ r. ⌜ now (figures .exit) ≡ told (settleCall (graphOf inputs nodes outputs (now («node_table» .entry)) (now («output_table» .entry))) (now (locks .entry)) (length (now (scratch .entry))) .answer) (now (figures .entry)) ⌝ }
+    ensures savings { λ r. ⌜ now (savings .exit) ≡ toldSigned (settleCall (graphOf inputs nodes outputs (now («node_table» .entry)) (now («output_table» .entry))) (now (locks .entry)) (length (now (scratch .entry))) .answer) (now (savings .entry)) ⌝ }
+    ensures scratch { λ r. ⌜ ScratchKept (settleCall (graphOf inputs nodes outputs (now («node_table» .entry)) (now («output_table» .entry))) (now (locks .entry)) (length (now (scratch .entry))) .answer) (now (scratch .entry)) (now (scratch .exit)) ⌝ }
 {
-    let answer = settling::settle(inputs, nodes, outputs, node_table, output_table, scratch);
+    let answer = settling::settle(
+        inputs,
+        nodes,
+        outputs,
+        node_table,
+        output_table,
+        locks,
+        scratch,
+    );
     *figures = answers::told::settled_told(answer, *figures);
     *savings = answers::told::settled_sums(answer, *savings);
     answers::told::settled_number(answer)
 }
 
-// Loads the file and makes a list of calls on the loaded graph; `numbers` are I, N and O.
+// Loads the file and makes a list of calls on the loaded graph and its locks; `numbers` are I, N and O.
 #[no_mangle]
 pub extern "C" fn reducer_replay(
     file: &[u8],
     calls: &[u32],
     node_table: &mut [u32],
     output_table: &mut [u32],
+    locks: &mut [u8],
     scratch: &mut [u32],
     answers: &mut [i64],
     numbers: &mut [u32; 3],
 ) -> u32
-    ensures answer { λ r. ⌜ r ≡ replayCall (now (file .entry)) (now (calls .entry)) (now («node_table» .entry)) (now («output_table» .entry)) (now (scratch .entry)) (length (now (answers .entry))) .answer .number ⌝ }
-    ensures nodes { λ r. ⌜ now («node_table» .exit) ≡ replayCall (now (file .entry)) (now (calls .entry)) (now («node_table» .entry)) (now («output_table» .entry)) (now (scratch .entry)) (length (now (answers .entry))) .graph .nodes ⌝ }
-    ensures outputs { λ r. ⌜ now («output_table» .exit) ≡ replayCall (now (file .entry)) (now (calls .entry)) (now («node_table» .entry)) (now («output_table» .entry)) (now (scratch .entry)) (length (now (answers .entry))) .graph .outputs ⌝ }
-    ensures numbers { λ r. ⌜ now (numbers .exit) ≡ told (replayCall (now (file .entry)) (now (calls .entry)) (now («node_table» .entry)) (now («output_table» .entry)) (now (scratch .entry)) (length (now (answers .entry))) .answer) (now (numbers .entry)) ⌝ }
-    ensures answers { λ r. ⌜ now (answers .exit) ≡ answersAfter (now (file .entry)) (now (calls .entry)) (now («node_table» .entry)) (now («output_table» .entry)) (now (scratch .entry)) (now (answers .entry)) ⌝ }
-    ensures scratch { λ r. ⌜ ScratchKept (replayCall (now (file .entry)) (now (calls .entry)) (now («node_table» .entry)) (now («output_table» .entry)) (now (scratch .entry)) (length (now (answers .entry))) .answer) (now (scratch .entry)) (now (scratch .exit)) ⌝ }
-    ensures demand { λ r. ⌜ (r ≡ 0 → DemandMet (loadCall (now (file .entry)) (now («node_table» .entry)) (now («output_table» .entry)) .graph) (decode (now (scratch .entry)) (now (calls .entry))) (graphOf (getD (now (numbers .exit)) 0 0) (getD (now (numbers .exit)) 1 0) (getD (now (numbers .exit)) 2 0) (now («node_table» .exit)) (now («output_table» .exit))) (now (answers .exit))) ⌝ }
+    ensures answer { λ r. ⌜ r ≡ replayCall (now (file .entry)) (now (calls .entry)) (now («node_table» .entry)) (now («output_table» .entry)) (now (locks .entry)) (now (scratch .entry)) (length (now (answers .entry))) .answer .number ⌝ }
+    ensures nodes { λ r. ⌜ now («node_table» .exit) ≡ replayCall (now (file .entry)) (now (calls .entry)) (now («node_table» .entry)) (now («output_table» .entry)) (now (locks .entry)) (now (scratch .entry)) (length (now (answers .entry))) .graph .nodes ⌝ }
+    ensures outputs { λ r. ⌜ now («output_table» .exit) ≡ replayCall (now (file .entry)) (now (calls .entry)) (now («node_table» .entry)) (now («output_table» .entry)) (now (locks .entry)) (now (scratch .entry)) (length (now (answers .entry))) .graph .outputs ⌝ }
+    ensures locks { λ r. ⌜ now (locks .exit) ≡ replayCall (now (file .entry)) (now (calls .entry)) (now («node_table» .entry)) (now («output_table» .entry)) (now (locks .entry)) (now (scratch .entry)) (length (now (answers .entry))) .locks ⌝ }
+    ensures numbers { λ r. ⌜ now (numbers .exit) ≡ told (replayCall (now (file .entry)) (now (calls .entry)) (now («node_table» .entry)) (now («output_table» .entry)) (now (locks .entry)) (now (scratch .entry)) (length (now (answers .entry))) .answer) (now (numbers .entry)) ⌝ }
+    ensures answers { λ r. ⌜ now (answers .exit) ≡ answersAfter (now (file .entry)) (now (calls .entry)) (now («node_table» .entry)) (now («output_table» .entry)) (now (locks .entry)) (now (scratch .entry)) (now (answers .entry)) ⌝ }
+    ensures scratch { λ r. ⌜ ScratchKept (replayCall (now (file .entry)) (now (calls .entry)) (now («node_table» .entry)) (now («output_table» .entry)) (now (locks .entry)) (now (scratch .entry)) (length (now (answers .entry))) .answer) (now (scratch .entry)) (now (scratch .exit)) ⌝ }
+    ensures demand { λ r. ⌜ (r ≡ 0 → DemandMet (left (loadCall (now (file .entry)) (now («node_table» .entry)) (now («output_table» .entry)) (now (locks .entry)))) (decode (now (scratch .entry)) (now (calls .entry))) (withLocks (graphOf (getD (now (numbers .exit)) 0 0) (getD (now (numbers .exit)) 1 0) (getD (now (numbers .exit)) 2 0) (now («node_table» .exit)) (now («output_table» .exit))) (now (locks .exit))) (now (answers .exit))) ⌝ }
 {
-    let answer = replay::replay(file, calls, node_table, output_table, scratch, answers);
+    let answer = replay::replay(
+        file,
+        calls,
+        node_table,
+        output_table,
+        locks,
+        scratch,
+        answers,
+    );
     *numbers = replay::told::replayed_told(answer, *numbers);
     replay::told::replayed_number(answer)
 }

@@ -1,4 +1,4 @@
--- A replay: a file is loaded, and a list of calls is made on the loaded graph, each on what the one before left. A call is three
+-- A replay: a file is loaded, and a list of calls is made on the loaded graph and its locks, each on what the one before left. A call is three
 -- words: its kind (0 node, 1 pair, 2 tree, 3 settling), a node and a word; its answer is three signed words: the number, and what it
 -- saved over the words of the nodes that it names and over all other edges; settling's are the sums over its calls.
 use mathlib.Core.Path.{_≡_}
@@ -10,9 +10,9 @@ use Rattle.graph.specs.Finite.{ifLess, ifEqual, first}
 use Rattle.graph.specs.Graph.{Graph, graphOf, wiring}
 use Rattle.graph.specs.Value.{Assignment, outputValue}
 use Rattle.graph.specs.Count.{C}
-use Rattle.graph.specs.Answer.{Answer, accepted, refused, numberOf, ownOf, othersOf, Outcome, outcome, guarded}
+use Rattle.graph.specs.Answer.{Answer, accepted, refused, numberOf, ownOf, othersOf, LockedOutcome, lockedOutcome, guardedLocks}
 use Rattle.tagged_file.specs.Load.{blank, loadCall}
-use Rattle.promises.specs.Demand.{Call, nodeAt, pairAt, treeAt, settling, step, run, Demand}
+use Rattle.promises.specs.Demand.{Call, nodeAt, pairAt, treeAt, settling, Locked, step, left, run, Demand}
 use Rattle.replay.specs.declared.CallsFault.{CallsFault}
 use Rattle.replay.specs.declared.CallsFault.the-variants.{LeftOver, UnknownKind}
 use Rattle.replay.specs.declared.Replayed.{Replayed}
@@ -32,11 +32,11 @@ decode scratch (k ∷ u ∷ []) = []
 decode scratch (k ∷ u ∷ w ∷ ws) = callOf scratch k u w ∷ decode scratch ws
 
 -- what the calls answer, three words to a call; a refused call saves nothing
-abbrev pub answersOf : Graph → List Call → List ℤ
-answersOf g [] = []
-answersOf g (c ∷ cs) =
-    let a = step g c .answer in
-    pos (a .number) ∷ ownOf a ∷ othersOf a ∷ answersOf (step g c .graph) cs
+abbrev pub answersOf : Locked → List Call → List ℤ
+answersOf d [] = []
+answersOf d (c ∷ cs) =
+    let a = step d c .answer in
+    pos (a .number) ∷ ownOf a ∷ othersOf a ∷ answersOf (left (step d c)) cs
 
 -- The faults of a list of words are a replay's own, and their numbers are none of document 01's. 101: words are left over, fewer
 -- than a call has; 102: a call's kind is above 3.
@@ -60,20 +60,22 @@ codeNumber ws room =
     first (ifEqual (length ws % 3) 0 0 101) (first (kindsNumber ws) (ifLess (usable room) (3 * (length ws / 3)) 4 0))
 
 -- the number that refuses a replay: of the words, then of the file
-unfoldable pub replayNumber : List ℕ → List ℕ → List ℕ → List ℕ → ℕ → ℕ
-replayNumber file words ns os room = first (codeNumber words room) (loadCall file ns os .answer .number)
+unfoldable pub replayNumber : List ℕ → List ℕ → List ℕ → List ℕ → List ℕ → ℕ → ℕ
+replayNumber file words ns os ls room = first (codeNumber words room) (loadCall file ns os ls .answer .number)
 
--- the replay, in the tables ns and os: I, N and O are answered, and the graph is that after all calls
-unfoldable pub replayCall : List ℕ → List ℕ → List ℕ → List ℕ → List ℕ → ℕ → Outcome
-replayCall file words ns os scratch room =
-    let o = loadCall file ns os in
-    guarded (replayNumber file words ns os room) (blank ns os) (outcome (o .answer) (run (o .graph) (decode scratch words)))
+-- the replay, in the tables ns and os and the lock bytes ls: I, N and O are answered, and the graph and the locks are those after
+-- all calls
+unfoldable pub replayCall : List ℕ → List ℕ → List ℕ → List ℕ → List ℕ → List ℕ → ℕ → LockedOutcome
+replayCall file words ns os ls scratch room =
+    let o = loadCall file ns os ls in
+    let d = run (left o) (decode scratch words) in
+    guardedLocks (replayNumber file words ns os ls room) (blank ns os) ls (lockedOutcome (o .answer) (d .graph) (d .locks))
 
 -- the words for answers after it: all calls' answers in front; as they were where it is refused
-unfoldable pub answersAfter : List ℕ → List ℕ → List ℕ → List ℕ → List ℕ → List ℤ → List ℤ
-answersAfter file words ns os scratch before =
-    ifEqual (replayNumber file words ns os (length before)) 0
-    (answersOf (loadCall file ns os .graph) (decode scratch words) ++ drop (3 * (length words / 3)) before)
+unfoldable pub answersAfter : List ℕ → List ℕ → List ℕ → List ℕ → List ℕ → List ℕ → List ℤ → List ℤ
+answersAfter file words ns os ls scratch before =
+    ifEqual (replayNumber file words ns os ls (length before)) 0
+    (answersOf (left (loadCall file ns os ls)) (decode scratch words) ++ drop (3 * (length words / 3)) before)
     before
 
 abbrev pub replayedAnswer : Replayed → Answer
@@ -92,13 +94,14 @@ abbrev pub savingsIn : ℕ → List ℤ → ℤ
 savingsIn zero l = pos 0
 savingsIn (suc n) l = (getD l 1 (pos 0) +ℤ getD l 2 (pos 0)) +ℤ savingsIn n (drop 3 l)
 
--- demand 3 of what a caller holds after calls on the loaded graph g: h in the tables, and the answers
-pub record DemandMet (g : Graph) (calls : List Call) (h : Graph) (answers : List ℤ) : Type 0 where
-  pub wired : wiring h ≡ wiring g
-  pub outputs : (a : Assignment) (j : ℕ) → j < g .O → outputValue h a j ≡ outputValue g a j
-  pub count : pos (C h) +ℤ savingsIn (length calls) answers ≡ pos (C g)
+-- demand 3 of what a caller holds after calls on the loaded d: h in the tables and the lock bytes, and the answers
+pub record DemandMet (d : Locked) (calls : List Call) (h : Locked) (answers : List ℤ) : Type 0 where
+  pub wired : wiring (h .graph) ≡ wiring (d .graph)
+  pub locked : h .locks ≡ d .locks
+  pub outputs : (a : Assignment) (j : ℕ) → j < d .graph .O → outputValue (h .graph) a j ≡ outputValue (d .graph) a j
+  pub count : pos (C (h .graph)) +ℤ savingsIn (length calls) answers ≡ pos (C (d .graph))
   -- and of each call on the way
-  pub demand : Demand g calls
+  pub demand : Demand d calls
 
 -- t is what an answer comes to
 pub record Answers (a : Answer) (t : CallAnswer) : Type 0 where
@@ -106,7 +109,7 @@ pub record Answers (a : Answer) (t : CallAnswer) : Type 0 where
   pub own : t .own ≡ ownOf a
   pub others : t .others ≡ othersOf a
 
--- t is what the call c answers on g, and h the graph after it
-pub record Tells (g : Graph) (c : Call) (h : Graph) (t : CallAnswer) : Type 0 where
-  pub answer : Answers (step g c .answer) t
-  pub graph : h ≡ step g c .graph
+-- t is what the call c answers on d, and h what it leaves
+pub record Tells (d : Locked) (c : Call) (h : Locked) (t : CallAnswer) : Type 0 where
+  pub answer : Answers (step d c .answer) t
+  pub leaves : h ≡ left (step d c)

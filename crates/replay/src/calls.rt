@@ -6,7 +6,7 @@ ghost use lib.ListN.{length, drop};
 ghost use Rattle.graph.specs.Graph.{graphOf};
 ghost use Rattle.moves.specs.Call.{savingAnswer};
 ghost use Rattle.settling.specs.Settle.{settledAnswer};
-ghost use Rattle.promises.specs.Demand.{run};
+ghost use Rattle.promises.specs.Demand.{withLocks, run};
 ghost use Rattle.replay.specs.Replay.{callOf, decode, answersOf, Answers, Tells};
 
 // What a call of the list answers.
@@ -47,12 +47,13 @@ pub fn one_call(
     outputs: u32,
     node_table: &mut [u32],
     output_table: &mut [u32],
+    locks: &[u8],
     kind: u32,
     node: u32,
     word: u32,
     scratch: &mut [u32],
 ) -> CallAnswer
-    ensures { λ r. ⌜ Tells (graphOf inputs nodes outputs (now («node_table» .entry)) (now («output_table» .entry))) (callOf (now (scratch .entry)) kind node word) (graphOf inputs nodes outputs (now («node_table» .exit)) (now («output_table» .exit))) r ⌝ }
+    ensures { λ r. ⌜ Tells (withLocks (graphOf inputs nodes outputs (now («node_table» .entry)) (now («output_table» .entry))) (now (locks .entry))) (callOf (now (scratch .entry)) kind node word) (withLocks (graphOf inputs nodes outputs (now («node_table» .exit)) (now («output_table» .exit))) (now (locks .entry))) r ⌝ }
 {
     if kind == 0 {
         return saving_answer(node_call::node_call(
@@ -61,6 +62,7 @@ pub fn one_call(
             outputs,
             node_table,
             output_table,
+            locks,
             node,
         ));
     }
@@ -71,6 +73,7 @@ pub fn one_call(
             outputs,
             node_table,
             output_table,
+            locks,
             node,
             word,
         ));
@@ -82,11 +85,20 @@ pub fn one_call(
             outputs,
             node_table,
             output_table,
+            locks,
             node,
             scratch,
         ));
     }
-    settled_answer(settling::settle(inputs, nodes, outputs, node_table, output_table, scratch))
+    settled_answer(settling::settle(
+        inputs,
+        nodes,
+        outputs,
+        node_table,
+        output_table,
+        locks,
+        scratch,
+    ))
 }
 
 // Every call of the list, on what the one before left; the answers go in front.
@@ -96,13 +108,14 @@ pub fn make_calls(
     outputs: u32,
     node_table: &mut [u32],
     output_table: &mut [u32],
+    locks: &[u8],
     calls: &[u32],
     scratch: &mut [u32],
     answers: &mut [i64],
 )
     requires { ⌜ (3 * (length (now calls) / 3) ≤ length (now answers)) × (3 * (length (now calls) / 3) ≤ 1152921504606846976) ⌝ }
-    ensures graph { λ _. ⌜ graphOf inputs nodes outputs (now («node_table» .exit)) (now («output_table» .exit)) ≡ run (graphOf inputs nodes outputs (now («node_table» .entry)) (now («output_table» .entry))) (decode (now (scratch .entry)) (now (calls .entry))) ⌝ }
-    ensures answers { λ _. ⌜ now (answers .exit) ≡ answersOf (graphOf inputs nodes outputs (now («node_table» .entry)) (now («output_table» .entry))) (decode (now (scratch .entry)) (now (calls .entry))) ++ drop (3 * (length (now (calls .entry)) / 3)) (now (answers .entry)) ⌝ }
+    ensures graph { λ _. ⌜ withLocks (graphOf inputs nodes outputs (now («node_table» .exit)) (now («output_table» .exit))) (now (locks .entry)) ≡ run (withLocks (graphOf inputs nodes outputs (now («node_table» .entry)) (now («output_table» .entry))) (now (locks .entry))) (decode (now (scratch .entry)) (now (calls .entry))) ⌝ }
+    ensures answers { λ _. ⌜ now (answers .exit) ≡ answersOf (withLocks (graphOf inputs nodes outputs (now («node_table» .entry)) (now («output_table» .entry))) (now (locks .entry))) (decode (now (scratch .entry)) (now (calls .entry))) ++ drop (3 * (length (now (calls .entry)) / 3)) (now (answers .entry)) ⌝ }
 {
     let mut s = calls;
     let mut at = 0;
@@ -113,6 +126,7 @@ pub fn make_calls(
             outputs,
             node_table,
             output_table,
+            locks,
             s[0],
             s[1],
             s[2],

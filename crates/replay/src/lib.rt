@@ -1,8 +1,9 @@
-// A replay: loads a file and makes a list of calls on the loaded graph.
+// A replay: loads a file and makes a list of calls on the loaded graph and its locks.
 ghost use mathlib.Core.Path.{_≡_};
 ghost use lib.ListN.{length};
-ghost use Rattle.graph.specs.Answer.{outcome, ScratchKept};
+ghost use Rattle.graph.specs.Answer.{lockedOutcome, ScratchKept};
 ghost use Rattle.tagged_file.specs.Load.{loadCall};
+ghost use Rattle.promises.specs.Demand.{withLocks, left};
 ghost use Rattle.replay.specs.Replay.{decode, replayCall, answersAfter, replayedAnswer, replayedGraph, DemandMet};
 
 mod calls;
@@ -35,13 +36,14 @@ pub fn replay(
     calls: &[u32],
     node_table: &mut [u32],
     output_table: &mut [u32],
+    locks: &mut [u8],
     scratch: &mut [u32],
     answers: &mut [i64],
 ) -> Replayed
-    ensures call { λ r. ⌜ outcome (replayedAnswer r) (replayedGraph r (now («node_table» .exit)) (now («output_table» .exit))) ≡ replayCall (now (file .entry)) (now (calls .entry)) (now («node_table» .entry)) (now («output_table» .entry)) (now (scratch .entry)) (length (now (answers .entry))) ⌝ }
-    ensures answers { λ r. ⌜ now (answers .exit) ≡ answersAfter (now (file .entry)) (now (calls .entry)) (now («node_table» .entry)) (now («output_table» .entry)) (now (scratch .entry)) (now (answers .entry)) ⌝ }
+    ensures call { λ r. ⌜ lockedOutcome (replayedAnswer r) (replayedGraph r (now («node_table» .exit)) (now («output_table» .exit))) (now (locks .exit)) ≡ replayCall (now (file .entry)) (now (calls .entry)) (now («node_table» .entry)) (now («output_table» .entry)) (now (locks .entry)) (now (scratch .entry)) (length (now (answers .entry))) ⌝ }
+    ensures answers { λ r. ⌜ now (answers .exit) ≡ answersAfter (now (file .entry)) (now (calls .entry)) (now («node_table» .entry)) (now («output_table» .entry)) (now (locks .entry)) (now (scratch .entry)) (now (answers .entry)) ⌝ }
     ensures scratch { λ r. ⌜ ScratchKept (replayedAnswer r) (now (scratch .entry)) (now (scratch .exit)) ⌝ }
-    ensures demand { λ r. ⌜ (replayedAnswer r .number ≡ 0 → DemandMet (loadCall (now (file .entry)) (now («node_table» .entry)) (now («output_table» .entry)) .graph) (decode (now (scratch .entry)) (now (calls .entry))) (replayedGraph r (now («node_table» .exit)) (now («output_table» .exit))) (now (answers .exit))) ⌝ }
+    ensures demand { λ r. ⌜ (replayedAnswer r .number ≡ 0 → DemandMet (left (loadCall (now (file .entry)) (now («node_table» .entry)) (now («output_table» .entry)) (now (locks .entry)))) (decode (now (scratch .entry)) (now (calls .entry))) (withLocks (replayedGraph r (now («node_table» .exit)) (now («output_table» .exit))) (now (locks .exit))) (now (answers .exit))) ⌝ }
 {
     if calls.len() % 3 != 0 {
         return Replayed::NotCalls(CallsFault::LeftOver);
@@ -53,7 +55,7 @@ pub fn replay(
     if room / 3 < calls.len() / 3 {
         return Replayed::Refused(graph::Refusal::ShortSlice);
     }
-    let answer = tagged_file::load(file, node_table, output_table);
+    let answer = tagged_file::load(file, node_table, output_table, locks);
     match answer {
         Loaded::Refused(refusal) => Replayed::Refused(refusal),
         Loaded::Graph {
@@ -67,6 +69,7 @@ pub fn replay(
                 outputs,
                 node_table,
                 output_table,
+                locks,
                 calls,
                 scratch,
                 answers,

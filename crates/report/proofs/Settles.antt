@@ -6,40 +6,37 @@ use Prim.Native.Nat.{ℕ, _*_, _≤_}
 use native.Mathlib.Omega.{arith}
 use lib.ListN.{length}
 use Rattle.graph.specs.Graph.{Graph}
-use Rattle.graph.specs.Admission.{Admitted}
-use Rattle.graph.specs.Answer.{Outcome}
+use Rattle.graph.specs.Admission.{Admitted, LockBytes}
+use Rattle.graph.specs.Answer.{Outcome, LockedOutcome}
 use Rattle.graph.proofs.Admit.{admission-none}
 use Rattle.graph.proofs.Answers.{accepted-outcome}
 use Rattle.graph.proofs.Tests.{equal, none, no-less}
 use Rattle.moves.specs.Call.{scratchFault}
 use Rattle.tagged_file.specs.Load.{graphRead, loadCall}
 use Rattle.tagged_file.proofs.Whole.{passed}
-use Rattle.tagged_file.proofs.RoundTrip.{load-admitted}
+use Rattle.tagged_file.proofs.RoundTrip.{no-fault, read-is, load-admitted, load-locks}
 use Rattle.rounds.specs.Settle.{settleNumber, settleCall}
 use Rattle.report.specs.Report.{thenSettle, settledFile, reportNumber}
 use Rattle.report.proofs.Room.{enough-is}
-use Rattle.report.proofs.Outcomes.{guarded-zero, guarded-graph}
 
-settle-accepted : (g : Graph) (s : ℕ) → Admitted g → 8 * g .N ≤ s → settleCall g s .answer .number ≡ 0
+settle-accepted : (g : Graph) (ls : List ℕ) (s : ℕ) → Admitted g → LockBytes (g .N) ls → 8 * g .N ≤ s → settleCall g ls s .answer .number ≡ 0
 unfolding settleCall settleNumber scratchFault
-settle-accepted g s a h =
-    let z : 0 ≡ settleNumber g s = none _ _ (admission-none g a) (no-less s (8 * g .N) 8 0 h refl) in
-    sym (ap (λ (o : Outcome). o .answer .number) (accepted-outcome (settleNumber g s) g _ (sym z)))
+settle-accepted g ls s a ok h =
+    let z : 0 ≡ settleNumber g ls s = none _ _ (admission-none g a ls ok) (no-less s (8 * g .N) 8 0 h refl) in
+    sym (ap (λ (o : Outcome). o .answer .number) (accepted-outcome (settleNumber g ls s) g _ (sym z)))
 
 -- the node table has room for the loaded nodes
-nodes-within : (file ns os : List ℕ) → loadCall file ns os .answer .number ≡ 0 → 3 * loadCall file ns os .graph .N ≤ length ns
-unfolding loadCall graphRead
-nodes-within file ns os e =
-    let z = guarded-zero _ _ _ e in
-    let q = guarded-graph _ _ _ e in
-    rw q (passed file (length ns) (length os) z .head .long-nodes)
+nodes-within : (file ns os ls : List ℕ) → loadCall file ns os ls .answer .number ≡ 0 → 3 * loadCall file ns os ls .graph .N ≤ length ns
+unfolding graphRead
+nodes-within file ns os ls e =
+    rw (read-is file ns os ls e) (passed file (length ns) (length os) (length ls) (no-fault file ns os ls e) .head .rooms .long-nodes)
 
-pub always-settles : (file ns os : List ℕ) (s room : ℕ) → reportNumber (length ns) (length os) s room ≡ 0
-    → loadCall file ns os .answer .number ≡ 0 → settledFile file ns os s .answer .number ≡ 0
+pub always-settles : (file ns os ls : List ℕ) (s room : ℕ) → reportNumber (length ns) (length os) s room ≡ 0
+    → loadCall file ns os ls .answer .number ≡ 0 → settledFile file ns os ls s .answer .number ≡ 0
 unfolding settledFile thenSettle
-always-settles file ns os s room k e =
-    let l : Outcome = loadCall file ns os in
+always-settles file ns os ls s room k e =
+    let l : LockedOutcome = loadCall file ns os ls in
     let h = enough-is (length ns) (length os) s room k in
-    let n = nodes-within file ns os e in
-    let a = settle-accepted (l .graph) s (load-admitted file ns os e) (omega arith) in
-    ap (λ (o : Outcome). o .answer .number) (sym (equal (l .answer .number) 0 _ _ e refl)) ∙ a
+    let n = nodes-within file ns os ls e in
+    let a = settle-accepted (l .graph) (l .locks) s (load-admitted file ns os ls e) (load-locks file ns os ls e) (omega arith) in
+    ap (λ (o : LockedOutcome). o .answer .number) (sym (equal (l .answer .number) 0 _ _ e refl)) ∙ a

@@ -4,7 +4,7 @@ use Prim.Native.Nat.{ℕ, _+_, _*_, _/_}
 use lib.ListN.{length, getD, drop}
 use Rattle.graph.specs.Finite.{ifLess, ifEqual}
 use Rattle.graph.specs.Graph.{Graph, mark}
-use Rattle.graph.specs.Answer.{Answer, accepted, refused, Outcome}
+use Rattle.graph.specs.Answer.{Answer, accepted, refused, LockedOutcome, lockedOutcome}
 use Rattle.tagged_file.specs.Write.{inOrder}
 use Rattle.tagged_file.specs.Load.{loadCall}
 use Rattle.rounds.specs.Settle.{settleCall}
@@ -43,19 +43,23 @@ settledText rounds before after g =
     ++ (inOrder (nodeLineAt (g .I) (g .nodes)) 0 (g .N) ++ inOrder (outputLineAt (g .outputs)) 0 (g .O))
 
 -- what is printed of settling's outcome: a refusal is one line
-unfoldable pub textOf : Outcome → List ℕ
+unfoldable pub textOf : LockedOutcome → List ℕ
 textOf o =
     ifEqual (o .answer .number) 0
     (settledText (getD (o .answer .values) 0 0) (getD (o .answer .values) 1 0) (getD (o .answer .values) 2 0) (o .graph))
     (line1 refusedText (o .answer .number))
 
--- loading's outcome settled, with s words of scratch; a refused file has nothing to settle
-unfoldable pub thenSettle : Outcome → ℕ → Outcome
-thenSettle loaded s = ifEqual (loaded .answer .number) 0 (settleCall (loaded .graph) s) loaded
+-- a graph with its locks settled, with s words of scratch: settling is lent the locks to be read
+abbrev pub settledWith : Graph → List ℕ → ℕ → LockedOutcome
+settledWith g ls s = lockedOutcome (settleCall g ls s .answer) (settleCall g ls s .graph) ls
 
--- the file settled in the tables ns and os
-unfoldable pub settledFile : List ℕ → List ℕ → List ℕ → ℕ → Outcome
-settledFile file ns os s = thenSettle (loadCall file ns os) s
+-- loading's outcome settled; a refused file has nothing to settle
+unfoldable pub thenSettle : LockedOutcome → ℕ → LockedOutcome
+thenSettle loaded s = ifEqual (loaded .answer .number) 0 (settledWith (loaded .graph) (loaded .locks) s) loaded
+
+-- the file settled in the tables ns and os and the lock bytes ls
+unfoldable pub settledFile : List ℕ → List ℕ → List ℕ → List ℕ → ℕ → LockedOutcome
+settledFile file ns os ls s = thenSettle (loadCall file ns os ls) s
 
 -- The lengths alone decide whether there is a report, and what they refuse has numbers that are none of document 01's. 103:
 -- scratch does not do for as many nodes as the node table has room for; 104: the buffer has fewer than 128 bytes for the
@@ -74,24 +78,25 @@ abbrev pub reportedAnswer : Reported → Answer
 reportedAnswer (reported.Text n) = accepted (n ∷ [])
 reportedAnswer (reported.NoRoom f) = refused (roomNumber f)
 
--- an answer with the tables and the buffer as the call leaves them
+-- an answer with the tables, the locks and the buffer as the call leaves them
 pub record ReportOutcome : Type 0 where
   pub answer : Answer
   pub nodes : List ℕ
   pub outputs : List ℕ
+  pub locks : List ℕ
   pub buffer : List ℕ
 
-abbrev pub reportOutcome : Answer → List ℕ → List ℕ → List ℕ → ReportOutcome
-reportOutcome a ns os b = record { answer = a; nodes = ns; outputs = os; buffer = b }
+abbrev pub reportOutcome : Answer → List ℕ → List ℕ → List ℕ → List ℕ → ReportOutcome
+reportOutcome a ns os ls b = record { answer = a; nodes = ns; outputs = os; locks = ls; buffer = b }
 
 -- the text of an outcome at the front of the buffer, the rest of which is left
-unfoldable pub printed : Outcome → List ℕ → ReportOutcome
+unfoldable pub printed : LockedOutcome → List ℕ → ReportOutcome
 printed o b =
-    reportOutcome (accepted (length (textOf o) ∷ [])) (o .graph .nodes) (o .graph .outputs) (textOf o ++ drop (length (textOf o)) b)
+    reportOutcome (accepted (length (textOf o) ∷ [])) (o .graph .nodes) (o .graph .outputs) (o .locks) (textOf o ++ drop (length (textOf o)) b)
 
--- reporting the file into the tables and the buffer, with s words of scratch
-unfoldable pub reportCall : List ℕ → List ℕ → List ℕ → ℕ → List ℕ → ReportOutcome
-reportCall file ns os s b =
+-- reporting the file into the tables, the locks and the buffer, with s words of scratch
+unfoldable pub reportCall : List ℕ → List ℕ → List ℕ → List ℕ → ℕ → List ℕ → ReportOutcome
+reportCall file ns os ls s b =
     ifEqual (reportNumber (length ns) (length os) s (length b)) 0
-    (printed (settledFile file ns os s) b)
-    (reportOutcome (refused (reportNumber (length ns) (length os) s (length b))) ns os b)
+    (printed (settledFile file ns os ls s) b)
+    (reportOutcome (refused (reportNumber (length ns) (length os) s (length b))) ns os ls b)

@@ -28,12 +28,13 @@ pub fn report(
     file: &[u8],
     node_table: &mut [u32],
     output_table: &mut [u32],
+    locks: &mut [u8],
     scratch: &mut [u32],
     buffer: &mut [u8],
 ) -> Reported
-    ensures { λ r. ⌜ reportOutcome (reportedAnswer r) (now («node_table» .exit)) (now («output_table» .exit)) (now (buffer .exit)) ≡ reportCall (now (file .entry)) (now («node_table» .entry)) (now («output_table» .entry)) (length (now (scratch .entry))) (now (buffer .entry)) ⌝ }
+    ensures { λ r. ⌜ reportOutcome (reportedAnswer r) (now («node_table» .exit)) (now («output_table» .exit)) (now (locks .exit)) (now (buffer .exit)) ≡ reportCall (now (file .entry)) (now («node_table» .entry)) (now («output_table» .entry)) (now (locks .entry)) (length (now (scratch .entry))) (now (buffer .entry)) ⌝ }
     ensures { λ r. ⌜ ScratchKept (reportedAnswer r) (now (scratch .entry)) (now (scratch .exit)) ⌝ }
-    ensures { λ r. ⌜ ScratchKept (loadCall (now (file .entry)) (now («node_table» .entry)) (now («output_table» .entry)) .answer) (now (scratch .entry)) (now (scratch .exit)) ⌝ }
+    ensures { λ r. ⌜ ScratchKept (loadCall (now (file .entry)) (now («node_table» .entry)) (now («output_table» .entry)) (now (locks .entry)) .answer) (now (scratch .entry)) (now (scratch .exit)) ⌝ }
 {
     if scratch.len() / 8 < node_table.len() / 3 {
         return Reported::NoRoom(RoomFault::Scratch);
@@ -41,5 +42,5 @@ pub fn report(
     if faults::buffer_number(node_table.len(), output_table.len(), buffer.len()) != 0 {
         return Reported::NoRoom(RoomFault::Buffer);
     }
-    Reported::Text(whole::put_report(file, node_table, output_table, scratch, buffer))
+    Reported::Text(whole::put_report(file, node_table, output_table, locks, scratch, buffer))
 }

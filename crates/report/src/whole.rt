@@ -6,8 +6,7 @@ ghost use lib.ListN.{length};
 ghost use Rattle.graph.specs.Graph.{graphOf};
 ghost use Rattle.graph.specs.Answer.{accepted, ScratchKept};
 ghost use Rattle.tagged_file.specs.Load.{loadCall};
-ghost use Rattle.rounds.specs.Settle.{settleCall};
-ghost use Rattle.report.specs.Report.{reportOutcome, printed, settledFile};
+ghost use Rattle.report.specs.Report.{reportOutcome, printed, settledWith, settledFile};
 use crate::lines;
 
 // Settles a loaded graph, and puts the text of that.
@@ -17,13 +16,22 @@ pub fn put_settling(
     outputs: u32,
     node_table: &mut [u32],
     output_table: &mut [u32],
+    locks: &[u8],
     scratch: &mut [u32],
     buffer: &mut [u8],
 ) -> usize
     requires { ⌜ 128 + 18 * (length (now «node_table») + length (now «output_table»)) ≤ length (now buffer) ⌝ }
-    ensures { λ r. ⌜ reportOutcome (accepted (r ∷ [])) (now («node_table» .exit)) (now («output_table» .exit)) (now (buffer .exit)) ≡ printed (settleCall (graphOf inputs nodes outputs (now («node_table» .entry)) (now («output_table» .entry))) (length (now (scratch .entry)))) (now (buffer .entry)) ⌝ }
+    ensures { λ r. ⌜ reportOutcome (accepted (r ∷ [])) (now («node_table» .exit)) (now («output_table» .exit)) (now (locks .entry)) (now (buffer .exit)) ≡ printed (settledWith (graphOf inputs nodes outputs (now («node_table» .entry)) (now («output_table» .entry))) (now (locks .entry)) (length (now (scratch .entry)))) (now (buffer .entry)) ⌝ }
 {
-    match settling::settle(inputs, nodes, outputs, node_table, output_table, scratch) {
+    match settling::settle(
+        inputs,
+        nodes,
+        outputs,
+        node_table,
+        output_table,
+        locks,
+        scratch,
+    ) {
         settling::Settled::Rounds {
             rounds,
             before,
@@ -49,14 +57,15 @@ pub fn put_report(
     file: &[u8],
     node_table: &mut [u32],
     output_table: &mut [u32],
+    locks: &mut [u8],
     scratch: &mut [u32],
     buffer: &mut [u8],
 ) -> usize
     requires { ⌜ 128 + 18 * (length (now «node_table») + length (now «output_table»)) ≤ length (now buffer) ⌝ }
-    ensures { λ r. ⌜ reportOutcome (accepted (r ∷ [])) (now («node_table» .exit)) (now («output_table» .exit)) (now (buffer .exit)) ≡ printed (settledFile (now (file .entry)) (now («node_table» .entry)) (now («output_table» .entry)) (length (now (scratch .entry)))) (now (buffer .entry)) ⌝ }
-    ensures { λ r. ⌜ ScratchKept (loadCall (now (file .entry)) (now («node_table» .entry)) (now («output_table» .entry)) .answer) (now (scratch .entry)) (now (scratch .exit)) ⌝ }
+    ensures { λ r. ⌜ reportOutcome (accepted (r ∷ [])) (now («node_table» .exit)) (now («output_table» .exit)) (now (locks .exit)) (now (buffer .exit)) ≡ printed (settledFile (now (file .entry)) (now («node_table» .entry)) (now («output_table» .entry)) (now (locks .entry)) (length (now (scratch .entry)))) (now (buffer .entry)) ⌝ }
+    ensures { λ r. ⌜ ScratchKept (loadCall (now (file .entry)) (now («node_table» .entry)) (now («output_table» .entry)) (now (locks .entry)) .answer) (now (scratch .entry)) (now (scratch .exit)) ⌝ }
 {
-    match tagged_file::load(file, node_table, output_table) {
+    match tagged_file::load(file, node_table, output_table, locks) {
         tagged_file::Loaded::Graph {
             inputs,
             nodes,
@@ -67,6 +76,7 @@ pub fn put_report(
             outputs,
             node_table,
             output_table,
+            locks,
             scratch,
             buffer,
         ),

@@ -9,7 +9,7 @@ use borrow.Author.Tests.{lt-ltb}
 use lib.IntN.{pos}
 use Rattle.graph.specs.Graph.{Graph, node}
 use Rattle.graph.specs.Count.{C}
-use Rattle.graph.specs.Admission.{Admitted}
+use Rattle.graph.specs.Admission.{Admitted, LockBytes}
 use Rattle.graph.specs.Answer.{refused, gained, savingOf, Outcome, outcome, guarded}
 use Rattle.graph.specs.Difference.{difference}
 use Rattle.graph.proofs.DifferenceSum.{no-difference}
@@ -48,13 +48,13 @@ unfolding guarded
 guarded-honest zero g o h = h
 guarded-honest (suc k) g o h = same-honest g (outcome (refused (suc k)) g) refl refl
 
-rewrite-honest : (g : Graph) (us : List ℕ) → HonestOn g (rewrite g us)
+rewrite-honest : (g : Graph) (ls us : List ℕ) → HonestOn g (rewrite g ls us)
 unfolding rewrite
-rewrite-honest g us =
+rewrite-honest g ls us =
     record {
-      keeps = λ adm. rewrite-kept g adm us;
-      adds = split-whole us g (moved g us (bestAt g us));
-      still = λ adm l. best-idle g adm us l;
+      keeps = λ adm. rewrite-kept g ls adm us;
+      adds = split-whole us g (moved g us (bestAt g ls us));
+      still = λ adm l. best-idle g ls adm us l;
     }
 
 nothing-honest : (g : Graph) → HonestOn g (outcome (gained [] (pos 0) (pos 0)) g)
@@ -67,21 +67,21 @@ cond-honest g false x y p q = q
 by-each : (call : Graph → Outcome) → ((g : Graph) → HonestOn g (call g)) → Honest call
 by-each call h = record { keeps = λ g. h g .keeps; adds = λ g. h g .adds; still = λ g. h g .still }
 
-pub node-honest : (at : Graph → ℕ) → Honest (λ g. nodeCall g (at g))
+pub node-honest : (ls : List ℕ) (at : Graph → ℕ) → Honest (λ g. nodeCall g ls (at g))
 unfolding nodeCall
-node-honest at = by-each (λ g. nodeCall g (at g)) (λ g. guarded-honest (nodeNumber g (at g)) g (rewrite g (at g ∷ [])) (rewrite-honest g (at g ∷ [])))
+node-honest ls at = by-each (λ g. nodeCall g ls (at g)) (λ g. guarded-honest (nodeNumber g ls (at g)) g (rewrite g ls (at g ∷ [])) (rewrite-honest g ls (at g ∷ [])))
 
-pub pair-honest : (at : Graph → ℕ) (k : ℕ) → Honest (λ g. pairCall g (at g) k)
+pub pair-honest : (ls : List ℕ) (at : Graph → ℕ) (k : ℕ) → Honest (λ g. pairCall g ls (at g) k)
 unfolding pairCall pairRewrite
-pair-honest at k =
-    by-each (λ g. pairCall g (at g) k)
+pair-honest ls at k =
+    by-each (λ g. pairCall g ls (at g) k)
     (λ g.
-    guarded-honest (pairNumber g (at g) k) g (pairRewrite g (at g) k)
-    (cond-honest g (isNode g (namedBy g (at g) k)) _ _ (rewrite-honest g (namedBy g (at g) k ∷ at g ∷ [])) (nothing-honest g)))
+    guarded-honest (pairNumber g ls (at g) k) g (pairRewrite g ls (at g) k)
+    (cond-honest g (isNode g (namedBy g (at g) k)) _ _ (rewrite-honest g ls (namedBy g (at g) k ∷ at g ∷ [])) (nothing-honest g)))
 
-pub tree-honest : (at : Graph → ℕ) (s : ℕ) → Honest (λ g. treeCall g s (at g))
+pub tree-honest : (ls : List ℕ) (at : Graph → ℕ) (s : ℕ) → Honest (λ g. treeCall g ls s (at g))
 unfolding treeCall
-tree-honest at s = by-each (λ g. treeCall g s (at g)) (λ g. guarded-honest (treeNumber g s (at g)) g (rewrite g (tree g (at g))) (rewrite-honest g (tree g (at g))))
+tree-honest ls at s = by-each (λ g. treeCall g ls s (at g)) (λ g. guarded-honest (treeNumber g ls s (at g)) g (rewrite g ls (tree g (at g))) (rewrite-honest g ls (tree g (at g))))
 
 -- a call that is not refused, and does not lower C: no choice of moves at its nodes lowers C
 pub guarded-none : (k : ℕ) (g : Graph) (o : Outcome) → k ≡ 0 → guarded k g o ≡ o
@@ -89,51 +89,51 @@ unfolding guarded
 guarded-none zero g o e = refl
 guarded-none (suc k) g o e = absurd (omega arith)
 
-module _ (g : Graph) (adm : Admitted g) where
-  rewrite-nothing : (us : List ℕ) → C g ≤ C (rewrite g us .graph) → (ms : List ℕ) → Fits (map (movesAt g) us) ms → C g ≤ C (moved g us ms)
-  unfolding rewrite
-  rewrite-nothing us e ms f = omega (arith, best-lowest g adm us ms f)
+pub is-node : (g : Graph) (v : ℕ) → v < g .N → isNode g (node g v) ≡ true
+unfolding isNode
+is-node g v h = rw (lt-ltb (g .I) (node g v) (omega arith), lt-ltb (node g v) (node g (g .N)) (omega arith))
 
-  pub is-node : (v : ℕ) → v < g .N → isNode g (node g v) ≡ true
-  unfolding isNode
-  is-node v h = rw (lt-ltb (g .I) (node g v) (omega arith), lt-ltb (node g v) (node g (g .N)) (omega arith))
+module _ (g : Graph) (adm : Admitted g) (ls : List ℕ) (ok : LockBytes (g .N) ls) where
+  rewrite-nothing : (us : List ℕ) → C g ≤ C (rewrite g ls us .graph) → (ms : List ℕ) → Fits (map (movesAt g ls) us) ms → C g ≤ C (moved g us ms)
+  unfolding rewrite
+  rewrite-nothing us e ms f = omega (arith, best-lowest g ls adm us ms f)
 
   no-node-fault : (v : ℕ) → v < g .N → nodeFault g (node g v) ≡ 0
   unfolding nodeFault
-  no-node-fault v h = rw (is-node v h)
+  no-node-fault v h = rw (is-node g v h)
 
   -- none of a round's calls is refused
-  pub node-passes : (v : ℕ) → v < g .N → nodeNumber g (node g v) ≡ 0
+  pub node-passes : (v : ℕ) → v < g .N → nodeNumber g ls (node g v) ≡ 0
   unfolding nodeNumber
-  node-passes v h = sym (none _ _ (admission-none g adm) (sym (no-node-fault v h)))
+  node-passes v h = sym (none _ _ (admission-none g adm ls ok) (sym (no-node-fault v h)))
 
-  pub pair-passes : (v k : ℕ) → v < g .N → wordFault g (node g v) k ≡ 0 → pairNumber g (node g v) k ≡ 0
+  pub pair-passes : (v k : ℕ) → v < g .N → wordFault g (node g v) k ≡ 0 → pairNumber g ls (node g v) k ≡ 0
   unfolding pairNumber
-  pair-passes v k h w = sym (none _ _ (admission-none g adm) (none _ _ (no-node-fault v h) (sym w)))
+  pair-passes v k h w = sym (none _ _ (admission-none g adm ls ok) (none _ _ (no-node-fault v h) (sym w)))
 
-  pub tree-passes : (s v : ℕ) → v < g .N → isRoot g (node g v) ≡ true → 8 * g .N ≤ s → treeNumber g s (node g v) ≡ 0
+  pub tree-passes : (s v : ℕ) → v < g .N → isRoot g (node g v) ≡ true → 8 * g .N ≤ s → treeNumber g ls s (node g v) ≡ 0
   unfolding treeNumber rootFault scratchFault
   tree-passes s v h r l =
-      sym (none _ _ (admission-none g adm) (none _ _ (no-node-fault v h) (none _ _ (rw r) (no-less s (8 * g .N) 8 0 l refl))))
+      sym (none _ _ (admission-none g adm ls ok) (none _ _ (no-node-fault v h) (none _ _ (rw r) (no-less s (8 * g .N) 8 0 l refl))))
 
-  pub node-nothing : (v : ℕ) → v < g .N → C g ≤ C (nodeCall g (node g v) .graph)
-      → (m : ℕ) → m < movesAt g (node g v) → C g ≤ C (moved g (node g v ∷ []) (m ∷ []))
+  pub node-nothing : (v : ℕ) → v < g .N → C g ≤ C (nodeCall g ls (node g v) .graph)
+      → (m : ℕ) → m < movesAt g ls (node g v) → C g ≤ C (moved g (node g v ∷ []) (m ∷ []))
   unfolding nodeCall
   node-nothing v h e m l =
       let z = node-passes v h in
-      rewrite-nothing (node g v ∷ []) (rw (guarded-none _ g (rewrite g (node g v ∷ [])) z) at e) (m ∷ []) (l, tt)
+      rewrite-nothing (node g v ∷ []) (rw (guarded-none _ g (rewrite g ls (node g v ∷ [])) z) at e) (m ∷ []) (l, tt)
 
   pub pair-nothing : (v k : ℕ) → v < g .N → wordFault g (node g v) k ≡ 0 → isNode g (namedBy g (node g v) k) ≡ true
-      → C g ≤ C (pairCall g (node g v) k .graph) → (a b : ℕ) → a < movesAt g (namedBy g (node g v) k) → b < movesAt g (node g v)
+      → C g ≤ C (pairCall g ls (node g v) k .graph) → (a b : ℕ) → a < movesAt g ls (namedBy g (node g v) k) → b < movesAt g ls (node g v)
       → C g ≤ C (moved g (namedBy g (node g v) k ∷ node g v ∷ []) (a ∷ b ∷ []))
   unfolding pairCall pairRewrite
   pair-nothing v k h w i e a b la lb =
       let z = pair-passes v k h w in
-      rewrite-nothing (namedBy g (node g v) k ∷ node g v ∷ []) (rw (guarded-none _ g (pairRewrite g (node g v) k) z, i) at e) (a ∷ b ∷ []) (la, (lb, tt))
+      rewrite-nothing (namedBy g (node g v) k ∷ node g v ∷ []) (rw (guarded-none _ g (pairRewrite g ls (node g v) k) z, i) at e) (a ∷ b ∷ []) (la, (lb, tt))
 
-  pub tree-nothing : (s v : ℕ) → v < g .N → isRoot g (node g v) ≡ true → 8 * g .N ≤ s → C g ≤ C (treeCall g s (node g v) .graph)
-      → (ms : List ℕ) → Fits (map (movesAt g) (tree g (node g v))) ms → C g ≤ C (moved g (tree g (node g v)) ms)
+  pub tree-nothing : (s v : ℕ) → v < g .N → isRoot g (node g v) ≡ true → 8 * g .N ≤ s → C g ≤ C (treeCall g ls s (node g v) .graph)
+      → (ms : List ℕ) → Fits (map (movesAt g ls) (tree g (node g v))) ms → C g ≤ C (moved g (tree g (node g v)) ms)
   unfolding treeCall
   tree-nothing s v h r l e ms f =
       let z = tree-passes s v h r l in
-      rewrite-nothing (tree g (node g v)) (rw (guarded-none _ g (rewrite g (tree g (node g v))) z) at e) ms f
+      rewrite-nothing (tree g (node g v)) (rw (guarded-none _ g (rewrite g ls (tree g (node g v))) z) at e) ms f

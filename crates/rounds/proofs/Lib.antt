@@ -4,4 +4,5 @@ pub mod Rounds
 pub mod Turns
 pub mod Rest
 pub mod Scratch
+pub mod Free
 pub mod Worked

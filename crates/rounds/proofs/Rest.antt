@@ -1,5 +1,6 @@
 -- What is left of settling after k rounds is, with those k rounds, the whole. From the equations of settling (Rounds).
 use mathlib.Core.Path.{_≡_, refl, ap, _∙_}
+use mathlib.Core.List.{List}
 use Prim.Native.Nat.{ℕ, zero, suc, _+_, _≤_, _<_}
 use native.Mathlib.Omega.{arith}
 use Rattle.graph.specs.Count.{C}
@@ -27,8 +28,8 @@ unfolding later
 later-more k r = refl
 
 -- what is left after a round, of fuel that is at least C before it
-pub left-more : (s k f : ℕ) (p : Progress) → C (round s p .graph) < C (p .graph) → (f′ : ℕ) → f ≡ suc f′ → later k (settleIn (suc f) s p) ≡ later (suc k) (settleIn (suc f′) s (round s p))
-left-more s k f p b f′ e = ap (later k) (settleIn-more f s p b ∙ rw e) ∙ later-more k (settleIn (suc f′) s (round s p))
+pub left-more : (ls : List ℕ) (s k f : ℕ) (p : Progress) → C (round ls s p .graph) < C (p .graph) → (f′ : ℕ) → f ≡ suc f′ → later k (settleIn (suc f) ls s p) ≡ later (suc k) (settleIn (suc f′) ls s (round ls s p))
+left-more ls s k f p b f′ e = ap (later k) (settleIn-more ls f s p b ∙ rw e) ∙ later-more k (settleIn (suc f′) ls s (round ls s p))
 
-pub left-last : (s k f : ℕ) (p : Progress) → C (p .graph) ≤ C (round s p .graph) → later k (settleIn (suc f) s p) ≡ later (suc k) (record { rounds = 0; made = round s p })
-left-last s k f p b = ap (later k) (settleIn-last f s p b) ∙ later-more k (record { rounds = 0; made = round s p })
+pub left-last : (ls : List ℕ) (s k f : ℕ) (p : Progress) → C (p .graph) ≤ C (round ls s p .graph) → later k (settleIn (suc f) ls s p) ≡ later (suc k) (record { rounds = 0; made = round ls s p })
+left-last ls s k f p b = ap (later k) (settleIn-last ls f s p b) ∙ later-more k (record { rounds = 0; made = round ls s p })

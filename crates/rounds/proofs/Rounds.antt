@@ -3,6 +3,7 @@
 -- and calls (Calls).
 use mathlib.Core.Path.{_≡_, refl, sym}
 use mathlib.Core.Bool.{Bool, true, false, cond}
+use mathlib.Core.List.{List}
 use mathlib.Core.Logic.{⊎-elim}
 use Prim.Native.Nat.{ℕ, zero, suc, _+_, _-_, _*_, _≤_, _<_}
 use native.Mathlib.Omega.{arith}
@@ -10,7 +11,7 @@ use borrow.Author.Tests.{eq-eqb, leb-true}
 use lib.Dec.{eqb, leb}
 use Rattle.graph.specs.Graph.{Graph, node, isXor}
 use Rattle.graph.specs.Count.{C}
-use Rattle.graph.specs.Admission.{Admitted}
+use Rattle.graph.specs.Admission.{Admitted, LockBytes}
 use Rattle.graph.proofs.Cases.{lt-or-le}
 use Rattle.graph.proofs.DifferenceSum.{no-difference}
 use Rattle.graph.proofs.Tests.{less, no-less, passes}
@@ -23,165 +24,167 @@ use Rattle.rounds.specs.Settle.{Rounds, settleIn, settle, NothingLowers}
 use Rattle.rounds.proofs.Calls.{node-honest, pair-honest, tree-honest, node-nothing, pair-nothing, tree-nothing}
 use Rattle.rounds.proofs.Steps.{Sums, Moved, Sound, after-sound, cond-sound, then-sound, each-sound}
 
--- what holds of a graph on which a call does not lower C
-abbrev TreeIdle : ℕ → ℕ → Graph → Type 0
-TreeIdle s v g = isRoot g (node g v) ≡ true → C g ≤ C (treeCall g s (node g v) .graph)
+-- with the locks ls
+module _ (ls : List ℕ) where
+  -- what holds of a graph on which a call does not lower C
+  abbrev TreeIdle : ℕ → ℕ → Graph → Type 0
+  TreeIdle s v g = isRoot g (node g v) ≡ true → C g ≤ C (treeCall g ls s (node g v) .graph)
 
-abbrev NodeIdle : ℕ → Graph → Type 0
-NodeIdle v g = C g ≤ C (nodeCall g (node g v) .graph)
+  abbrev NodeIdle : ℕ → Graph → Type 0
+  NodeIdle v g = C g ≤ C (nodeCall g ls (node g v) .graph)
 
-abbrev PairIdle : ℕ → ℕ → Graph → Type 0
-PairIdle v k g = eqb (wordFault g (node g v) k) 0 ≡ true → C g ≤ C (pairCall g (node g v) k .graph)
+  abbrev PairIdle : ℕ → ℕ → Graph → Type 0
+  PairIdle v k g = eqb (wordFault g (node g v) k) 0 ≡ true → C g ≤ C (pairCall g ls (node g v) k .graph)
 
-tree-sound : (s v : ℕ) → Sound (treeAt s v) (TreeIdle s v)
-unfolding treeAt
-tree-sound s v = cond-sound (λ g. isRoot g (node g v)) _ (λ g. C g ≤ C (treeCall g s (node g v) .graph)) (after-sound _ (tree-honest (λ g. node g v) s))
+  pub tree-sound : (s v : ℕ) → Sound (treeAt ls s v) (TreeIdle s v)
+  unfolding treeAt
+  tree-sound s v = cond-sound (λ g. isRoot g (node g v)) _ (λ g. C g ≤ C (treeCall g ls s (node g v) .graph)) (after-sound _ (tree-honest ls (λ g. node g v) s))
 
-node-sound : (v : ℕ) → Sound (nodeAt v) (NodeIdle v)
-unfolding nodeAt
-node-sound v = after-sound _ (node-honest (λ g. node g v))
+  pub node-sound : (v : ℕ) → Sound (nodeAt ls v) (NodeIdle v)
+  unfolding nodeAt
+  node-sound v = after-sound _ (node-honest ls (λ g. node g v))
 
-pair-sound : (v k : ℕ) → Sound (pairAt v k) (PairIdle v k)
-unfolding pairAt
-pair-sound v k =
-    cond-sound (λ g. eqb (wordFault g (node g v) k) 0) _ (λ g. C g ≤ C (pairCall g (node g v) k .graph)) (after-sound _ (pair-honest (λ g. node g v) k))
+  pub pair-sound : (v k : ℕ) → Sound (pairAt ls v k) (PairIdle v k)
+  unfolding pairAt
+  pair-sound v k =
+      cond-sound (λ g. eqb (wordFault g (node g v) k) 0) _ (λ g. C g ≤ C (pairCall g ls (node g v) k .graph)) (after-sound _ (pair-honest ls (λ g. node g v) k))
 
-abbrev PairsIdle : ℕ → Graph → Type 0
-PairsIdle v g = (PairIdle v 1 g × PairIdle v 2 g) × PairIdle v 3 g
+  abbrev PairsIdle : ℕ → Graph → Type 0
+  PairsIdle v g = (PairIdle v 1 g × PairIdle v 2 g) × PairIdle v 3 g
 
-pairs-sound : (v : ℕ) → Sound (pairsAt v) (PairsIdle v)
-unfolding pairsAt
-pairs-sound v =
-    then-sound (λ p. pairAt v 2 (pairAt v 1 p)) (pairAt v 3) (λ g. PairIdle v 1 g × PairIdle v 2 g) (PairIdle v 3)
-    (then-sound (pairAt v 1) (pairAt v 2) (PairIdle v 1) (PairIdle v 2) (pair-sound v 1) (pair-sound v 2)) (pair-sound v 3)
+  pub pairs-sound : (v : ℕ) → Sound (pairsAt ls v) (PairsIdle v)
+  unfolding pairsAt
+  pairs-sound v =
+      then-sound (λ p. pairAt ls v 2 (pairAt ls v 1 p)) (pairAt ls v 3) (λ g. PairIdle v 1 g × PairIdle v 2 g) (PairIdle v 3)
+      (then-sound (pairAt ls v 1) (pairAt ls v 2) (PairIdle v 1) (PairIdle v 2) (pair-sound v 1) (pair-sound v 2)) (pair-sound v 3)
 
--- what holds of a graph on which no call of a round over n nodes lowers C
-record Idle (s n : ℕ) (g : Graph) : Type 0 where
-  trees : (v : ℕ) → v < n → TreeIdle s v g
-  nodes : (v : ℕ) → v < n → NodeIdle v g
-  pairs : (v : ℕ) → v < n → PairsIdle v g
+  -- what holds of a graph on which no call of a round over n nodes lowers C
+  record Idle (s n : ℕ) (g : Graph) : Type 0 where
+    trees : (v : ℕ) → v < n → TreeIdle s v g
+    nodes : (v : ℕ) → v < n → NodeIdle v g
+    pairs : (v : ℕ) → v < n → PairsIdle v g
 
-pub trees-sound : (s n : ℕ) → Sound (each (treeAt s) n) (λ g. (v : ℕ) → v < n → TreeIdle s v g)
-trees-sound s n = each-sound (treeAt s) (TreeIdle s) (tree-sound s) n
+  pub trees-sound : (s n : ℕ) → Sound (each (treeAt ls s) n) (λ g. (v : ℕ) → v < n → TreeIdle s v g)
+  trees-sound s n = each-sound (treeAt ls s) (TreeIdle s) (tree-sound s) n
 
-phases-sound : (s n : ℕ) → Sound (phases s n) (Idle s n)
-phases-sound s n =
-    let nodes = each-sound nodeAt NodeIdle node-sound n in
-    let pairs = each-sound pairsAt PairsIdle pairs-sound n in
-    let all = then-sound _ _ _ _ (then-sound _ _ _ _ (trees-sound s n) nodes) pairs in
-    record {
-      saves = all .saves;
-      moves = all .moves;
-      still = λ p adm e. let x = all .still p adm e in (x .0, record { trees = x .1 .0 .0; nodes = x .1 .0 .1; pairs = x .1 .1 });
-    }
-
-three : (x : Bool) (k : ℕ) → leb k (cond x 2 3) ≡ true → k ≤ 3
-three true k e = omega (arith, leb-true k 2 e)
-three false k e = leb-true k 3 e
-
-module _ (s : ℕ) (p : Progress) (adm : Admitted (p .graph)) where
-  pub round-moves : Moved p (round s p) (C (p .graph) - C (round s p .graph))
-  unfolding round
-  round-moves =
-      let h = phases-sound s (p .graph .N) in
-      let m = h .moves p adm in
-      let e : C (p .graph) - C (round s p .graph) ≡ h .saves p = omega (arith, m .keeps .count) in
-      rw e m
-
-  round-still : C (p .graph) ≤ C (round s p .graph) → (round s p .graph ≡ p .graph) × Idle s (p .graph .N) (p .graph)
-  unfolding round
-  round-still e = let h = phases-sound s (p .graph .N) in h .still p adm (omega (arith, h .moves p adm .keeps .count))
-
-module _ (s : ℕ) (g : Graph) (adm : Admitted g) where
-  word-bound : (v k : ℕ) → wordFault g (node g v) k ≡ 0 → (1 ≤ k) × (k ≤ 3)
-  unfolding wordFault
-  word-bound v k e =
-      let b = both-true (leb 1 k) _ (passes _ 6 e) in
-      (leb-true 1 k (b .0), three (isXor g (node g v - (g .I + 1))) k (b .1))
-
-  idle-pair : (v k : ℕ) → PairsIdle v g → 1 ≤ k → k ≤ 3 → PairIdle v k g
-  idle-pair v zero h l m = absurd (omega arith)
-  idle-pair v (suc zero) h l m = h .0 .0
-  idle-pair v (suc (suc zero)) h l m = h .0 .1
-  idle-pair v (suc (suc (suc zero))) h l m = h .1
-  idle-pair v (suc (suc (suc (suc k)))) h l m = absurd (omega arith)
-
-  idle-lowest : 8 * g .N ≤ s → Idle s (g .N) g → NothingLowers g
-  idle-lowest l i =
+  phases-sound : (s n : ℕ) → Sound (phases ls s n) (Idle s n)
+  phases-sound s n =
+      let nodes = each-sound (nodeAt ls) NodeIdle node-sound n in
+      let pairs = each-sound (pairsAt ls) PairsIdle pairs-sound n in
+      let all = then-sound _ _ _ _ (then-sound _ _ _ _ (trees-sound s n) nodes) pairs in
       record {
-        at-node = λ v h m b. node-nothing g adm v h (i .nodes v h) m b;
-        on-pair = λ v k h w n a b la lb.
-            let r = word-bound v k w in
-            pair-nothing g adm v k h w n (idle-pair v k (i .pairs v h) (r .0) (r .1) (eq-eqb _ _ w)) a b la lb;
-        on-tree = λ v h t ms f. tree-nothing g adm s v h t l (i .trees v h t) ms f;
+        saves = all .saves;
+        moves = all .moves;
+        still = λ p adm e. let x = all .still p adm e in (x .0, record { trees = x .1 .0 .0; nodes = x .1 .0 .1; pairs = x .1 .1 });
       }
 
--- what rounds after p come to
-record EndedFrom (p : Progress) (r : Rounds) : Type 0 where
-  moves : Moved p (r .made) (C (p .graph) - C (r .made .graph))
-  few : r .rounds ≤ (C (p .graph) - C (r .made .graph)) + 1
-  lowest : NothingLowers (r .made .graph)
+  three : (x : Bool) (k : ℕ) → leb k (cond x 2 3) ≡ true → k ≤ 3
+  three true k e = omega (arith, leb-true k 2 e)
+  three false k e = leb-true k 3 e
 
--- a round that does not lower C leaves the graph as it is, and nothing lowers C
-last-ended : (s : ℕ) (p : Progress) → Admitted (p .graph) → 8 * p .graph .N ≤ s → C (p .graph) ≤ C (round s p .graph) → EndedFrom p (record { rounds = 1; made = round s p })
-last-ended s p adm l e =
-    let x = round-still s p adm e in
-    record { moves = round-moves s p adm; few = omega arith; lowest = rw (x .0) (idle-lowest s (p .graph) adm l (x .1)) }
+  module _ (s : ℕ) (p : Progress) (adm : Admitted (p .graph)) where
+    pub round-moves : Moved p (round ls s p) (C (p .graph) - C (round ls s p .graph))
+    unfolding round
+    round-moves =
+        let h = phases-sound s (p .graph .N) in
+        let m = h .moves p adm in
+        let e : C (p .graph) - C (round ls s p .graph) ≡ h .saves p = omega (arith, m .keeps .count) in
+        rw e m
 
-more-ended : (s : ℕ) (p : Progress) (r : Rounds) → Admitted (p .graph) → C (round s p .graph) < C (p .graph) → EndedFrom (round s p) r
-    → EndedFrom p (record { rounds = suc (r .rounds); made = r .made })
-more-ended s p r adm l e =
-    let m = round-moves s p adm in
-    let n = e .moves in
-    let t = kept-then (p .graph) (round s p .graph) (r .made .graph) _ _ (m .keeps) (n .keeps) in
-    let z : C (p .graph) - C (round s p .graph) + (C (round s p .graph) - C (r .made .graph)) ≡ C (p .graph) - C (r .made .graph) = omega (arith, m .keeps .count, n .keeps .count) in
-    record {
-      moves = record { sums = λ c q. n .sums c (m .sums c q); keeps = rw z at t };
-      few = omega (arith, e .few, n .keeps .count);
-      lowest = e .lowest;
-    }
+    round-still : C (p .graph) ≤ C (round ls s p .graph) → (round ls s p .graph ≡ p .graph) × Idle s (p .graph .N) (p .graph)
+    unfolding round
+    round-still e = let h = phases-sound s (p .graph .N) in h .still p adm (omega (arith, h .moves p adm .keeps .count))
 
--- a round is the last, or more follow
-module _ (f s : ℕ) (p : Progress) where
-  abbrev more : Rounds
-  more = record { rounds = suc (settleIn f s (round s p) .rounds); made = settleIn f s (round s p) .made }
+  module _ (s : ℕ) (g : Graph) (adm : Admitted g) where
+    word-bound : (v k : ℕ) → wordFault g (node g v) k ≡ 0 → (1 ≤ k) × (k ≤ 3)
+    unfolding wordFault
+    word-bound v k e =
+        let b = both-true (leb 1 k) _ (passes _ 6 e) in
+        (leb-true 1 k (b .0), three (isXor g (node g v - (g .I + 1))) k (b .1))
 
-  abbrev last : Rounds
-  last = record { rounds = 1; made = round s p }
+    idle-pair : (v k : ℕ) → PairsIdle v g → 1 ≤ k → k ≤ 3 → PairIdle v k g
+    idle-pair v zero h l m = absurd (omega arith)
+    idle-pair v (suc zero) h l m = h .0 .0
+    idle-pair v (suc (suc zero)) h l m = h .0 .1
+    idle-pair v (suc (suc (suc zero))) h l m = h .1
+    idle-pair v (suc (suc (suc (suc k)))) h l m = absurd (omega arith)
 
-  pub settleIn-more : C (round s p .graph) < C (p .graph) → settleIn (suc f) s p ≡ more
-  unfolding settleIn
-  settleIn-more b = sym (less (C (round s p .graph)) (C (p .graph)) more last b refl)
+    idle-lowest : LockBytes (g .N) ls → 8 * g .N ≤ s → Idle s (g .N) g → NothingLowers g ls
+    idle-lowest ok l i =
+        record {
+          at-node = λ v h m b. node-nothing g adm ls ok v h (i .nodes v h) m b;
+          on-pair = λ v k h w n a b la lb.
+              let r = word-bound v k w in
+              pair-nothing g adm ls ok v k h w n (idle-pair v k (i .pairs v h) (r .0) (r .1) (eq-eqb _ _ w)) a b la lb;
+          on-tree = λ v h t ms f. tree-nothing g adm ls ok s v h t l (i .trees v h t) ms f;
+        }
 
-  pub settleIn-last : C (p .graph) ≤ C (round s p .graph) → settleIn (suc f) s p ≡ last
-  unfolding settleIn
-  settleIn-last b = sym (no-less (C (round s p .graph)) (C (p .graph)) more last b refl)
+  -- what rounds after p come to
+  record EndedFrom (p : Progress) (r : Rounds) : Type 0 where
+    moves : Moved p (r .made) (C (p .graph) - C (r .made .graph))
+    few : r .rounds ≤ (C (p .graph) - C (r .made .graph)) + 1
+    lowest : NothingLowers (r .made .graph) ls
 
-settleIn-ended : (f s : ℕ) (p : Progress) → Admitted (p .graph) → 8 * p .graph .N ≤ s → C (p .graph) < f → EndedFrom p (settleIn f s p)
-settleIn-ended zero s p adm l h = absurd (omega arith)
-settleIn-ended (suc f) s p adm l h =
-    let k = round-moves s p adm .keeps in
-    ⊎-elim
-    (λ (b : C (round s p .graph) < C (p .graph)).
-    rw (settleIn-more f s p b)
-    (more-ended s p (settleIn f s (round s p)) adm b
-    (settleIn-ended f s (round s p) (k .admitted) (omega (arith, k .same-N)) (omega arith))))
-    (λ (b : C (p .graph) ≤ C (round s p .graph)). rw (settleIn-last f s p b) (last-ended s p adm l b))
-    (lt-or-le (C (round s p .graph)) (C (p .graph)))
+  -- a round that does not lower C leaves the graph as it is, and nothing lowers C
+  last-ended : (s : ℕ) (p : Progress) → Admitted (p .graph) → LockBytes (p .graph .N) ls → 8 * p .graph .N ≤ s → C (p .graph) ≤ C (round ls s p .graph) → EndedFrom p (record { rounds = 1; made = round ls s p })
+  last-ended s p adm ok l e =
+      let x = round-still s p adm e in
+      record { moves = round-moves s p adm; few = omega arith; lowest = rw (x .0) (idle-lowest s (p .graph) adm ok l (x .1)) }
 
--- what settling comes to
-pub record Ended (s : ℕ) (g : Graph) (r : Rounds) : Type 0 where
-  pub keeps : Kept g (r .made .graph) (C g - C (r .made .graph))
-  pub few : r .rounds ≤ (C g - C (r .made .graph)) + 1
-  pub lowest : NothingLowers (r .made .graph)
-  pub sums : Sums (C g) (r .made)
+  more-ended : (s : ℕ) (p : Progress) (r : Rounds) → Admitted (p .graph) → C (round ls s p .graph) < C (p .graph) → EndedFrom (round ls s p) r
+      → EndedFrom p (record { rounds = suc (r .rounds); made = r .made })
+  more-ended s p r adm l e =
+      let m = round-moves s p adm in
+      let n = e .moves in
+      let t = kept-then (p .graph) (round ls s p .graph) (r .made .graph) _ _ (m .keeps) (n .keeps) in
+      let z : C (p .graph) - C (round ls s p .graph) + (C (round ls s p .graph) - C (r .made .graph)) ≡ C (p .graph) - C (r .made .graph) = omega (arith, m .keeps .count, n .keeps .count) in
+      record {
+        moves = record { sums = λ c q. n .sums c (m .sums c q); keeps = rw z at t };
+        few = omega (arith, e .few, n .keeps .count);
+        lowest = e .lowest;
+      }
 
-start-sums : (g : Graph) → Sums (C g) (start g)
-unfolding start
-start-sums g = sym (no-difference (C g))
+  -- a round is the last, or more follow
+  module _ (f s : ℕ) (p : Progress) where
+    abbrev more : Rounds
+    more = record { rounds = suc (settleIn f ls s (round ls s p) .rounds); made = settleIn f ls s (round ls s p) .made }
 
-pub settle-ended : (s : ℕ) (g : Graph) → Admitted g → 8 * g .N ≤ s → Ended s g (settle s g)
-unfolding settle start
-settle-ended s g adm l =
-    let e = settleIn-ended (suc (C g)) s (start g) adm l (omega arith) in
-    record { keeps = e .moves .keeps; few = e .few; lowest = e .lowest; sums = e .moves .sums (C g) (start-sums g) }
+    abbrev last : Rounds
+    last = record { rounds = 1; made = round ls s p }
+
+    pub settleIn-more : C (round ls s p .graph) < C (p .graph) → settleIn (suc f) ls s p ≡ more
+    unfolding settleIn
+    settleIn-more b = sym (less (C (round ls s p .graph)) (C (p .graph)) more last b refl)
+
+    pub settleIn-last : C (p .graph) ≤ C (round ls s p .graph) → settleIn (suc f) ls s p ≡ last
+    unfolding settleIn
+    settleIn-last b = sym (no-less (C (round ls s p .graph)) (C (p .graph)) more last b refl)
+
+  settleIn-ended : (f s : ℕ) (p : Progress) → Admitted (p .graph) → LockBytes (p .graph .N) ls → 8 * p .graph .N ≤ s → C (p .graph) < f → EndedFrom p (settleIn f ls s p)
+  settleIn-ended zero s p adm ok l h = absurd (omega arith)
+  settleIn-ended (suc f) s p adm ok l h =
+      let k = round-moves s p adm .keeps in
+      ⊎-elim
+      (λ (b : C (round ls s p .graph) < C (p .graph)).
+      rw (settleIn-more f s p b)
+      (more-ended s p (settleIn f ls s (round ls s p)) adm b
+      (settleIn-ended f s (round ls s p) (k .admitted) (rw (k .same-N) ok) (omega (arith, k .same-N)) (omega arith))))
+      (λ (b : C (p .graph) ≤ C (round ls s p .graph)). rw (settleIn-last f s p b) (last-ended s p adm ok l b))
+      (lt-or-le (C (round ls s p .graph)) (C (p .graph)))
+
+  -- what settling comes to
+  pub record Ended (s : ℕ) (g : Graph) (r : Rounds) : Type 0 where
+    pub keeps : Kept g (r .made .graph) (C g - C (r .made .graph))
+    pub few : r .rounds ≤ (C g - C (r .made .graph)) + 1
+    pub lowest : NothingLowers (r .made .graph) ls
+    pub sums : Sums (C g) (r .made)
+
+  start-sums : (g : Graph) → Sums (C g) (start g)
+  unfolding start
+  start-sums g = sym (no-difference (C g))
+
+  pub settle-ended : (s : ℕ) (g : Graph) → Admitted g → LockBytes (g .N) ls → 8 * g .N ≤ s → Ended s g (settle ls s g)
+  unfolding settle start
+  settle-ended s g adm ok l =
+      let e = settleIn-ended (suc (C g)) s (start g) adm ok l (omega arith) in
+      record { keeps = e .moves .keeps; few = e .few; lowest = e .lowest; sums = e .moves .sums (C g) (start-sums g) }

@@ -2,12 +2,12 @@
 -- From the calls' definitions: on an admitted graph none of these calls is refused.
 use mathlib.Core.Path.{_≡_, ap}
 use mathlib.Core.Bool.{true, false}
-use mathlib.Core.List.{[], _∷_}
+use mathlib.Core.List.{List, [], _∷_}
 use Prim.Native.Nat.{ℕ, _*_, _≤_, _<_}
 use borrow.Author.Tests.{eq-eqb, ne-eqb}
 use lib.IntN.{_+ℤ_}
 use Rattle.graph.specs.Graph.{Graph, node}
-use Rattle.graph.specs.Admission.{Admitted}
+use Rattle.graph.specs.Admission.{Admitted, LockBytes}
 use Rattle.graph.specs.Answer.{Outcome, othersOf}
 use Rattle.moves.specs.Tree.{isRoot, tree}
 use Rattle.moves.specs.Call.{rewrite, wordFault, nodeNumber, nodeCall, pairNumber, pairRewrite, pairCall, treeNumber, treeCall}
@@ -23,34 +23,34 @@ after-goes : (call : Graph → Outcome) (p : Progress) (o : Outcome) → call (p
 unfolding after
 after-goes call p o e = record { others = ap (λ (x : Outcome). p .others +ℤ othersOf (x .answer)) e; graph = ap (λ (x : Outcome). x .graph) e }
 
-module _ (p : Progress) (adm : Admitted (p .graph)) where
-  pub nodeAt-goes : (v : ℕ) → v < p .graph .N → Goes p (nodeAt v p) (rewrite (p .graph) (node (p .graph) v ∷ []))
+module _ (ls : List ℕ) (p : Progress) (adm : Admitted (p .graph)) (ok : LockBytes (p .graph .N) ls) where
+  pub nodeAt-goes : (v : ℕ) → v < p .graph .N → Goes p (nodeAt ls v p) (rewrite (p .graph) ls (node (p .graph) v ∷ []))
   unfolding nodeAt nodeCall
   nodeAt-goes v h =
       let g : Graph = p .graph in
-      after-goes (λ x. nodeCall x (node x v)) p (rewrite g (node g v ∷ [])) (guarded-none (nodeNumber g (node g v)) g (rewrite g (node g v ∷ [])) (node-passes g adm v h))
+      after-goes (λ x. nodeCall x ls (node x v)) p (rewrite g ls (node g v ∷ [])) (guarded-none (nodeNumber g ls (node g v)) g (rewrite g ls (node g v ∷ [])) (node-passes g adm ls ok v h))
 
   pub treeAt-root : (s v : ℕ) → v < p .graph .N → isRoot (p .graph) (node (p .graph) v) ≡ true → 8 * p .graph .N ≤ s
-      → Goes p (treeAt s v p) (rewrite (p .graph) (tree (p .graph) (node (p .graph) v)))
+      → Goes p (treeAt ls s v p) (rewrite (p .graph) ls (tree (p .graph) (node (p .graph) v)))
   unfolding treeAt treeCall
   treeAt-root s v h r l =
       let g : Graph = p .graph in
       rw r
-      (after-goes (λ x. treeCall x s (node x v)) p (rewrite g (tree g (node g v)))
-      (guarded-none (treeNumber g s (node g v)) g (rewrite g (tree g (node g v))) (tree-passes g adm s v h r l)))
+      (after-goes (λ x. treeCall x ls s (node x v)) p (rewrite g ls (tree g (node g v)))
+      (guarded-none (treeNumber g ls s (node g v)) g (rewrite g ls (tree g (node g v))) (tree-passes g adm ls ok s v h r l)))
 
-  pub treeAt-inner : (s v : ℕ) → isRoot (p .graph) (node (p .graph) v) ≡ false → treeAt s v p ≡ p
+  pub treeAt-inner : (s v : ℕ) → isRoot (p .graph) (node (p .graph) v) ≡ false → treeAt ls s v p ≡ p
   unfolding treeAt
   treeAt-inner s v r = rw r
 
-  pub pairAt-word : (v k : ℕ) → v < p .graph .N → wordFault (p .graph) (node (p .graph) v) k ≡ 0 → Goes p (pairAt v k p) (pairRewrite (p .graph) (node (p .graph) v) k)
+  pub pairAt-word : (v k : ℕ) → v < p .graph .N → wordFault (p .graph) (node (p .graph) v) k ≡ 0 → Goes p (pairAt ls v k p) (pairRewrite (p .graph) ls (node (p .graph) v) k)
   unfolding pairAt pairCall
   pairAt-word v k h w =
       let g : Graph = p .graph in
       rw (eq-eqb (wordFault g (node g v) k) 0 w)
-      (after-goes (λ x. pairCall x (node x v) k) p (pairRewrite g (node g v) k)
-      (guarded-none (pairNumber g (node g v) k) g (pairRewrite g (node g v) k) (pair-passes g adm v k h w)))
+      (after-goes (λ x. pairCall x ls (node x v) k) p (pairRewrite g ls (node g v) k)
+      (guarded-none (pairNumber g ls (node g v) k) g (pairRewrite g ls (node g v) k) (pair-passes g adm ls ok v k h w)))
 
-  pub pairAt-none : (v k : ℕ) → (wordFault (p .graph) (node (p .graph) v) k ≡ 0 → ⊥) → pairAt v k p ≡ p
+  pub pairAt-none : (v k : ℕ) → (wordFault (p .graph) (node (p .graph) v) k ≡ 0 → ⊥) → pairAt ls v k p ≡ p
   unfolding pairAt
   pairAt-none v k w = rw (ne-eqb (wordFault (p .graph) (node (p .graph) v) k) 0 w)

@@ -1,3 +1,4 @@
 pub mod Round
 pub mod Settle
+pub mod Free
 pub mod Worked

@@ -1,6 +1,7 @@
 -- A round (document 01's term): the tree call at each root by rising index, the node call at each node by rising index, then
--- the pair call at each node by rising index with its words in order.
+-- the pair call at each node by rising index with its words in order. The locks ls are the same for all calls.
 use mathlib.Core.Bool.{cond}
+use mathlib.Core.List.{List}
 use Prim.Native.Nat.{ℕ, zero, suc}
 use lib.Dec.{eqb}
 use lib.IntN.{ℤ, pos, _+ℤ_}
@@ -31,24 +32,24 @@ each step zero p = p
 each step (suc n) p = step n (each step n p)
 
 -- the tree call at node v, where it is a root, with s words of scratch
-unfoldable pub treeAt : ℕ → ℕ → Progress → Progress
-treeAt s v p = cond (isRoot (p .graph) (node (p .graph) v)) (after (λ g. treeCall g s (node g v)) p) p
+unfoldable pub treeAt : List ℕ → ℕ → ℕ → Progress → Progress
+treeAt ls s v p = cond (isRoot (p .graph) (node (p .graph) v)) (after (λ g. treeCall g ls s (node g v)) p) p
 
 -- the node call at node v
-unfoldable pub nodeAt : ℕ → Progress → Progress
-nodeAt v p = after (λ g. nodeCall g (node g v)) p
+unfoldable pub nodeAt : List ℕ → ℕ → Progress → Progress
+nodeAt ls v p = after (λ g. nodeCall g ls (node g v)) p
 
 -- the pair call at word k of node v, where the node has one: an XOR has two, a majority three
-unfoldable pub pairAt : ℕ → ℕ → Progress → Progress
-pairAt v k p = cond (eqb (wordFault (p .graph) (node (p .graph) v) k) 0) (after (λ g. pairCall g (node g v) k) p) p
+unfoldable pub pairAt : List ℕ → ℕ → ℕ → Progress → Progress
+pairAt ls v k p = cond (eqb (wordFault (p .graph) (node (p .graph) v) k) 0) (after (λ g. pairCall g ls (node g v) k) p) p
 
 -- at its words in order
-unfoldable pub pairsAt : ℕ → Progress → Progress
-pairsAt v p = pairAt v 3 (pairAt v 2 (pairAt v 1 p))
+unfoldable pub pairsAt : List ℕ → ℕ → Progress → Progress
+pairsAt ls v p = pairAt ls v 3 (pairAt ls v 2 (pairAt ls v 1 p))
 
 -- the three phases over n nodes, with s words of scratch
-abbrev pub phases : ℕ → ℕ → Progress → Progress
-phases s n p = each pairsAt n (each nodeAt n (each (treeAt s) n p))
+abbrev pub phases : List ℕ → ℕ → ℕ → Progress → Progress
+phases ls s n p = each (pairsAt ls) n (each (nodeAt ls) n (each (treeAt ls s) n p))
 
-unfoldable pub round : ℕ → Progress → Progress
-round s p = phases s (p .graph .N) p
+unfoldable pub round : List ℕ → ℕ → Progress → Progress
+round ls s p = phases ls s (p .graph .N) p

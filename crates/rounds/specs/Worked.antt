@@ -14,4 +14,4 @@ abbrev settled : Graph
 settled = graphOf 2 3 1 (4 ∷ 4 ∷ mark ∷ 5 ∷ 6 ∷ 2 ∷ 8 ∷ 4 ∷ 8 ∷ []) (10 ∷ [])
 
 abbrev pub Settles : Type 0
-Settles = settleCall before 24 ≡ outcome (gained (3 ∷ 7 ∷ 1 ∷ []) (pos 3) (pos 3)) settled
+Settles = settleCall before (0 ∷ 0 ∷ 0 ∷ []) 24 ≡ outcome (gained (3 ∷ 7 ∷ 1 ∷ []) (pos 3) (pos 3)) settled

@@ -6,17 +6,19 @@ fn main() {
     print_report(&file[..n]);
 }
 
-// Prints the report of a file. The tables have room for 2,000 nodes and 4,096 outputs, the scratch is what settling such a
+// Prints the report of a file. The tables and the locks have room for 2,000 nodes and 4,096 outputs, the scratch is what settling such a
 // graph needs, and the buffer has room for any report of it.
 fn print_report(file: &[u8]) {
     let mut node_table = [0u32; 6000];
     let mut output_table = [0u32; 4096];
+    let mut locks = [0u8; 2000];
     let mut scratch = [0u32; 16000];
     let mut buffer = [0u8; 181856];
     let reported = report::report(
         file,
         &mut node_table,
         &mut output_table,
+        &mut locks,
         &mut scratch,
         &mut buffer,
     );

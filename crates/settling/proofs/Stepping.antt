@@ -15,7 +15,7 @@ use Rattle.graph.specs.Difference.{difference}
 use Rattle.graph.specs.Graph.{Graph, node, isXor, mark}
 use Rattle.graph.specs.Turned.{turnedBy}
 use Rattle.graph.specs.Count.{C}
-use Rattle.graph.specs.Admission.{Admitted}
+use Rattle.graph.specs.Admission.{Admitted, LockBytes}
 use Rattle.graph.proofs.Cases.{true-or-false}
 use Rattle.graph.proofs.DifferenceSum.{differences-add}
 use Rattle.moves.specs.Tree.{isRoot, place, tree}
@@ -119,14 +119,6 @@ module _ (g : Graph) (sc : List ℕ) (o : Ordered g sc) where
         few-after = omega (arith, a .after, d .few-after);
       }
 
-  pub node-phase : (v : ℕ) → v < g .N → (t : Tally) (g′ : Graph) (sc′ : List ℕ) (s : Step) (u : Tally)
-      → Made sc g′ sc′ (moved (stands g sc) (node g v ∷ []) (bestAt (stands g sc) (node g v ∷ []))) (s .count) × Parted (rewrite (stands g sc) (node g v ∷ [])) s → Added t s u
-      → Phase (nodeAt v) 1 g sc t g′ sc′ u
-  unfolding rewrite
-  node-phase v h t g′ sc′ s u m a =
-      by-call (nodeAt v) (λ x. rewrite x (node g v ∷ [])) t g′ sc′ s u (m .0 .became .ordered) (m .0 .became .kept .long) (m .0 .became .stands-for) (m .0 .count) (m .1) a
-      (λ p e. rw (sym (same-node p e v)) (nodeAt-goes p (here p e) v (omega (arith, same-N p e))))
-
   same-fault : (p : Progress) → p .graph ≡ stands g sc → (v k : ℕ) → wordFault (p .graph) (node (p .graph) v) k ≡ wordFault g (node g v) k
   unfolding wordFault
   same-fault p e v k =
@@ -135,15 +127,28 @@ module _ (g : Graph) (sc : List ℕ) (o : Ordered g sc) where
       let x : isXor (p .graph) v ≡ isXor g v = ap (λ (y : Graph). isXor y v) e ∙ alike-xor g (stands g sc) (stands-alike g sc (o .admitted)) v in
       rw (q, q′, x)
 
-  pub pair-phase : (v k : ℕ) → v < g .N → wordFault g (node g v) k ≡ 0 → (t : Tally) (g′ : Graph) (sc′ : List ℕ) (s : Step) (u : Tally)
-      → Made sc g′ sc′ (pairRewrite (stands g sc) (node g v) k .graph) (s .count) × Parted (pairRewrite (stands g sc) (node g v) k) s → Added t s u
-      → Phase (pairAt v k) 1 g sc t g′ sc′ u
-  pair-phase v k h w t g′ sc′ s u m a =
-      by-call (pairAt v k) (λ x. pairRewrite x (node g v) k) t g′ sc′ s u (m .0 .became .ordered) (m .0 .became .kept .long) (m .0 .became .stands-for) (m .0 .count) (m .1) a
-      (λ p e. rw (sym (same-node p e v)) (pairAt-word p (here p e) v k (omega (arith, same-N p e)) (same-fault p e v k ∙ w)))
+  -- with the locks ls
+  module _ (ls : List ℕ) (ok : LockBytes (g .N) ls) where
+    locked : (p : Progress) → p .graph ≡ stands g sc → LockBytes (p .graph .N) ls
+    locked p e = rw (same-N p e) ok
 
-  pub pair-idle : (v k : ℕ) (t : Tally) → (wordFault g (node g v) k ≡ 0 → ⊥) → t .count ≡ C (stands g sc) → Phase (pairAt v k) 1 g sc t g sc t
-  pair-idle v k t w e = idle-phase (pairAt v k) g sc t o e (λ p q. pairAt-none p (here p q) v k (λ z. w (sym (same-fault p q v k) ∙ z)))
+    pub node-phase : (v : ℕ) → v < g .N → (t : Tally) (g′ : Graph) (sc′ : List ℕ) (s : Step) (u : Tally)
+        → Made sc g′ sc′ (moved (stands g sc) (node g v ∷ []) (bestAt (stands g sc) ls (node g v ∷ []))) (s .count) × Parted (rewrite (stands g sc) ls (node g v ∷ [])) s → Added t s u
+        → Phase (nodeAt ls v) 1 g sc t g′ sc′ u
+    unfolding rewrite
+    node-phase v h t g′ sc′ s u m a =
+        by-call (nodeAt ls v) (λ x. rewrite x ls (node g v ∷ [])) t g′ sc′ s u (m .0 .became .ordered) (m .0 .became .kept .long) (m .0 .became .stands-for) (m .0 .count) (m .1) a
+        (λ p e. rw (sym (same-node p e v)) (nodeAt-goes ls p (here p e) (locked p e) v (omega (arith, same-N p e))))
+
+    pub pair-phase : (v k : ℕ) → v < g .N → wordFault g (node g v) k ≡ 0 → (t : Tally) (g′ : Graph) (sc′ : List ℕ) (s : Step) (u : Tally)
+        → Made sc g′ sc′ (pairRewrite (stands g sc) ls (node g v) k .graph) (s .count) × Parted (pairRewrite (stands g sc) ls (node g v) k) s → Added t s u
+        → Phase (pairAt ls v k) 1 g sc t g′ sc′ u
+    pair-phase v k h w t g′ sc′ s u m a =
+        by-call (pairAt ls v k) (λ x. pairRewrite x ls (node g v) k) t g′ sc′ s u (m .0 .became .ordered) (m .0 .became .kept .long) (m .0 .became .stands-for) (m .0 .count) (m .1) a
+        (λ p e. rw (sym (same-node p e v)) (pairAt-word ls p (here p e) (locked p e) v k (omega (arith, same-N p e)) (same-fault p e v k ∙ w)))
+
+    pub pair-idle : (v k : ℕ) (t : Tally) → (wordFault g (node g v) k ≡ 0 → ⊥) → t .count ≡ C (stands g sc) → Phase (pairAt ls v k) 1 g sc t g sc t
+    pair-idle v k t w e = idle-phase (pairAt ls v k) g sc t o e (λ p q. pairAt-none ls p (here p q) (locked p q) v k (λ z. w (sym (same-fault p q v k) ∙ z)))
 
 -- which words a node has
 module _ (g : Graph) (v : ℕ) where
@@ -171,11 +176,11 @@ module _ (g : Graph) (v : ℕ) where
   no-third-word x z = omega (arith, rw (at-node, x) at z)
 
 -- the words of a node in order
-pub pairs-phase : (v : ℕ) (g g₁ g₂ g₃ : Graph) (sc sc₁ sc₂ sc₃ : List ℕ) (t t₁ t₂ t₃ : Tally) → Phase (pairAt v 1) 1 g sc t g₁ sc₁ t₁ → Phase (pairAt v 2) 1 g₁ sc₁ t₁ g₂ sc₂ t₂
-    → Phase (pairAt v 3) 1 g₂ sc₂ t₂ g₃ sc₃ t₃ → Phase (pairsAt v) 3 g sc t g₃ sc₃ t₃
+pub pairs-phase : (ls : List ℕ) (v : ℕ) (g g₁ g₂ g₃ : Graph) (sc sc₁ sc₂ sc₃ : List ℕ) (t t₁ t₂ t₃ : Tally) → Phase (pairAt ls v 1) 1 g sc t g₁ sc₁ t₁ → Phase (pairAt ls v 2) 1 g₁ sc₁ t₁ g₂ sc₂ t₂
+    → Phase (pairAt ls v 3) 1 g₂ sc₂ t₂ g₃ sc₃ t₃ → Phase (pairsAt ls v) 3 g sc t g₃ sc₃ t₃
 unfolding pairsAt
-pairs-phase v g g₁ g₂ g₃ sc sc₁ sc₂ sc₃ t t₁ t₂ t₃ x y z =
-    phase-then (λ p. pairAt v 2 (pairAt v 1 p)) (pairAt v 3) 2 1 g g₂ g₃ sc sc₂ sc₃ t t₂ t₃ (phase-then (pairAt v 1) (pairAt v 2) 1 1 g g₁ g₂ sc sc₁ sc₂ t t₁ t₂ x y) z
+pairs-phase ls v g g₁ g₂ g₃ sc sc₁ sc₂ sc₃ t t₁ t₂ t₃ x y z =
+    phase-then (λ p. pairAt ls v 2 (pairAt ls v 1 p)) (pairAt ls v 3) 2 1 g g₂ g₃ sc sc₂ sc₃ t t₂ t₃ (phase-then (pairAt ls v 1) (pairAt ls v 2) 1 1 g g₁ g₂ sc sc₁ sc₂ t t₁ t₂ x y) z
 
 -- a node whose place of an only reader is the mark is a root
 module _ (g : Graph) (sc : List ℕ) (o : Ordered g sc) (v : ℕ) (h : v < g .N) where
@@ -195,15 +200,16 @@ module _ (g : Graph) (sc : List ℕ) (o : Ordered g sc) (v : ℕ) (h : v < g .N)
   same-root p e =
       rw (same-node g sc o p e v) (ap (λ (y : Graph). isRoot y (node g v)) e ∙ alike-isRoot g (stands g sc) (stands-alike g sc (o .admitted)) (node g v))
 
-  pub tree-idle : (t : Tally) → t .count ≡ C (stands g sc) → isRoot g (node g v) ≡ false → Phase (treeAt (length sc) v) 1 g sc t g sc t
-  tree-idle t e r = idle-phase (treeAt (length sc) v) g sc t o e (λ p q. treeAt-inner p (here g sc o p q) (length sc) v (same-root p q ∙ r))
+  module _ (ls : List ℕ) (ok : LockBytes (g .N) ls) where
+    pub tree-idle : (t : Tally) → t .count ≡ C (stands g sc) → isRoot g (node g v) ≡ false → Phase (treeAt ls (length sc) v) 1 g sc t g sc t
+    tree-idle t e r = idle-phase (treeAt ls (length sc) v) g sc t o e (λ p q. treeAt-inner ls p (here g sc o p q) (locked g sc o ls ok p q) (length sc) v (same-root p q ∙ r))
 
-  pub tree-phase : isRoot g (node g v) ≡ true → (t : Tally) (g′ : Graph) (sc′ : List ℕ) (s : Step) (u : Tally)
-      → TreeMade sc g′ sc′ (treeMoved (stands g sc) (node g v)) (s .count) × Parted (rewrite (stands g sc) (tree (stands g sc) (node g v))) s → Added t s u
-      → Phase (treeAt (length sc) v) 1 g sc t g′ sc′ u
-  unfolding rewrite
-  tree-phase r t g′ sc′ s u m a =
-      by-call g sc o (treeAt (length sc) v) (λ x. rewrite x (tree x (node g v))) t g′ sc′ s u (m .0 .ordered) (m .0 .long) (m .0 .stands-for) (m .0 .count) (m .1) a
-      (λ p e.
-      rw (sym (same-node g sc o p e v))
-      (treeAt-root p (here g sc o p e) (length sc) v (omega (arith, same-N g sc o p e)) (same-root p e ∙ r) (omega (arith, same-N g sc o p e, o .long))))
+    pub tree-phase : isRoot g (node g v) ≡ true → (t : Tally) (g′ : Graph) (sc′ : List ℕ) (s : Step) (u : Tally)
+        → TreeMade sc g′ sc′ (treeMoved (stands g sc) ls (node g v)) (s .count) × Parted (rewrite (stands g sc) ls (tree (stands g sc) (node g v))) s → Added t s u
+        → Phase (treeAt ls (length sc) v) 1 g sc t g′ sc′ u
+    unfolding rewrite
+    tree-phase r t g′ sc′ s u m a =
+        by-call g sc o (treeAt ls (length sc) v) (λ x. rewrite x ls (tree x (node g v))) t g′ sc′ s u (m .0 .ordered) (m .0 .long) (m .0 .stands-for) (m .0 .count) (m .1) a
+        (λ p e.
+        rw (sym (same-node g sc o p e v))
+        (treeAt-root ls p (here g sc o p e) (locked g sc o ls ok p e) (length sc) v (omega (arith, same-N g sc o p e)) (same-root p e ∙ r) (omega (arith, same-N g sc o p e, o .long))))

@@ -41,12 +41,12 @@ pub record Phase (made : Progress → Progress) (k : ℕ) (g : Graph) (sc : List
   pub few : t′ .before ≤ t .before + k * 608195
   pub few-after : t′ .after ≤ t .after + k * 608195
 
--- they became what all rounds make of it, with s words of scratch
-pub record AllRounds (s : ℕ) (g : Graph) (sc : List ℕ) (g′ : Graph) (sc′ : List ℕ) (r : RoundsMade) : Type 0 where
+-- they became what all rounds make of it, with the locks ls and s words of scratch
+pub record AllRounds (ls : List ℕ) (s : ℕ) (g : Graph) (sc : List ℕ) (g′ : Graph) (sc′ : List ℕ) (r : RoundsMade) : Type 0 where
   pub ordered : Ordered g′ sc′
   pub long : length sc′ ≡ length sc
-  pub carried : Carried (settle s (stands g sc) .made) g′ sc′ (r .before) (r .after)
-  pub rounds : settle s (stands g sc) .rounds ≡ r .rounds
+  pub carried : Carried (settle ls s (stands g sc) .made) g′ sc′ (r .before) (r .after)
+  pub rounds : settle ls s (stands g sc) .rounds ≡ r .rounds
   pub count : r .count ≡ C (stands g′ sc′)
   pub few : r .before ≤ 100000000000000000
   pub few-after : r .after ≤ 100000000000000000
@@ -60,11 +60,11 @@ pub record Fair (r : Figures) : Type 0 where
 abbrev pub figured : Figures → Answer
 figured r = gained (r .rounds ∷ r .before ∷ r .after ∷ []) (difference (r .before + r .later) (r .after + r .odd)) (difference (r .odd) (r .later))
 
--- the tables of g became those of h by settling with s words of scratch
-pub record SettledTo (s : ℕ) (g h : Graph) (r : Figures) : Type 0 where
-  pub graph : settle s g .made .graph ≡ h
-  pub others : settle s g .made .others ≡ difference (r .odd) (r .later)
-  pub rounds : settle s g .rounds ≡ r .rounds
+-- the tables of g became those of h by settling with the locks ls and s words of scratch
+pub record SettledTo (ls : List ℕ) (s : ℕ) (g h : Graph) (r : Figures) : Type 0 where
+  pub graph : settle ls s g .made .graph ≡ h
+  pub others : settle ls s g .made .others ≡ difference (r .odd) (r .later)
+  pub rounds : settle ls s g .rounds ≡ r .rounds
   pub before : r .before ≡ C g
   pub after : r .after ≡ C h
   pub fair : Fair r

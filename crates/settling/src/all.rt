@@ -2,7 +2,7 @@
 ghost use mathlib.Core.Path.{_≡_};
 ghost use Prim.Native.Nat.{_*_, _≤_};
 ghost use lib.ListN.{length};
-ghost use Rattle.graph.specs.Admission.{Admitted};
+ghost use Rattle.graph.specs.Admission.{Admitted, LockBytes};
 ghost use Rattle.graph.specs.Graph.{graphOf};
 ghost use Rattle.graph.specs.Count.{C};
 ghost use Rattle.state.specs.State.{stands, Ordered};
@@ -34,11 +34,12 @@ pub fn one_round(
     outputs: u32,
     node_table: &mut [u32],
     output_table: &[u32],
+    locks: &[u8],
     tally: Tally,
     scratch: &mut [u32],
 ) -> Tally
-    requires { ⌜ Ordered (graphOf inputs nodes outputs (now «node_table») (now «output_table»)) (now scratch) × (tally .count ≡ C (stands (graphOf inputs nodes outputs (now «node_table») (now «output_table»)) (now scratch))) × Room tally 100000000000000000 ⌝ }
-    ensures { λ r. ⌜ Phase (phases (length (now (scratch .entry))) nodes) 500000 (graphOf inputs nodes outputs (now («node_table» .entry)) (now («output_table» .entry))) (now (scratch .entry)) tally (graphOf inputs nodes outputs (now («node_table» .exit)) (now («output_table» .entry))) (now (scratch .exit)) r ⌝ }
+    requires { ⌜ Ordered (graphOf inputs nodes outputs (now «node_table») (now «output_table»)) (now scratch) × (tally .count ≡ C (stands (graphOf inputs nodes outputs (now «node_table») (now «output_table»)) (now scratch))) × Room tally 100000000000000000 × LockBytes nodes (now locks) ⌝ }
+    ensures { λ r. ⌜ Phase (phases (now (locks .entry)) (length (now (scratch .entry))) nodes) 500000 (graphOf inputs nodes outputs (now («node_table» .entry)) (now («output_table» .entry))) (now (scratch .entry)) tally (graphOf inputs nodes outputs (now («node_table» .exit)) (now («output_table» .entry))) (now (scratch .exit)) r ⌝ }
 {
     let a = phases::tree_calls(
         inputs,
@@ -46,11 +47,30 @@ pub fn one_round(
         outputs,
         node_table,
         output_table,
+        locks,
         tally,
         scratch,
     );
-    let b = phases::single_calls(inputs, nodes, outputs, node_table, output_table, a, scratch);
-    phases::pair_calls(inputs, nodes, outputs, node_table, output_table, b, scratch)
+    let b = phases::single_calls(
+        inputs,
+        nodes,
+        outputs,
+        node_table,
+        output_table,
+        locks,
+        a,
+        scratch,
+    );
+    phases::pair_calls(
+        inputs,
+        nodes,
+        outputs,
+        node_table,
+        output_table,
+        locks,
+        b,
+        scratch,
+    )
 }
 
 // The first round is always made: it starts as if C had just fallen.
@@ -60,11 +80,12 @@ pub fn all_rounds(
     outputs: u32,
     node_table: &mut [u32],
     output_table: &[u32],
+    locks: &[u8],
     count: u32,
     scratch: &mut [u32],
 ) -> RoundsMade
-    requires { ⌜ Ordered (graphOf inputs nodes outputs (now «node_table») (now «output_table»)) (now scratch) × (count ≡ C (stands (graphOf inputs nodes outputs (now «node_table») (now «output_table»)) (now scratch))) ⌝ }
-    ensures { λ r. ⌜ AllRounds (length (now (scratch .entry))) (graphOf inputs nodes outputs (now («node_table» .entry)) (now («output_table» .entry))) (now (scratch .entry)) (graphOf inputs nodes outputs (now («node_table» .exit)) (now («output_table» .entry))) (now (scratch .exit)) r ⌝ }
+    requires { ⌜ Ordered (graphOf inputs nodes outputs (now «node_table») (now «output_table»)) (now scratch) × (count ≡ C (stands (graphOf inputs nodes outputs (now «node_table») (now «output_table»)) (now scratch))) × LockBytes nodes (now locks) ⌝ }
+    ensures { λ r. ⌜ AllRounds (now (locks .entry)) (length (now (scratch .entry))) (graphOf inputs nodes outputs (now («node_table» .entry)) (now («output_table» .entry))) (now (scratch .entry)) (graphOf inputs nodes outputs (now («node_table» .exit)) (now («output_table» .entry))) (now (scratch .exit)) r ⌝ }
 {
     let mut rounds: u32 = 0;
     let mut before = count + 1;
@@ -82,6 +103,7 @@ pub fn all_rounds(
             outputs,
             node_table,
             output_table,
+            locks,
             tally,
             scratch,
         );
@@ -103,10 +125,11 @@ pub fn settle_admitted(
     outputs: u32,
     node_table: &mut [u32],
     output_table: &mut [u32],
+    locks: &[u8],
     scratch: &mut [u32],
 ) -> Figures
-    requires { ⌜ Admitted (graphOf inputs nodes outputs (now «node_table») (now «output_table»)) × (8 * nodes ≤ length (now scratch)) ⌝ }
-    ensures { λ r. ⌜ SettledTo (length (now (scratch .entry))) (graphOf inputs nodes outputs (now («node_table» .entry)) (now («output_table» .entry))) (graphOf inputs nodes outputs (now («node_table» .exit)) (now («output_table» .exit))) r ⌝ }
+    requires { ⌜ Admitted (graphOf inputs nodes outputs (now «node_table») (now «output_table»)) × (8 * nodes ≤ length (now scratch)) × LockBytes nodes (now locks) ⌝ }
+    ensures { λ r. ⌜ SettledTo (now (locks .entry)) (length (now (scratch .entry))) (graphOf inputs nodes outputs (now («node_table» .entry)) (now («output_table» .entry))) (graphOf inputs nodes outputs (now («node_table» .exit)) (now («output_table» .exit))) r ⌝ }
 {
     let before = graph::edges::complemented(inputs, nodes, outputs, node_table, output_table);
     trees::start::fill_scratch(inputs, nodes, outputs, node_table, output_table, scratch);
@@ -116,6 +139,7 @@ pub fn settle_admitted(
         outputs,
         node_table,
         output_table,
+        locks,
         before,
         scratch,
     );

@@ -1,4 +1,4 @@
-// Which of document 01's numbers 3, 4, 5 and 8 refuses a settling; 0 is none.
+// Which of the numbers 3, 4, 5, 13 and 8 refuses a settling; 0 is none.
 ghost use mathlib.Core.Path.{_≡_};
 ghost use Prim.Native.Nat.{_≤_};
 ghost use Rattle.graph.specs.Graph.{graphOf};
@@ -10,11 +10,19 @@ pub fn settle_number(
     outputs: u32,
     node_table: &[u32],
     output_table: &[u32],
+    locks: &[u8],
     words: usize,
 ) -> u32
-    ensures { λ r. ⌜ (r ≡ settleNumber (graphOf inputs nodes outputs (now («node_table» .entry)) (now («output_table» .entry))) words) × (r ≤ 9) ⌝ }
+    ensures { λ r. ⌜ (r ≡ settleNumber (graphOf inputs nodes outputs (now («node_table» .entry)) (now («output_table» .entry))) (now (locks .entry)) words) × (r ≤ 13) ⌝ }
 {
-    let k = graph::faults::admission_number(inputs, nodes, outputs, node_table, output_table);
+    let k = graph::faults::admission_number(
+        inputs,
+        nodes,
+        outputs,
+        node_table,
+        output_table,
+        locks,
+    );
     if k != 0 {
         return k;
     }

@@ -51,9 +51,10 @@ pub fn settle(
     outputs: u32,
     node_table: &mut [u32],
     output_table: &mut [u32],
+    locks: &[u8],
     scratch: &mut [u32],
 ) -> Settled
-    ensures call { λ r. ⌜ outcome (settledAnswer r) (graphOf inputs nodes outputs (now («node_table» .exit)) (now («output_table» .exit))) ≡ settleCall (graphOf inputs nodes outputs (now («node_table» .entry)) (now («output_table» .entry))) (length (now (scratch .entry))) ⌝ }
+    ensures call { λ r. ⌜ outcome (settledAnswer r) (graphOf inputs nodes outputs (now («node_table» .exit)) (now («output_table» .exit))) ≡ settleCall (graphOf inputs nodes outputs (now («node_table» .entry)) (now («output_table» .entry))) (now (locks .entry)) (length (now (scratch .entry))) ⌝ }
     ensures scratch { λ r. ⌜ ScratchKept (settledAnswer r) (now (scratch .entry)) (now (scratch .exit)) ⌝ }
 {
     let refusal = faults::settle_number(
@@ -62,11 +63,20 @@ pub fn settle(
         outputs,
         node_table,
         output_table,
+        locks,
         scratch.len(),
     );
     if refusal != 0 {
         return Settled::Refused(graph::faults::refused_by(refusal));
     }
-    let figures = all::settle_admitted(inputs, nodes, outputs, node_table, output_table, scratch);
+    let figures = all::settle_admitted(
+        inputs,
+        nodes,
+        outputs,
+        node_table,
+        output_table,
+        locks,
+        scratch,
+    );
     settled_by(figures)
 }

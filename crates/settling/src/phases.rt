@@ -2,6 +2,7 @@
 ghost use mathlib.Core.Path.{_≡_};
 ghost use Prim.Native.Nat.{_+_, _*_, _<_};
 ghost use lib.ListN.{length};
+ghost use Rattle.graph.specs.Admission.{LockBytes};
 ghost use Rattle.graph.specs.Graph.{graphOf};
 ghost use Rattle.graph.specs.Count.{C};
 ghost use Rattle.moves.specs.Call.{wordFault};
@@ -39,12 +40,13 @@ pub fn tree_call_at(
     outputs: u32,
     node_table: &mut [u32],
     output_table: &[u32],
+    locks: &[u8],
     v: usize,
     tally: Tally,
     scratch: &mut [u32],
 ) -> Tally
-    requires { ⌜ Ordered (graphOf inputs nodes outputs (now «node_table») (now «output_table»)) (now scratch) × (v < nodes) × (tally .count ≡ C (stands (graphOf inputs nodes outputs (now «node_table») (now «output_table»)) (now scratch))) × Room tally 300000000000000000 ⌝ }
-    ensures { λ r. ⌜ Phase (treeAt (length (now (scratch .entry))) v) 1 (graphOf inputs nodes outputs (now («node_table» .entry)) (now («output_table» .entry))) (now (scratch .entry)) tally (graphOf inputs nodes outputs (now («node_table» .exit)) (now («output_table» .entry))) (now (scratch .exit)) r ⌝ }
+    requires { ⌜ Ordered (graphOf inputs nodes outputs (now «node_table») (now «output_table»)) (now scratch) × (v < nodes) × (tally .count ≡ C (stands (graphOf inputs nodes outputs (now «node_table») (now «output_table»)) (now scratch))) × Room tally 300000000000000000 × LockBytes nodes (now locks) ⌝ }
+    ensures { λ r. ⌜ Phase (treeAt (now (locks .entry)) (length (now (scratch .entry))) v) 1 (graphOf inputs nodes outputs (now («node_table» .entry)) (now («output_table» .entry))) (now (scratch .entry)) tally (graphOf inputs nodes outputs (now («node_table» .exit)) (now («output_table» .entry))) (now (scratch .exit)) r ⌝ }
 {
     let only = 8 * v + 3;
     if scratch[only] != MARK {
@@ -56,6 +58,7 @@ pub fn tree_call_at(
         outputs,
         node_table,
         output_table,
+        locks,
         v,
         tally.count,
         scratch,
@@ -70,11 +73,12 @@ pub fn tree_calls(
     outputs: u32,
     node_table: &mut [u32],
     output_table: &[u32],
+    locks: &[u8],
     tally: Tally,
     scratch: &mut [u32],
 ) -> Tally
-    requires { ⌜ Ordered (graphOf inputs nodes outputs (now «node_table») (now «output_table»)) (now scratch) × (tally .count ≡ C (stands (graphOf inputs nodes outputs (now «node_table») (now «output_table»)) (now scratch))) × Room tally 200000000000000000 ⌝ }
-    ensures { λ r. ⌜ Phase (each (treeAt (length (now (scratch .entry)))) nodes) nodes (graphOf inputs nodes outputs (now («node_table» .entry)) (now («output_table» .entry))) (now (scratch .entry)) tally (graphOf inputs nodes outputs (now («node_table» .exit)) (now («output_table» .entry))) (now (scratch .exit)) r ⌝ }
+    requires { ⌜ Ordered (graphOf inputs nodes outputs (now «node_table») (now «output_table»)) (now scratch) × (tally .count ≡ C (stands (graphOf inputs nodes outputs (now «node_table») (now «output_table»)) (now scratch))) × Room tally 200000000000000000 × LockBytes nodes (now locks) ⌝ }
+    ensures { λ r. ⌜ Phase (each (treeAt (now (locks .entry)) (length (now (scratch .entry)))) nodes) nodes (graphOf inputs nodes outputs (now («node_table» .entry)) (now («output_table» .entry))) (now (scratch .entry)) tally (graphOf inputs nodes outputs (now («node_table» .exit)) (now («output_table» .entry))) (now (scratch .exit)) r ⌝ }
 {
     let end = nodes as usize;
     let mut t = tally;
@@ -86,6 +90,7 @@ pub fn tree_calls(
             outputs,
             node_table,
             output_table,
+            locks,
             end - left,
             t,
             scratch,
@@ -102,12 +107,13 @@ pub fn node_call_at(
     outputs: u32,
     node_table: &mut [u32],
     output_table: &[u32],
+    locks: &[u8],
     v: usize,
     tally: Tally,
     scratch: &mut [u32],
 ) -> Tally
-    requires { ⌜ Ordered (graphOf inputs nodes outputs (now «node_table») (now «output_table»)) (now scratch) × (v < nodes) × (tally .count ≡ C (stands (graphOf inputs nodes outputs (now «node_table») (now «output_table»)) (now scratch))) × Room tally 300000000000000000 ⌝ }
-    ensures { λ r. ⌜ Phase (nodeAt v) 1 (graphOf inputs nodes outputs (now («node_table» .entry)) (now («output_table» .entry))) (now (scratch .entry)) tally (graphOf inputs nodes outputs (now («node_table» .exit)) (now («output_table» .entry))) (now (scratch .exit)) r ⌝ }
+    requires { ⌜ Ordered (graphOf inputs nodes outputs (now «node_table») (now «output_table»)) (now scratch) × (v < nodes) × (tally .count ≡ C (stands (graphOf inputs nodes outputs (now «node_table») (now «output_table»)) (now scratch))) × Room tally 300000000000000000 × LockBytes nodes (now locks) ⌝ }
+    ensures { λ r. ⌜ Phase (nodeAt (now (locks .entry)) v) 1 (graphOf inputs nodes outputs (now («node_table» .entry)) (now («output_table» .entry))) (now (scratch .entry)) tally (graphOf inputs nodes outputs (now («node_table» .exit)) (now («output_table» .entry))) (now (scratch .exit)) r ⌝ }
 {
     let single = state::moving::node_step(
         inputs,
@@ -115,6 +121,7 @@ pub fn node_call_at(
         outputs,
         node_table,
         output_table,
+        locks,
         v,
         tally.count,
         scratch,
@@ -129,11 +136,12 @@ pub fn single_calls(
     outputs: u32,
     node_table: &mut [u32],
     output_table: &[u32],
+    locks: &[u8],
     tally: Tally,
     scratch: &mut [u32],
 ) -> Tally
-    requires { ⌜ Ordered (graphOf inputs nodes outputs (now «node_table») (now «output_table»)) (now scratch) × (tally .count ≡ C (stands (graphOf inputs nodes outputs (now «node_table») (now «output_table»)) (now scratch))) × Room tally 200000000000000000 ⌝ }
-    ensures { λ r. ⌜ Phase (each nodeAt nodes) nodes (graphOf inputs nodes outputs (now («node_table» .entry)) (now («output_table» .entry))) (now (scratch .entry)) tally (graphOf inputs nodes outputs (now («node_table» .exit)) (now («output_table» .entry))) (now (scratch .exit)) r ⌝ }
+    requires { ⌜ Ordered (graphOf inputs nodes outputs (now «node_table») (now «output_table»)) (now scratch) × (tally .count ≡ C (stands (graphOf inputs nodes outputs (now «node_table») (now «output_table»)) (now scratch))) × Room tally 200000000000000000 × LockBytes nodes (now locks) ⌝ }
+    ensures { λ r. ⌜ Phase (each (nodeAt (now (locks .entry))) nodes) nodes (graphOf inputs nodes outputs (now («node_table» .entry)) (now («output_table» .entry))) (now (scratch .entry)) tally (graphOf inputs nodes outputs (now («node_table» .exit)) (now («output_table» .entry))) (now (scratch .exit)) r ⌝ }
 {
     let end = nodes as usize;
     let mut t = tally;
@@ -145,6 +153,7 @@ pub fn single_calls(
             outputs,
             node_table,
             output_table,
+            locks,
             v,
             t,
             scratch,
@@ -161,13 +170,14 @@ pub fn pair_call_at(
     outputs: u32,
     node_table: &mut [u32],
     output_table: &[u32],
+    locks: &[u8],
     v: usize,
     k: usize,
     tally: Tally,
     scratch: &mut [u32],
 ) -> Tally
-    requires { ⌜ Ordered (graphOf inputs nodes outputs (now «node_table») (now «output_table»)) (now scratch) × (v < nodes) × (wordFault (graphOf inputs nodes outputs (now «node_table») (now «output_table»)) (inputs + 1 + v) k ≡ 0) × (tally .count ≡ C (stands (graphOf inputs nodes outputs (now «node_table») (now «output_table»)) (now scratch))) × Room tally 300000000000000000 ⌝ }
-    ensures { λ r. ⌜ Phase (pairAt v k) 1 (graphOf inputs nodes outputs (now («node_table» .entry)) (now («output_table» .entry))) (now (scratch .entry)) tally (graphOf inputs nodes outputs (now («node_table» .exit)) (now («output_table» .entry))) (now (scratch .exit)) r ⌝ }
+    requires { ⌜ Ordered (graphOf inputs nodes outputs (now «node_table») (now «output_table»)) (now scratch) × (v < nodes) × (wordFault (graphOf inputs nodes outputs (now «node_table») (now «output_table»)) (inputs + 1 + v) k ≡ 0) × (tally .count ≡ C (stands (graphOf inputs nodes outputs (now «node_table») (now «output_table»)) (now scratch))) × Room tally 300000000000000000 × LockBytes nodes (now locks) ⌝ }
+    ensures { λ r. ⌜ Phase (pairAt (now (locks .entry)) v k) 1 (graphOf inputs nodes outputs (now («node_table» .entry)) (now («output_table» .entry))) (now (scratch .entry)) tally (graphOf inputs nodes outputs (now («node_table» .exit)) (now («output_table» .entry))) (now (scratch .exit)) r ⌝ }
 {
     let step = state::moving::pair_step(
         inputs,
@@ -175,6 +185,7 @@ pub fn pair_call_at(
         outputs,
         node_table,
         output_table,
+        locks,
         v,
         k,
         tally.count,
@@ -190,12 +201,13 @@ pub fn pair_calls_at(
     outputs: u32,
     node_table: &mut [u32],
     output_table: &[u32],
+    locks: &[u8],
     v: usize,
     tally: Tally,
     scratch: &mut [u32],
 ) -> Tally
-    requires { ⌜ Ordered (graphOf inputs nodes outputs (now «node_table») (now «output_table»)) (now scratch) × (v < nodes) × (tally .count ≡ C (stands (graphOf inputs nodes outputs (now «node_table») (now «output_table»)) (now scratch))) × Room tally 250000000000000000 ⌝ }
-    ensures { λ r. ⌜ Phase (pairsAt v) 3 (graphOf inputs nodes outputs (now («node_table» .entry)) (now («output_table» .entry))) (now (scratch .entry)) tally (graphOf inputs nodes outputs (now («node_table» .exit)) (now («output_table» .entry))) (now (scratch .exit)) r ⌝ }
+    requires { ⌜ Ordered (graphOf inputs nodes outputs (now «node_table») (now «output_table»)) (now scratch) × (v < nodes) × (tally .count ≡ C (stands (graphOf inputs nodes outputs (now «node_table») (now «output_table»)) (now scratch))) × Room tally 250000000000000000 × LockBytes nodes (now locks) ⌝ }
+    ensures { λ r. ⌜ Phase (pairsAt (now (locks .entry)) v) 3 (graphOf inputs nodes outputs (now («node_table» .entry)) (now («output_table» .entry))) (now (scratch .entry)) tally (graphOf inputs nodes outputs (now («node_table» .exit)) (now («output_table» .entry))) (now (scratch .exit)) r ⌝ }
 {
     let a = pair_call_at(
         inputs,
@@ -203,6 +215,7 @@ pub fn pair_calls_at(
         outputs,
         node_table,
         output_table,
+        locks,
         v,
         1,
         tally,
@@ -214,6 +227,7 @@ pub fn pair_calls_at(
         outputs,
         node_table,
         output_table,
+        locks,
         v,
         2,
         a,
@@ -228,6 +242,7 @@ pub fn pair_calls_at(
         outputs,
         node_table,
         output_table,
+        locks,
         v,
         3,
         b,
@@ -242,11 +257,12 @@ pub fn pair_calls(
     outputs: u32,
     node_table: &mut [u32],
     output_table: &[u32],
+    locks: &[u8],
     tally: Tally,
     scratch: &mut [u32],
 ) -> Tally
-    requires { ⌜ Ordered (graphOf inputs nodes outputs (now «node_table») (now «output_table»)) (now scratch) × (tally .count ≡ C (stands (graphOf inputs nodes outputs (now «node_table») (now «output_table»)) (now scratch))) × Room tally 200000000000000000 ⌝ }
-    ensures { λ r. ⌜ Phase (each pairsAt nodes) (3 * nodes) (graphOf inputs nodes outputs (now («node_table» .entry)) (now («output_table» .entry))) (now (scratch .entry)) tally (graphOf inputs nodes outputs (now («node_table» .exit)) (now («output_table» .entry))) (now (scratch .exit)) r ⌝ }
+    requires { ⌜ Ordered (graphOf inputs nodes outputs (now «node_table») (now «output_table»)) (now scratch) × (tally .count ≡ C (stands (graphOf inputs nodes outputs (now «node_table») (now «output_table»)) (now scratch))) × Room tally 200000000000000000 × LockBytes nodes (now locks) ⌝ }
+    ensures { λ r. ⌜ Phase (each (pairsAt (now (locks .entry))) nodes) (3 * nodes) (graphOf inputs nodes outputs (now («node_table» .entry)) (now («output_table» .entry))) (now (scratch .entry)) tally (graphOf inputs nodes outputs (now («node_table» .exit)) (now («output_table» .entry))) (now (scratch .exit)) r ⌝ }
 {
     let end = nodes as usize;
     let mut t = tally;
@@ -258,6 +274,7 @@ pub fn pair_calls(
             outputs,
             node_table,
             output_table,
+            locks,
             v,
             t,
             scratch,

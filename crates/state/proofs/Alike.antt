@@ -6,18 +6,25 @@ use native.Mathlib.Omega.{arith}
 use Rattle.graph.specs.Graph.{Graph, node}
 pub use Rattle.graph.proofs.Alike.{Alike, alike-then, alike-back, alike-edge, alike-xor, alike-wiring, alike-named, alike-outNamed, named-all, alike-nodeReaders, alike-readers, alike-admitted}
 use Rattle.moves.specs.Call.{isNode}
-use Rattle.moves.specs.Rows.{movesAt}
+use Rattle.moves.specs.Rows.{kindMoves, lockAt, movesAt}
 use Rattle.moves.specs.Tree.{isRoot, place, reader, rootIn, rootOf}
 use Rattle.state.specs.State.{field, Neighbours, Linked}
 use Rattle.state.specs.Step.{TreesKept}
 
 module _ (g h : Graph) (a : Alike g h) where
-  alike-moves : (u : ℕ) → movesAt h u ≡ movesAt g u
-  unfolding movesAt
-  alike-moves u = rw (alike-xor g h a (u - (h .I + 1)), a .same-I)
+  alike-kind : (u : ℕ) → kindMoves h u ≡ kindMoves g u
+  unfolding kindMoves
+  alike-kind u = rw (alike-xor g h a (u - (h .I + 1)), a .same-I)
 
-  pub alike-movesAt : (v : ℕ) → movesAt h (node h v) ≡ movesAt g (node g v)
-  alike-movesAt v = ap (λ i. movesAt h (i + 1 + v)) (a .same-I) ∙ alike-moves (node g v)
+  pub alike-moves : (ls : List ℕ) (u : ℕ) → movesAt h ls u ≡ movesAt g ls u
+  unfolding movesAt lockAt
+  alike-moves ls u = rw (alike-kind u, a .same-I, a .same-N)
+
+  pub alike-kindMoves : (v : ℕ) → kindMoves h (node h v) ≡ kindMoves g (node g v)
+  alike-kindMoves v = ap (λ i. kindMoves h (i + 1 + v)) (a .same-I) ∙ alike-kind (node g v)
+
+  pub alike-movesAt : (ls : List ℕ) (v : ℕ) → movesAt h ls (node h v) ≡ movesAt g ls (node g v)
+  alike-movesAt ls v = ap (λ i. movesAt h ls (i + 1 + v)) (a .same-I) ∙ alike-moves ls (node g v)
 
   pub alike-isNode : (u : ℕ) → isNode h u ≡ isNode g u
   unfolding isNode

@@ -18,18 +18,18 @@ use Rattle.graph.proofs.Cases.{lt-or-le, eq-or-ne, true-or-false}
 use Rattle.moves.specs.Apply.{none, at, put, apply, compose, Permitted}
 use Rattle.moves.specs.Call.{moved, bestAt, rewrite, isNode, namedBy, pairRewrite, wordFault}
 use Rattle.moves.specs.Decide.{numbersOf, naming, pairCost, FirstPair}
-use Rattle.moves.specs.Rows.{arity, movesAt, combined}
+use Rattle.moves.specs.Rows.{arity, kindMoves, movesAt, combined}
 use Rattle.moves.specs.declared.decide.NodeNumbers.{NodeNumbers}
 use Rattle.moves.proofs.Changed.{at-same, at-other}
 use Rattle.moves.proofs.Compose.{apply-apply}
 use Rattle.moves.proofs.Kept.{rewrite-graph}
 use Rattle.moves.proofs.NodeBest.{pair-best}
 use Rattle.moves.proofs.Readers.{both-true}
-use Rattle.moves.proofs.Moves.{arity-pos, moves-pos, node-row}
+use Rattle.moves.proofs.Moves.{arity-pos, kind-pos, moves-no-more, node-row}
 use Rattle.state.specs.State.{stands, Ordered}
 use Rattle.state.specs.Step.{Made, Parted}
 use Rattle.state.specs.declared.moving.Step.{Step}
-use Rattle.state.proofs.Alike.{alike-movesAt, alike-isNode}
+use Rattle.state.proofs.Alike.{alike-kindMoves, alike-movesAt, alike-isNode}
 use Rattle.moves.proofs.Apply.{apply-alike}
 use Rattle.state.proofs.Stands.{stands-alike, stands-admitted}
 use Rattle.state.proofs.Stores.{kept-same, kept-then}
@@ -51,14 +51,14 @@ combined-none : (x : Bool) → combined x 0 0 ≡ 0
 combined-none x = combined-left x 0 (arity-pos x)
 
 module _ (h : Graph) where
-  permitted-at : (v m : ℕ) → m < movesAt h (node h v) → Permitted h (at none (node h v) m)
+  permitted-at : (v m : ℕ) → m < kindMoves h (node h v) → Permitted h (at none (node h v) m)
   permitted-at v m l w i =
       ⊎-elim
       (λ (e : w ≡ v). rw (e, at-same none (node h v) m) l)
-      (λ (e : w ≢ v). rw (at-other none (node h v) m (node h w) (λ z. e (omega arith))) (moves-pos h _))
+      (λ (e : w ≢ v). rw (at-other none (node h v) m (node h w) (λ z. e (omega arith))) (kind-pos h _))
       (eq-or-ne w v)
 
-  module _ (adm : Admitted h) (p v a k : ℕ) (d : p ≢ v) (pa : a < movesAt h (node h p)) (pk : k < movesAt h (node h v)) where
+  module _ (adm : Admitted h) (p v a k : ℕ) (d : p ≢ v) (pa : a < kindMoves h (node h p)) (pk : k < kindMoves h (node h v)) where
     kind-of : (w : ℕ) → isXor h (node h w - (h .I + 1)) ≡ isXor h w
     kind-of w = let e : node h w - (h .I + 1) ≡ w = omega arith in rw e
 
@@ -80,7 +80,7 @@ module _ (h : Graph) where
     pub pair-apply : apply (apply h (at none (node h p) a)) (at none (node h v) k) ≡ apply h (at (at none (node h p) a) (node h v) k)
     pair-apply = apply-apply h (at none (node h p) a) (at none (node h v) k) (permitted-at p a pa) (permitted-at v k pk) adm ∙ ap (apply h) (fun-ext both)
 
-module _ (g : Graph) (sc : List ℕ) (o : Ordered g sc) (p v : ℕ) (d : p < v) (l : v < g .N) where
+module _ (g : Graph) (ls sc : List ℕ) (o : Ordered g sc) (p v : ℕ) (d : p < v) (l : v < g .N) where
   abbrev h : Graph
   h = stands g sc
 
@@ -91,46 +91,46 @@ module _ (g : Graph) (sc : List ℕ) (o : Ordered g sc) (p v : ℕ) (d : p < v) 
   unfolding naming
   naming-now =
       let a = stands-alike g sc (o .admitted) in
-      rw (a .wired (3 * v + 0), a .wired (3 * v + 1), a .wired (3 * v + 2), node-now g sc o p (omega arith))
+      rw (a .wired (3 * v + 0), a .wired (3 * v + 1), a .wired (3 * v + 2), node-now g ls sc o p (omega arith))
 
   -- the decision
-  module _ (n m : NodeNumbers) (w : List ℕ) (en : n ≡ numbersOf h p) (em : m ≡ numbersOf h v) (ew : w ≡ naming g v (node g p)) (a k : ℕ)
+  module _ (n m : NodeNumbers) (w : List ℕ) (en : n ≡ numbersOf h ls p) (em : m ≡ numbersOf h ls v) (ew : w ≡ naming g v (node g p)) (a k : ℕ)
       (f : FirstPair (pairCost n m w) (n .moves) (m .moves) a k) where
-    pub pair-fits : (a < movesAt g (node g p)) × (k < movesAt g (node g v))
-    pair-fits = omega (arith, f .below, f .fits, moves-now g sc o p (omega arith) n en, moves-now g sc o v l m em)
+    pub pair-fits : (a < movesAt g ls (node g p)) × (k < movesAt g ls (node g v))
+    pair-fits = omega (arith, f .below, f .fits, moves-now g ls sc o p (omega arith) n en, moves-now g ls sc o v l m em)
 
-    first-now : FirstPair (pairCost (numbersOf h p) (numbersOf h v) (naming h v (node h p))) (movesAt h (node h p)) (movesAt h (node h v)) a k
+    first-now : FirstPair (pairCost (numbersOf h ls p) (numbersOf h ls v) (naming h v (node h p))) (movesAt h ls (node h p)) (movesAt h ls (node h v)) a k
     unfolding numbersOf
-    first-now = subst (λ x. FirstPair (pairCost (numbersOf h p) (numbersOf h v) x) (movesAt h (node h p)) (movesAt h (node h v)) a k) (ew ∙ sym naming-now) (subst (λ x. FirstPair (pairCost x (numbersOf h v) w) (x .moves) (movesAt h (node h v)) a k) en (subst (λ x. FirstPair (pairCost n x w) (n .moves) (x .moves) a k) em f))
+    first-now = subst (λ x. FirstPair (pairCost (numbersOf h ls p) (numbersOf h ls v) x) (movesAt h ls (node h p)) (movesAt h ls (node h v)) a k) (ew ∙ sym naming-now) (subst (λ x. FirstPair (pairCost x (numbersOf h ls v) w) (x .moves) (movesAt h ls (node h v)) a k) en (subst (λ x. FirstPair (pairCost n x w) (n .moves) (x .moves) a k) em f))
 
-    pub best-pair : a ∷ k ∷ [] ≡ bestAt h pair
+    pub best-pair : a ∷ k ∷ [] ≡ bestAt h ls pair
     best-pair =
-        subst (λ u. a ∷ k ∷ [] ≡ bestAt h (u ∷ node g v ∷ [])) (node-now g sc o p (omega arith))
-        (subst (λ u. a ∷ k ∷ [] ≡ bestAt h (node h p ∷ u ∷ [])) (node-now g sc o v l)
-        (pair-best h (stands-admitted g sc (o .admitted)) p v d (within-now g sc o v l) a k first-now))
+        subst (λ u. a ∷ k ∷ [] ≡ bestAt h ls (u ∷ node g v ∷ [])) (node-now g ls sc o p (omega arith))
+        (subst (λ u. a ∷ k ∷ [] ≡ bestAt h ls (node h p ∷ u ∷ [])) (node-now g ls sc o v l)
+        (pair-best h ls (stands-admitted g sc (o .admitted)) p v d (within-now g ls sc o v l) a k first-now))
 
   -- both moves
-  module _ (a k : ℕ) (pa : a < movesAt g (node g p)) (pk : k < movesAt g (node g v)) (g₁ : Graph) (s₁ : List ℕ) (c₁ : ℕ) (m₁ : Made sc g₁ s₁ (apply h (at none (node g p) a)) c₁) where
-    pub still-fits : k < movesAt g₁ (node g₁ v)
+  module _ (a k : ℕ) (pa : a < movesAt g ls (node g p)) (pk : k < movesAt g ls (node g v)) (g₁ : Graph) (s₁ : List ℕ) (c₁ : ℕ) (m₁ : Made sc g₁ s₁ (apply h (at none (node g p) a)) c₁) where
+    pub still-fits : k < movesAt g₁ ls (node g₁ v)
     still-fits =
         let al = became-alike g sc g₁ s₁ (apply h (at none (node g p) a)) (o .admitted) (apply-alike h (at none (node g p) a) (stands-admitted g sc (o .admitted))) (m₁ .became) in
-        rw (alike-movesAt g g₁ al v) pk
+        rw (alike-movesAt g g₁ al ls v) pk
 
     pub still-counts : c₁ ≡ C (stands g₁ s₁)
     still-counts = m₁ .count ∙ ap C (sym (m₁ .became .stands-for))
 
-    module _ (b : a ∷ k ∷ [] ≡ bestAt h pair) (g₂ : Graph) (s₂ : List ℕ) (c₂ : ℕ) (m₂ : Made s₁ g₂ s₂ (apply (stands g₁ s₁) (at none (node g v) k)) c₂) where
-      both-moved : apply (stands g₁ s₁) (at none (node g v) k) ≡ moved h pair (bestAt h pair)
+    module _ (b : a ∷ k ∷ [] ≡ bestAt h ls pair) (g₂ : Graph) (s₂ : List ℕ) (c₂ : ℕ) (m₂ : Made s₁ g₂ s₂ (apply (stands g₁ s₁) (at none (node g v) k)) c₂) where
+      both-moved : apply (stands g₁ s₁) (at none (node g v) k) ≡ moved h pair (bestAt h ls pair)
       unfolding moved put
       both-moved =
-          let x : (w m : ℕ) → m < movesAt g (node g w) → m < movesAt h (node h w) = λ w m q. rw (alike-movesAt g h (stands-alike g sc (o .admitted)) w) q in
+          let x : (w m : ℕ) → m < movesAt g ls (node g w) → m < kindMoves h (node h w) = λ w m q. omega (arith, q, alike-kindMoves g h (stands-alike g sc (o .admitted)) w, moves-no-more g ls (node g w)) in
           ap (λ y. apply y (at none (node g v) k)) (m₁ .became .stands-for) ∙
-          ((λ i. apply (apply h (at none (sym (node-now g sc o p (omega arith)) i) a)) (at none (sym (node-now g sc o v l) i) k)) ∙
+          ((λ i. apply (apply h (at none (sym (node-now g ls sc o p (omega arith)) i) a)) (at none (sym (node-now g ls sc o v l) i) k)) ∙
           pair-apply h (stands-admitted g sc (o .admitted)) p v a k (omega arith) (x p a pa) (x v k pk) ∙
-          (λ i. apply h (at (at none (node-now g sc o p (omega arith) i) a) (node-now g sc o v l i) k))) ∙
+          (λ i. apply h (at (at none (node-now g ls sc o p (omega arith) i) a) (node-now g ls sc o v l i) k))) ∙
           ap (λ ms. apply h (put none pair ms)) b
 
-      pub pair-made : Made sc g₂ s₂ (moved h pair (bestAt h pair)) c₂
+      pub pair-made : Made sc g₂ s₂ (moved h pair (bestAt h ls pair)) c₂
       pair-made =
           record {
             became = record { ordered = m₂ .became .ordered; stands-for = m₂ .became .stands-for ∙ both-moved; kept = kept-then sc s₁ s₂ (m₁ .became .kept) (m₂ .became .kept) };
@@ -150,7 +150,7 @@ unfolding isEdge isXor
 third-edge g v e = rw (e, and-false)
 
 -- the pair call at a word: it names a node, or none
-module _ (g : Graph) (sc : List ℕ) (o : Ordered g sc) (v k : ℕ) (l : v < g .N) where
+module _ (g : Graph) (ls sc : List ℕ) (o : Ordered g sc) (v k : ℕ) (l : v < g .N) where
   abbrev named : ℕ
   named = word g (3 * v + (k - 1)) / 2
 
@@ -172,17 +172,17 @@ module _ (g : Graph) (sc : List ℕ) (o : Ordered g sc) (v k : ℕ) (l : v < g .
   unfolding isNode
   high-node q r = rw (lt-ltb (g .I) named q, lt-ltb named (node g (g .N)) r)
 
-  none-outcome : named ≤ g .I → pairRewrite (stands g sc) (node g v) k ≡ outcome (gained [] (pos 0) (pos 0)) (stands g sc)
+  none-outcome : named ≤ g .I → pairRewrite (stands g sc) ls (node g v) k ≡ outcome (gained [] (pos 0) (pos 0)) (stands g sc)
   unfolding pairRewrite
   none-outcome q = rw (named-now, is-node named, low-none q)
 
-  pair-outcome : (p : ℕ) → p < g .N → named ≡ node g p → pairRewrite (stands g sc) (node g v) k ≡ rewrite (stands g sc) (node g p ∷ node g v ∷ [])
+  pair-outcome : (p : ℕ) → p < g .N → named ≡ node g p → pairRewrite (stands g sc) ls (node g v) k ≡ rewrite (stands g sc) ls (node g p ∷ node g v ∷ [])
   unfolding pairRewrite
   pair-outcome p q e = rw (named-now, is-node named, high-node (omega arith) (omega arith), e)
 
   -- it names none: nothing changes
   pub pair-none : named ≤ g .I → (s : Step) → s .count ≡ C (stands g sc) → s .before ≡ 0 → s .after ≡ 0
-      → Made sc g sc (pairRewrite (stands g sc) (node g v) k .graph) (s .count) × Parted (pairRewrite (stands g sc) (node g v) k) s
+      → Made sc g sc (pairRewrite (stands g sc) ls (node g v) k .graph) (s .count) × Parted (pairRewrite (stands g sc) ls (node g v) k) s
   pair-none q s e x y =
       rw (none-outcome q) (
         record { became = record { ordered = o; stands-for = refl; kept = kept-same sc }; count = e },
@@ -191,11 +191,11 @@ module _ (g : Graph) (sc : List ℕ) (o : Ordered g sc) (v k : ℕ) (l : v < g .
 
   -- it names node p: the pair's best
   pub pair-is : (p : ℕ) → p < g .N → named ≡ node g p → (g′ : Graph) (sc′ : List ℕ) (s : Step)
-      → Made sc g′ sc′ (moved (stands g sc) (node g p ∷ node g v ∷ []) (bestAt (stands g sc) (node g p ∷ node g v ∷ []))) (s .count) × Parted (rewrite (stands g sc) (node g p ∷ node g v ∷ [])) s
-      → Made sc g′ sc′ (pairRewrite (stands g sc) (node g v) k .graph) (s .count) × Parted (pairRewrite (stands g sc) (node g v) k) s
+      → Made sc g′ sc′ (moved (stands g sc) (node g p ∷ node g v ∷ []) (bestAt (stands g sc) ls (node g p ∷ node g v ∷ []))) (s .count) × Parted (rewrite (stands g sc) ls (node g p ∷ node g v ∷ [])) s
+      → Made sc g′ sc′ (pairRewrite (stands g sc) ls (node g v) k .graph) (s .count) × Parted (pairRewrite (stands g sc) ls (node g v) k) s
   pair-is p q e g′ sc′ s m =
       rw (pair-outcome p q e) (
-        subst (λ x. Made sc g′ sc′ x (s .count)) (sym (rewrite-graph (stands g sc) (stands-admitted g sc (o .admitted)) (node g p ∷ node g v ∷ []))) (m .0),
+        subst (λ x. Made sc g′ sc′ x (s .count)) (sym (rewrite-graph (stands g sc) ls (stands-admitted g sc (o .admitted)) (node g p ∷ node g v ∷ []))) (m .0),
         m .1,
       )
 

@@ -2,6 +2,7 @@
 ghost use mathlib.Core.Path.{_≡_};
 ghost use mathlib.Core.List.{[], _∷_};
 ghost use Prim.Native.Nat.{_+_, _≤_, _<_};
+ghost use lib.ListN.{length};
 ghost use Rattle.graph.specs.Graph.{graphOf};
 ghost use Rattle.graph.specs.Count.{C};
 ghost use Rattle.moves.specs.Rows.{movesAt};
@@ -53,18 +54,28 @@ pub fn make_move(
     outputs: u32,
     node_table: &mut [u32],
     output_table: &[u32],
+    locks: &[u8],
     v: usize,
     m: u32,
     count: u32,
     scratch: &mut [u32],
 ) -> u32
-    requires { ⌜ Ordered (graphOf inputs nodes outputs (now «node_table») (now «output_table»)) (now scratch) × (v < nodes) × (m < movesAt (graphOf inputs nodes outputs (now «node_table») (now «output_table»)) (inputs + 1 + v)) × (count ≡ C (stands (graphOf inputs nodes outputs (now «node_table») (now «output_table»)) (now scratch))) ⌝ }
+    requires { ⌜ Ordered (graphOf inputs nodes outputs (now «node_table») (now «output_table»)) (now scratch) × (v < nodes) × (m < movesAt (graphOf inputs nodes outputs (now «node_table») (now «output_table»)) (now locks) (inputs + 1 + v)) × (count ≡ C (stands (graphOf inputs nodes outputs (now «node_table») (now «output_table»)) (now scratch))) × (nodes ≤ length (now locks)) ⌝ }
     ensures { λ r. ⌜ Made (now (scratch .entry)) (graphOf inputs nodes outputs (now («node_table» .exit)) (now («output_table» .entry))) (now (scratch .exit)) (apply (stands (graphOf inputs nodes outputs (now («node_table» .entry)) (now («output_table» .entry))) (now (scratch .entry))) (at none (inputs + 1 + v) m)) r ⌝ }
 {
     if m == 0 {
         return count;
     }
-    let node = now::numbers_now(inputs, nodes, outputs, node_table, output_table, v, scratch);
+    let node = now::numbers_now(
+        inputs,
+        nodes,
+        outputs,
+        node_table,
+        output_table,
+        locks,
+        v,
+        scratch,
+    );
     let after = count_after(node, m, count);
     turning::turn_node(
         inputs,
@@ -86,14 +97,24 @@ pub fn node_step(
     outputs: u32,
     node_table: &mut [u32],
     output_table: &[u32],
+    locks: &[u8],
     v: usize,
     count: u32,
     scratch: &mut [u32],
 ) -> Step
-    requires { ⌜ Ordered (graphOf inputs nodes outputs (now «node_table») (now «output_table»)) (now scratch) × (v < nodes) × (count ≡ C (stands (graphOf inputs nodes outputs (now «node_table») (now «output_table»)) (now scratch))) ⌝ }
-    ensures { λ r. ⌜ Made (now (scratch .entry)) (graphOf inputs nodes outputs (now («node_table» .exit)) (now («output_table» .entry))) (now (scratch .exit)) (moved (stands (graphOf inputs nodes outputs (now («node_table» .entry)) (now («output_table» .entry))) (now (scratch .entry))) ((inputs + 1 + v) ∷ []) (bestAt (stands (graphOf inputs nodes outputs (now («node_table» .entry)) (now («output_table» .entry))) (now (scratch .entry))) ((inputs + 1 + v) ∷ []))) (r .count) × Parted (rewrite (stands (graphOf inputs nodes outputs (now («node_table» .entry)) (now («output_table» .entry))) (now (scratch .entry))) ((inputs + 1 + v) ∷ [])) r ⌝ }
+    requires { ⌜ Ordered (graphOf inputs nodes outputs (now «node_table») (now «output_table»)) (now scratch) × (v < nodes) × (count ≡ C (stands (graphOf inputs nodes outputs (now «node_table») (now «output_table»)) (now scratch))) × (nodes ≤ length (now locks)) ⌝ }
+    ensures { λ r. ⌜ Made (now (scratch .entry)) (graphOf inputs nodes outputs (now («node_table» .exit)) (now («output_table» .entry))) (now (scratch .exit)) (moved (stands (graphOf inputs nodes outputs (now («node_table» .entry)) (now («output_table» .entry))) (now (scratch .entry))) ((inputs + 1 + v) ∷ []) (bestAt (stands (graphOf inputs nodes outputs (now («node_table» .entry)) (now («output_table» .entry))) (now (scratch .entry))) (now (locks .entry)) ((inputs + 1 + v) ∷ []))) (r .count) × Parted (rewrite (stands (graphOf inputs nodes outputs (now («node_table» .entry)) (now («output_table» .entry))) (now (scratch .entry))) (now (locks .entry)) ((inputs + 1 + v) ∷ [])) r ⌝ }
 {
-    let node = now::numbers_now(inputs, nodes, outputs, node_table, output_table, v, scratch);
+    let node = now::numbers_now(
+        inputs,
+        nodes,
+        outputs,
+        node_table,
+        output_table,
+        locks,
+        v,
+        scratch,
+    );
     let z = node.costs;
     let m = decide::first_least(node.xor, node.moves, z, node.readers, node.odd);
     let odds = gains::node_odds(node, m);
@@ -103,6 +124,7 @@ pub fn node_step(
         outputs,
         node_table,
         output_table,
+        locks,
         v,
         m,
         count,
@@ -122,15 +144,34 @@ pub fn pair_moves(
     outputs: u32,
     node_table: &[u32],
     output_table: &[u32],
+    locks: &[u8],
     p: usize,
     v: usize,
     scratch: &[u32],
 ) -> PairChoice
-    requires { ⌜ Ordered (graphOf inputs nodes outputs (now «node_table») (now «output_table»)) (now scratch) × (p < v) × (v < nodes) ⌝ }
-    ensures { λ r. ⌜ (r .named < movesAt (graphOf inputs nodes outputs (now («node_table» .entry)) (now («output_table» .entry))) (inputs + 1 + p)) × (r .node < movesAt (graphOf inputs nodes outputs (now («node_table» .entry)) (now («output_table» .entry))) (inputs + 1 + v)) × (r .named ∷ r .node ∷ [] ≡ bestAt (stands (graphOf inputs nodes outputs (now («node_table» .entry)) (now («output_table» .entry))) (now (scratch .entry))) ((inputs + 1 + p) ∷ (inputs + 1 + v) ∷ [])) × Parted (rewrite (stands (graphOf inputs nodes outputs (now («node_table» .entry)) (now («output_table» .entry))) (now (scratch .entry))) ((inputs + 1 + p) ∷ (inputs + 1 + v) ∷ [])) (record { count = 0; before = r .before; after = r .after }) ⌝ }
+    requires { ⌜ Ordered (graphOf inputs nodes outputs (now «node_table») (now «output_table»)) (now scratch) × (p < v) × (v < nodes) × (nodes ≤ length (now locks)) ⌝ }
+    ensures { λ r. ⌜ (r .named < movesAt (graphOf inputs nodes outputs (now («node_table» .entry)) (now («output_table» .entry))) (now (locks .entry)) (inputs + 1 + p)) × (r .node < movesAt (graphOf inputs nodes outputs (now («node_table» .entry)) (now («output_table» .entry))) (now (locks .entry)) (inputs + 1 + v)) × (r .named ∷ r .node ∷ [] ≡ bestAt (stands (graphOf inputs nodes outputs (now («node_table» .entry)) (now («output_table» .entry))) (now (scratch .entry))) (now (locks .entry)) ((inputs + 1 + p) ∷ (inputs + 1 + v) ∷ [])) × Parted (rewrite (stands (graphOf inputs nodes outputs (now («node_table» .entry)) (now («output_table» .entry))) (now (scratch .entry))) (now (locks .entry)) ((inputs + 1 + p) ∷ (inputs + 1 + v) ∷ [])) (record { count = 0; before = r .before; after = r .after }) ⌝ }
 {
-    let named = now::numbers_now(inputs, nodes, outputs, node_table, output_table, p, scratch);
-    let node = now::numbers_now(inputs, nodes, outputs, node_table, output_table, v, scratch);
+    let named = now::numbers_now(
+        inputs,
+        nodes,
+        outputs,
+        node_table,
+        output_table,
+        locks,
+        p,
+        scratch,
+    );
+    let node = now::numbers_now(
+        inputs,
+        nodes,
+        outputs,
+        node_table,
+        output_table,
+        locks,
+        v,
+        scratch,
+    );
     let which = words::which_name(node_table, v, inputs + 1 + p as u32);
     let best = decide::first_pair(named, node, which);
     let odds = gains::pair_odds(named, node, which, best.named, best.node);
@@ -149,13 +190,14 @@ pub fn move_pair(
     outputs: u32,
     node_table: &mut [u32],
     output_table: &[u32],
+    locks: &[u8],
     p: usize,
     v: usize,
     count: u32,
     scratch: &mut [u32],
 ) -> Step
-    requires { ⌜ Ordered (graphOf inputs nodes outputs (now «node_table») (now «output_table»)) (now scratch) × (p < v) × (v < nodes) × (count ≡ C (stands (graphOf inputs nodes outputs (now «node_table») (now «output_table»)) (now scratch))) ⌝ }
-    ensures { λ r. ⌜ Made (now (scratch .entry)) (graphOf inputs nodes outputs (now («node_table» .exit)) (now («output_table» .entry))) (now (scratch .exit)) (moved (stands (graphOf inputs nodes outputs (now («node_table» .entry)) (now («output_table» .entry))) (now (scratch .entry))) ((inputs + 1 + p) ∷ (inputs + 1 + v) ∷ []) (bestAt (stands (graphOf inputs nodes outputs (now («node_table» .entry)) (now («output_table» .entry))) (now (scratch .entry))) ((inputs + 1 + p) ∷ (inputs + 1 + v) ∷ []))) (r .count) × Parted (rewrite (stands (graphOf inputs nodes outputs (now («node_table» .entry)) (now («output_table» .entry))) (now (scratch .entry))) ((inputs + 1 + p) ∷ (inputs + 1 + v) ∷ [])) r ⌝ }
+    requires { ⌜ Ordered (graphOf inputs nodes outputs (now «node_table») (now «output_table»)) (now scratch) × (p < v) × (v < nodes) × (count ≡ C (stands (graphOf inputs nodes outputs (now «node_table») (now «output_table»)) (now scratch))) × (nodes ≤ length (now locks)) ⌝ }
+    ensures { λ r. ⌜ Made (now (scratch .entry)) (graphOf inputs nodes outputs (now («node_table» .exit)) (now («output_table» .entry))) (now (scratch .exit)) (moved (stands (graphOf inputs nodes outputs (now («node_table» .entry)) (now («output_table» .entry))) (now (scratch .entry))) ((inputs + 1 + p) ∷ (inputs + 1 + v) ∷ []) (bestAt (stands (graphOf inputs nodes outputs (now («node_table» .entry)) (now («output_table» .entry))) (now (scratch .entry))) (now (locks .entry)) ((inputs + 1 + p) ∷ (inputs + 1 + v) ∷ []))) (r .count) × Parted (rewrite (stands (graphOf inputs nodes outputs (now («node_table» .entry)) (now («output_table» .entry))) (now (scratch .entry))) (now (locks .entry)) ((inputs + 1 + p) ∷ (inputs + 1 + v) ∷ [])) r ⌝ }
 {
     let both = pair_moves(
         inputs,
@@ -163,6 +205,7 @@ pub fn move_pair(
         outputs,
         node_table,
         output_table,
+        locks,
         p,
         v,
         scratch,
@@ -173,6 +216,7 @@ pub fn move_pair(
         outputs,
         node_table,
         output_table,
+        locks,
         p,
         both.named,
         count,
@@ -184,6 +228,7 @@ pub fn move_pair(
         outputs,
         node_table,
         output_table,
+        locks,
         v,
         both.node,
         middle,
@@ -203,13 +248,14 @@ pub fn pair_step(
     outputs: u32,
     node_table: &mut [u32],
     output_table: &[u32],
+    locks: &[u8],
     v: usize,
     k: usize,
     count: u32,
     scratch: &mut [u32],
 ) -> Step
-    requires { ⌜ Ordered (graphOf inputs nodes outputs (now «node_table») (now «output_table»)) (now scratch) × (v < nodes) × (wordFault (graphOf inputs nodes outputs (now «node_table») (now «output_table»)) (inputs + 1 + v) k ≡ 0) × (count ≡ C (stands (graphOf inputs nodes outputs (now «node_table») (now «output_table»)) (now scratch))) ⌝ }
-    ensures { λ r. ⌜ Made (now (scratch .entry)) (graphOf inputs nodes outputs (now («node_table» .exit)) (now («output_table» .entry))) (now (scratch .exit)) (pairRewrite (stands (graphOf inputs nodes outputs (now («node_table» .entry)) (now («output_table» .entry))) (now (scratch .entry))) (inputs + 1 + v) k .graph) (r .count) × Parted (pairRewrite (stands (graphOf inputs nodes outputs (now («node_table» .entry)) (now («output_table» .entry))) (now (scratch .entry))) (inputs + 1 + v) k) r ⌝ }
+    requires { ⌜ Ordered (graphOf inputs nodes outputs (now «node_table») (now «output_table»)) (now scratch) × (v < nodes) × (wordFault (graphOf inputs nodes outputs (now «node_table») (now «output_table»)) (inputs + 1 + v) k ≡ 0) × (count ≡ C (stands (graphOf inputs nodes outputs (now «node_table») (now «output_table»)) (now scratch))) × (nodes ≤ length (now locks)) ⌝ }
+    ensures { λ r. ⌜ Made (now (scratch .entry)) (graphOf inputs nodes outputs (now («node_table» .exit)) (now («output_table» .entry))) (now (scratch .exit)) (pairRewrite (stands (graphOf inputs nodes outputs (now («node_table» .entry)) (now («output_table» .entry))) (now (scratch .entry))) (now (locks .entry)) (inputs + 1 + v) k .graph) (r .count) × Parted (pairRewrite (stands (graphOf inputs nodes outputs (now («node_table» .entry)) (now («output_table» .entry))) (now (scratch .entry))) (now (locks .entry)) (inputs + 1 + v) k) r ⌝ }
 {
     let at = 3 * v + (k - 1);
     let u = table::index_at(node_table, at);
@@ -227,6 +273,7 @@ pub fn pair_step(
         outputs,
         node_table,
         output_table,
+        locks,
         p,
         v,
         count,

@@ -1,6 +1,7 @@
 // The graph that tables and scratch stand for, read a word at a time.
 ghost use mathlib.Core.Path.{_≡_};
 ghost use Prim.Native.Nat.{_*_, _≤_, _<_};
+ghost use lib.ListN.{length};
 ghost use Rattle.graph.specs.Graph.{graphOf, word};
 ghost use Rattle.state.specs.State.{pendingAt, stands, Pendings, Ordered};
 ghost use Rattle.moves.specs.Decide.{ownCosts, numbersOf};
@@ -92,15 +93,16 @@ pub fn numbers_now(
     outputs: u32,
     node_table: &[u32],
     output_table: &[u32],
+    locks: &[u8],
     v: usize,
     scratch: &[u32],
 ) -> NodeNumbers
-    requires { ⌜ Ordered (graphOf inputs nodes outputs (now «node_table») (now «output_table»)) (now scratch) × (v < nodes) ⌝ }
-    ensures { λ r. ⌜ r ≡ numbersOf (stands (graphOf inputs nodes outputs (now («node_table» .entry)) (now («output_table» .entry))) (now (scratch .entry))) v ⌝ }
+    requires { ⌜ Ordered (graphOf inputs nodes outputs (now «node_table») (now «output_table»)) (now scratch) × (v < nodes) × (nodes ≤ length (now locks)) ⌝ }
+    ensures { λ r. ⌜ r ≡ numbersOf (stands (graphOf inputs nodes outputs (now («node_table» .entry)) (now («output_table» .entry))) (now (scratch .entry))) (now (locks .entry)) v ⌝ }
 {
     let at = 8 * v;
     let xor = rows::is_xor(node_table, v);
-    let moves = rows::moves_at(node_table, v);
+    let moves = rows::moves_at(node_table, locks, v);
     let costs = own_costs(inputs, nodes, outputs, node_table, output_table, v, scratch);
     NodeNumbers {
         xor,

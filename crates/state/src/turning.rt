@@ -3,7 +3,7 @@ ghost use mathlib.Core.Path.{_≡_};
 ghost use mathlib.Core.Bool.{true, false};
 ghost use Prim.Native.Nat.{_+_, _-_, _*_, _≤_, _<_};
 ghost use Rattle.graph.specs.Graph.{graphOf, isEdge};
-ghost use Rattle.moves.specs.Rows.{movesAt};
+ghost use Rattle.moves.specs.Rows.{kindMoves};
 ghost use Rattle.moves.specs.Apply.{none, at, apply};
 ghost use Rattle.state.specs.State.{stands, Ordered};
 ghost use Rattle.state.specs.Step.{wordTurned, readersTurned, Became};
@@ -103,7 +103,7 @@ pub fn turn_node(
     m: u32,
     scratch: &mut [u32],
 )
-    requires { ⌜ Ordered (graphOf inputs nodes outputs (now «node_table») (now «output_table»)) (now scratch) × (v < nodes) × (m < movesAt (graphOf inputs nodes outputs (now «node_table») (now «output_table»)) (inputs + 1 + v)) ⌝ }
+    requires { ⌜ Ordered (graphOf inputs nodes outputs (now «node_table») (now «output_table»)) (now scratch) × (v < nodes) × (m < kindMoves (graphOf inputs nodes outputs (now «node_table») (now «output_table»)) (inputs + 1 + v)) ⌝ }
     ensures { λ _. ⌜ Became (now (scratch .entry)) (graphOf inputs nodes outputs (now («node_table» .exit)) (now («output_table» .entry))) (now (scratch .exit)) (apply (stands (graphOf inputs nodes outputs (now («node_table» .entry)) (now («output_table» .entry))) (now (scratch .entry))) (at none (inputs + 1 + v) m)) ⌝ }
 {
     let xor = rows::is_xor(node_table, v);

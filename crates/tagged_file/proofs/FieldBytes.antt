@@ -1,5 +1,5 @@
 -- The bytes of a field: how many there are, and the stores that write them. From the laws on runs of stores.
-use Prim.Native.Nat.{ℕ, _+_, _*_}
+use Prim.Native.Nat.{ℕ, _+_, _*_, _≤_}
 use mathlib.Core.Path.{_≡_, refl, sym, ap, _∙_}
 use mathlib.Core.List.{List, [], _∷_, _++_}
 use mathlib.Core.Logic.{⊎-elim, _≢_}
@@ -10,7 +10,7 @@ use Rattle.graph.specs.Graph.{mark}
 use Rattle.graph.specs.Finite.{ifEqual}
 use Rattle.graph.proofs.Cases.{eq-or-ne}
 use Rattle.graph.proofs.Tests.{equal, unequal}
-use Rattle.tagged_file.specs.Write.{big, fieldOf, nodeField, outputField, nodeFieldAt, outputFieldAt, endField}
+use Rattle.tagged_file.specs.Write.{big, fieldOf, nodeField, outputField, lockField, nodeFieldAt, outputFieldAt, lockFieldAt, endField}
 use Rattle.tagged_file.specs.Inner.{thirdBytes}
 use Rattle.tagged_file.proofs.Stores.{then}
 
@@ -41,9 +41,9 @@ length-xor x y z e = sym (length-two 3 x y) ∙ ap length (node-xor x y z e)
 pub length-majority : (x y z : ℕ) → (z ≡ mark → ⊥) → 15 ≡ length (nodeField x y z)
 length-majority x y z e = sym (length-three 2 x y z) ∙ ap length (node-majority x y z e)
 
-pub length-output : (x : ℕ) → length (outputField x) ≡ 7
-unfolding outputField fieldOf big
-length-output x = refl
+pub length-single : (tag x : ℕ) → length (fieldOf tag (big 4 x)) ≡ 7
+unfolding fieldOf big
+length-single tag x = refl
 
 module _ (t t₁ t₂ t₃ : List ℕ) (at : ℕ) where
   pub three-stored : (tag x y z : ℕ) (t₄ : List ℕ) → t₁ ≡ sets t at (tag ∷ 0 ∷ 12 ∷ []) → t₂ ≡ sets t₁ (at + 3) (big 4 x)
@@ -102,9 +102,10 @@ node-stored t t₁ t₂ t₃ t₄ at x y z tag size p q e₁ e₂ e₃ e₄ =
     three-stored t t₁ t₂ t₃ at 2 x y z t₄ (rw (p₁, q₁) at e₁) e₂ e₃ (rw (← third-four z n) at e₄) ∙ ap (sets t at) (node-majority x y z n))
     (eq-or-ne z mark)
 
-pub output-stored : (t t₁ t₂ : List ℕ) (at x : ℕ) → t₁ ≡ sets t at (4 ∷ 0 ∷ 4 ∷ []) → t₂ ≡ sets t₁ (at + 3) (big 4 x) → t₂ ≡ sets t at (outputField x)
-unfolding outputField fieldOf big
-output-stored t t₁ t₂ at x e₁ e₂ = then t t₁ t₂ (4 ∷ 0 ∷ 4 ∷ []) (big 4 x) at (at + 3) e₁ e₂ refl
+pub single-stored : (t t₁ t₂ : List ℕ) (at tag x : ℕ) → t₁ ≡ sets t at (tag ∷ 0 ∷ 4 ∷ []) → t₂ ≡ sets t₁ (at + 3) (big 4 x)
+    → t₂ ≡ sets t at (fieldOf tag (big 4 x))
+unfolding fieldOf big
+single-stored t t₁ t₂ at tag x e₁ e₂ = then t t₁ t₂ (tag ∷ 0 ∷ 4 ∷ []) (big 4 x) at (at + 3) e₁ e₂ refl
 
 -- a node's field by the words that were read
 pub node-at : (ns : List ℕ) (v x y z : ℕ) → x ≡ getD ns (3 * v) 0 → y ≡ getD ns (3 * v + 1) 0 → z ≡ getD ns (3 * v + 2) 0 → nodeField x y z ≡ nodeFieldAt ns v
@@ -112,5 +113,37 @@ unfolding nodeFieldAt
 node-at ns v x y z p q r = rw (p, q, r)
 
 pub length-output-at : (os : List ℕ) (j : ℕ) → length (outputFieldAt os j) ≡ 7
-unfolding outputFieldAt
-length-output-at os j = length-output _
+unfolding outputFieldAt outputField
+length-output-at os j = length-single 4 (getD os j 0)
+
+-- a lock takes a field or no bytes
+pub lock-locked : (b u : ℕ) → b ≡ 1 → fieldOf 6 (big 4 u) ≡ lockField b u
+unfolding lockField
+lock-locked b u e = equal _ _ _ _ e refl
+
+pub lock-free : (b u : ℕ) → (b ≡ 1 → ⊥) → [] ≡ lockField b u
+unfolding lockField
+lock-free b u n = unequal _ _ _ _ n refl
+
+pub length-locked : (b u : ℕ) → b ≡ 1 → 7 ≡ length (lockField b u)
+length-locked b u e = sym (length-single 6 u) ∙ ap length (lock-locked b u e)
+
+pub length-free : (b u : ℕ) → (b ≡ 1 → ⊥) → 0 ≡ length (lockField b u)
+length-free b u n = ap length (lock-free b u n)
+
+module _ (i : ℕ) (ls : List ℕ) (v : ℕ) where
+  pub locked-field : getD ls v 0 ≡ 1 → lockFieldAt i ls v ≡ fieldOf 6 (big 4 (i + v))
+  unfolding lockFieldAt
+  locked-field e = sym (lock-locked (getD ls v 0) (i + v) e)
+
+  pub free-field : getD ls v 0 ≢ 1 → lockFieldAt i ls v ≡ []
+  unfolding lockFieldAt
+  free-field n = sym (lock-free (getD ls v 0) (i + v) n)
+
+pub length-lock-at : (i : ℕ) (ls : List ℕ) (v : ℕ) → length (lockFieldAt i ls v) ≤ 7
+unfolding lockFieldAt
+length-lock-at i ls v =
+    ⊎-elim
+    (λ (e : getD ls v 0 ≡ 1). omega (arith, length-locked (getD ls v 0) (i + v) e))
+    (λ (n : getD ls v 0 ≢ 1). omega (arith, length-free (getD ls v 0) (i + v) n))
+    (eq-or-ne (getD ls v 0) 1)

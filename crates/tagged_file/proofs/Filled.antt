@@ -3,19 +3,22 @@ use Prim.Native.Nat.{ℕ, zero, suc, _+_, _*_, _-_, _<_, _≤_}
 use mathlib.Core.Path.{_≡_, refl, _∙_}
 use mathlib.Core.List.{List, _++_}
 use native.Mathlib.Omega.{arith}
-use lib.ListN.{length, drop, set, length-set}
+use lib.ListN.{length, getD, drop, set, length-set}
 use lib.Seq.{sets}
 use Rattle.tagged_file.proofs.Stores.{front}
-use Rattle.file_checks.specs.File.{be4, third, nodeSize, nodeWords, outputWords, afterNodes}
-use Rattle.file_checks.specs.Walk.{NodeRoom, Nodes, Outputs}
+use Rattle.file_checks.specs.File.{be4, third, nodeSize, nodeWords, singleWords, afterNodes, afterSingles, lockCount, lockIndices}
+use Rattle.file_checks.proofs.Checked.{lock-there}
+use Rattle.tagged_file.specs.Inner.{lockedAt}
+use Rattle.tagged_file.proofs.Named.{indices-more, indices-none}
+use Rattle.file_checks.specs.Walk.{NodeRoom, Nodes, Singles, LockRoom, Locks}
 
 pub length-nodeWords : (n : ℕ) (s : List ℕ) → length (nodeWords n s) ≡ 3 * n
 length-nodeWords zero s = refl
 length-nodeWords (suc n) s = omega (arith, length-nodeWords n (drop (nodeSize s) s))
 
-pub length-outWords : (n : ℕ) (s : List ℕ) → length (outputWords n s) ≡ n
-length-outWords zero s = refl
-length-outWords (suc n) s = omega (arith, length-outWords n (drop 7 s))
+pub length-singleWords : (n : ℕ) (s : List ℕ) → length (singleWords n s) ≡ n
+length-singleWords zero s = refl
+length-singleWords (suc n) s = omega (arith, length-singleWords n (drop 7 s))
 
 pub record NodesLeft (n : ℕ) (bytes t₀ t s : List ℕ) (at left : ℕ) : Type 0 where
   pub room : Nodes left s
@@ -52,10 +55,11 @@ module _ (n : ℕ) (bytes t₀ t s : List ℕ) (at : ℕ) where
   nodes-left-none (suc left) h f i = absurd (omega arith)
 
 pub record OutputsLeft (n : ℕ) (bytes t₀ t s : List ℕ) (at left : ℕ) : Type 0 where
-  pub room : Outputs left s
+  pub room : Singles left s
   pub fits : at + left ≤ length t
   pub same : length t ≡ length t₀
-  pub words : sets t at (outputWords left s) ≡ sets t₀ 0 (outputWords n bytes)
+  pub words : sets t at (singleWords left s) ≡ sets t₀ 0 (singleWords n bytes)
+  pub after : afterSingles left s ≡ afterSingles n bytes
 
 module _ (n : ℕ) (bytes t₀ t s : List ℕ) (at : ℕ) where
   pub outputs-left-room : (left : ℕ) → 0 < left → OutputsLeft n bytes t₀ t s at left → 7 ≤ length s
@@ -74,8 +78,35 @@ module _ (n : ℕ) (bytes t₀ t s : List ℕ) (at : ℕ) where
         fits = omega (arith, i .fits);
         same = d ∙ i .same;
         words = rw (e, es, e₁, ex, q₁) (i .words);
+        after = rw (e, es) (i .after);
       }
 
-  pub outputs-left-none : (left : ℕ) → left ≤ 0 → n ≤ length t₀ → OutputsLeft n bytes t₀ t s at left → t ≡ outputWords n bytes ++ drop n t₀
-  outputs-left-none zero h f i = i .words ∙ front (outputWords n bytes) t₀ n (length-outWords n bytes) f
+  pub outputs-left-none : (left : ℕ) → left ≤ 0 → n ≤ length t₀ → OutputsLeft n bytes t₀ t s at left
+      → (s ≡ afterSingles n bytes) × (t ≡ singleWords n bytes ++ drop n t₀)
+  outputs-left-none zero h f i = (i .after, i .words ∙ front (singleWords n bytes) t₀ n (length-singleWords n bytes) f)
   outputs-left-none (suc left) h f i = absurd (omega arith)
+
+-- the locks that are left are set in t
+pub record LocksLeft (low : ℕ) (bytes t₀ t s : List ℕ) : Type 0 where
+  pub room : Locks (lockCount s) s low (low + length t₀)
+  pub same : length t ≡ length t₀
+  pub locked : lockedAt low (lockIndices s) t ≡ lockedAt low (lockIndices bytes) t₀
+
+module _ (low : ℕ) (bytes t₀ t s : List ℕ) (i : LocksLeft low bytes t₀ t s) where
+  left-of : getD s 0 0 ≡ 6 → Locks (suc (lockCount (drop 7 s))) s low (low + length t₀)
+  left-of e = rw (lock-there s e) at (i .room)
+
+  pub locks-left-room : getD s 0 0 ≡ 6 → LockRoom s low (low + length t₀)
+  locks-left-room e = left-of e .0
+
+  pub locks-left-more : getD s 0 0 ≡ 6 → (s′ : List ℕ) (x : ℕ) → s′ ≡ drop 7 s → x ≡ be4 s 3 → LocksLeft low bytes t₀ (set t (x - low) 1) s′
+  locks-left-more e s′ x es ex =
+      let d : length (set t (x - low) 1) ≡ length t = length-set t (x - low) 1 in
+      record {
+        room = rw es (left-of e .1);
+        same = d ∙ i .same;
+        locked = rw (es, ex) (rw (indices-more s e) at (i .locked));
+      }
+
+  pub locks-left-none : (getD s 0 0 ≡ 6 → ⊥) → t ≡ lockedAt low (lockIndices bytes) t₀
+  locks-left-none n = rw (indices-none s n) at (i .locked)

@@ -1,4 +1,5 @@
 pub mod Stores
+pub mod Named
 pub mod Filled
 pub mod Whole
 pub mod BigEndian
@@ -7,7 +8,9 @@ pub mod Emitted
 pub mod WholeWrite
 pub mod OneField
 pub mod Accepted
+pub mod LocksAccepted
 pub mod ReadBack
 pub mod WrittenWalk
+pub mod LocksWritten
 pub mod RoundTrip
 pub mod Tried

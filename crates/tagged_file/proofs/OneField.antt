@@ -5,15 +5,14 @@ use mathlib.Core.Logic.{_⊎_, inl, inr, ⊎-elim, _≢_}
 use mathlib.Core.List.{List, [], _∷_, _++_, append-assoc}
 use native.Mathlib.Omega.{arith}
 use lib.ListN.{length, getD, drop, drop-of-length-le}
-use Rattle.graph.specs.Finite.{ifEqual}
 use Rattle.graph.specs.Graph.{mark}
 use Rattle.graph.proofs.Cases.{eq-or-ne}
 use Rattle.graph.proofs.Tests.{equal, unequal, both, on, off}
-use Rattle.file_checks.specs.File.{be2, be4, payloadOf, nodeSize, third, headNumber, nodeFieldNumber, outputFieldNumber, endNumber}
+use Rattle.file_checks.specs.File.{be2, be4, payloadOf, nodeSize, third, dueNumber, headNumber, nodeFieldNumber, outputFieldNumber, lockFieldNumber, endNumber}
 use Rattle.tagged_file.specs.Write.{big, fieldOf, headField, nodeField, outputField, endField}
 use Rattle.tagged_file.proofs.BigEndian.{Bytes, next, four-bytes}
 use Rattle.tagged_file.proofs.FieldBytes.{node-xor, node-majority, end-is}
-use Rattle.file_checks.proofs.Checked.{due-is, size-at}
+use Rattle.file_checks.proofs.Checked.{due-is, size-at, payload-one, payload-two, payload-three, payload-four, payload-five, payload-six}
 
 -- fields written out
 three-is : (tag x y z : ℕ) → fieldOf tag (big 4 x ++ (big 4 y ++ big 4 z)) ≡ tag ∷ 0 ∷ 12 ∷ (big 4 x ++ (big 4 y ++ big 4 z))
@@ -24,9 +23,9 @@ two-is : (tag x y : ℕ) → fieldOf tag (big 4 x ++ big 4 y) ≡ tag ∷ 0 ∷ 
 unfolding fieldOf big
 two-is tag x y = refl
 
-out-is : (x : ℕ) → outputField x ≡ 4 ∷ 0 ∷ 4 ∷ big 4 x
-unfolding outputField fieldOf big
-out-is x = refl
+single-is : (tag x : ℕ) → fieldOf tag (big 4 x) ≡ tag ∷ 0 ∷ 4 ∷ big 4 x
+unfolding fieldOf big
+single-is tag x = refl
 
 -- the head of an accepted field
 pub head-bytes : (s : List ℕ) (tag size : ℕ) → 3 ≤ length s → getD s 0 0 ≡ tag → be2 s 1 ≡ size → size < 256 → s ≡ tag ∷ 0 ∷ size ∷ drop 3 s
@@ -50,8 +49,12 @@ module _ (s : List ℕ) (h : Bytes s) where
   two-back tag l t e =
       head-bytes s tag 8 (omega arith) t e (omega arith) ∙ rw (four-bytes s 3 h (omega arith), four-bytes s 7 h (omega arith), two-is, append-assoc)
 
-  out-back : 7 ≤ length s → getD s 0 0 ≡ 4 → be2 s 1 ≡ 4 → s ≡ outputField (be4 s 3) ++ drop 7 s
-  out-back l t e = head-bytes s 4 4 (omega arith) t e (omega arith) ∙ rw (four-bytes s 3 h (omega arith), out-is)
+  single-back : (tag : ℕ) → payloadOf tag ≡ 4 → dueNumber tag tag s ≡ 0 → s ≡ fieldOf tag (big 4 (be4 s 3)) ++ drop 7 s
+  single-back tag p e =
+      let d = due-is tag tag s e in
+      let t : getD s 0 0 ≡ tag = omega arith in
+      let q = size-at (getD s 0 0) tag 4 p t in
+      head-bytes s tag 4 (d .head) t (d .size ∙ q) (omega arith) ∙ rw (four-bytes s 3 h (omega arith), single-is)
 
 -- what an accepted node field is: a majority's or an XOR's
 pub record Majority (s : List ℕ) (v : ℕ) : Type 0 where
@@ -86,26 +89,6 @@ pub size-of : (s : List ℕ) (tag n : ℕ) → payloadOf tag ≡ n → getD s 0 
 unfolding nodeSize
 size-of s tag n e t = ap (λ (k : ℕ). 3 + k) (size-at (getD s 0 0) tag n e t)
 
-pub payload-two : payloadOf 2 ≡ 12
-unfolding payloadOf ifEqual
-payload-two = refl
-
-pub payload-three : payloadOf 3 ≡ 8
-unfolding payloadOf ifEqual
-payload-three = refl
-
-pub payload-one : payloadOf 1 ≡ 12
-unfolding payloadOf ifEqual
-payload-one = refl
-
-pub payload-four : payloadOf 4 ≡ 4
-unfolding payloadOf ifEqual
-payload-four = refl
-
-pub payload-five : payloadOf 5 ≡ 0
-unfolding payloadOf ifEqual
-payload-five = refl
-
 pub node-accepted : (s : List ℕ) (v : ℕ) → nodeFieldNumber s v ≡ 0 → NodeAccepted s v
 unfolding nodeFieldNumber
 node-accepted s v e =
@@ -139,16 +122,16 @@ node-back s v h l e =
     (a .kind)
 
 pub output-back : (s : List ℕ) (v : ℕ) → Bytes s → outputFieldNumber s v ≡ 0 → s ≡ outputField (be4 s 3) ++ drop 7 s
-unfolding outputFieldNumber
-output-back s v h e =
-    let d = due-is 4 4 s (both _ _ e .0) in
-    let t : getD s 0 0 ≡ 4 = omega arith in
-    let p = size-at (getD s 0 0) 4 4 payload-four t in
-    out-back s h (omega arith) t (d .size ∙ p)
+unfolding outputFieldNumber outputField
+output-back s v h e = single-back s h 4 payload-four (both _ _ e .0)
 
-pub head-back : (s : List ℕ) (a b : ℕ) → Bytes s → headNumber s a b ≡ 0 → s ≡ headField (be4 s 3) (be4 s 7) (be4 s 11) ++ drop 15 s
+pub lock-back : (s : List ℕ) (low top : ℕ) → Bytes s → lockFieldNumber s low top ≡ 0 → s ≡ fieldOf 6 (big 4 (be4 s 3)) ++ drop 7 s
+unfolding lockFieldNumber
+lock-back s low top h e = single-back s h 6 payload-six (both _ _ e .0)
+
+pub head-back : (s : List ℕ) (a b l : ℕ) → Bytes s → headNumber s a b l ≡ 0 → s ≡ headField (be4 s 3) (be4 s 7) (be4 s 11) ++ drop 15 s
 unfolding headNumber headField
-head-back s a b h e =
+head-back s a b l h e =
     let d = due-is 1 1 s (both _ _ e .0) in
     let t : getD s 0 0 ≡ 1 = omega arith in
     let p = size-at (getD s 0 0) 1 12 payload-one t in

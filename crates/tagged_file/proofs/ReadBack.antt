@@ -1,6 +1,6 @@
 -- A field as it is written, with anything after it: it is accepted, and what was written is read back.
 -- From the laws on big-endian numbers and on tests.
-use Prim.Native.Nat.{ℕ, _+_, _*_, _/_, _<_, _≤_}
+use Prim.Native.Nat.{ℕ, _+_, _/_, _<_, _≤_}
 use mathlib.Core.Path.{_≡_, refl, sym, ap, _∙_}
 use mathlib.Core.Logic.{⊎-elim, _≢_}
 use mathlib.Core.List.{List, [], _∷_, _++_}
@@ -8,14 +8,14 @@ use native.Mathlib.Omega.{arith}
 use lib.ListN.{length, getD, drop, length-append}
 use Rattle.graph.specs.Graph.{mark}
 use Rattle.graph.proofs.Cases.{eq-or-ne}
-use Rattle.graph.proofs.Admit.{room-none}
+use Rattle.graph.proofs.Admit.{Rooms, room-none}
 use Rattle.graph.proofs.Tests.{less, no-less, equal, unequal, none}
-use Rattle.file_checks.specs.File.{be2, be4, payloadOf, dueNumber, nodeSize, third, headNumber, nodeFieldNumber, outputFieldNumber, endNumber}
+use Rattle.file_checks.specs.File.{be2, be4, payloadOf, dueNumber, nodeSize, third, headNumber, nodeFieldNumber, outputFieldNumber, lockFieldNumber, endNumber}
 use Rattle.tagged_file.specs.Write.{big, fieldOf, headField, nodeField, outputField, endField}
 use Rattle.tagged_file.proofs.BigEndian.{big-says}
-use Rattle.tagged_file.proofs.FieldBytes.{node-xor, node-majority, end-is, length-three, length-two, length-output}
-use Rattle.file_checks.proofs.Checked.{size-at}
-use Rattle.tagged_file.proofs.OneField.{payload-one, payload-two, payload-three, payload-four, payload-five, size-of, third-majority, third-xor}
+use Rattle.tagged_file.proofs.FieldBytes.{node-xor, node-majority, end-is, length-three, length-two, length-single}
+use Rattle.file_checks.proofs.Checked.{size-at, payload-one, payload-two, payload-three, payload-four, payload-five, payload-six}
+use Rattle.tagged_file.proofs.OneField.{size-of, third-majority, third-xor}
 
 -- a field that has these is accepted
 due-from : (low high tag size : ℕ) (s : List ℕ) → getD s 0 0 ≡ tag → low ≤ tag → tag ≤ high → payloadOf tag ≡ size → be2 s 1 ≡ size
@@ -72,6 +72,29 @@ module _ (tag x y : ℕ) (rest : List ℕ) where
   two-after : drop 11 (fieldOf tag (big 4 x ++ big 4 y) ++ rest) ≡ rest
   unfolding fieldOf big
   two-after = refl
+
+module _ (tag x : ℕ) (rest : List ℕ) where
+  single-tag : getD (fieldOf tag (big 4 x) ++ rest) 0 0 ≡ tag
+  unfolding fieldOf
+  single-tag = refl
+
+  single-size : be2 (fieldOf tag (big 4 x) ++ rest) 1 ≡ 4
+  unfolding fieldOf big be2
+  single-size = refl
+
+  single-first : x < 4294967296 → be4 (fieldOf tag (big 4 x) ++ rest) 3 ≡ x
+  unfolding fieldOf big be4
+  single-first h = big-says x h
+
+  single-after : drop 7 (fieldOf tag (big 4 x) ++ rest) ≡ rest
+  unfolding fieldOf big
+  single-after = refl
+
+  single-due : payloadOf tag ≡ 4 → dueNumber tag tag (fieldOf tag (big 4 x) ++ rest) ≡ 0
+  single-due p =
+      let r = length-append (fieldOf tag (big 4 x)) rest in
+      let l = length-single tag x in
+      due-from tag tag tag 4 (fieldOf tag (big 4 x) ++ rest) single-tag (omega arith) (omega arith) p single-size (omega arith)
 
 -- a node's field, with index v
 pub record NodeRead (s : List ℕ) (v x y z : ℕ) (rest : List ℕ) : Type 0 where
@@ -136,32 +159,29 @@ pub record OutputRead (s : List ℕ) (v x : ℕ) (rest : List ℕ) : Type 0 wher
   pub one : be4 s 3 ≡ x
   pub after : drop 7 s ≡ rest
 
-module _ (x : ℕ) (rest : List ℕ) where
-  out-tag : getD (outputField x ++ rest) 0 0 ≡ 4
-  unfolding outputField fieldOf
-  out-tag = refl
+pub output-read : (x : ℕ) (rest : List ℕ) (v : ℕ) → x / 2 < v → x < 4294967296 → OutputRead (outputField x ++ rest) v x rest
+unfolding outputFieldNumber outputField
+output-read x rest v h b =
+    let w = single-first 4 x rest b in
+    record { number = sym (none _ _ (single-due 4 x rest payload-four) (less _ _ _ _ (rw w h) refl)); one = w; after = single-after 4 x rest }
 
-  out-size : be2 (outputField x ++ rest) 1 ≡ 4
-  unfolding outputField fieldOf big be2
-  out-size = refl
+-- the lock of the node with index u
+pub record LockRead (s : List ℕ) (u : ℕ) (rest : List ℕ) : Type 0 where
+  pub tag : getD s 0 0 ≡ 6
+  pub number : (low top : ℕ) → low ≤ u → u < top → lockFieldNumber s low top ≡ 0
+  pub one : be4 s 3 ≡ u
+  pub after : drop 7 s ≡ rest
 
-  out-first : x < 4294967296 → be4 (outputField x ++ rest) 3 ≡ x
-  unfolding outputField fieldOf big be4
-  out-first h = big-says x h
-
-  out-after : drop 7 (outputField x ++ rest) ≡ rest
-  unfolding outputField fieldOf big
-  out-after = refl
-
-  pub output-read : (v : ℕ) → x / 2 < v → x < 4294967296 → OutputRead (outputField x ++ rest) v x rest
-  unfolding outputFieldNumber
-  output-read v h b =
-      let s : List ℕ = outputField x ++ rest in
-      let r = length-append (outputField x) rest in
-      let l = length-output x in
-      let w : be4 s 3 ≡ x = out-first b in
-      let d = due-from 4 4 4 4 s out-tag (omega arith) (omega arith) payload-four out-size (omega arith) in
-      record { number = sym (none _ _ d (less _ _ _ _ (rw w h) refl)); one = w; after = out-after }
+pub lock-read : (u : ℕ) (rest : List ℕ) → u < 4294967296 → LockRead (fieldOf 6 (big 4 u) ++ rest) u rest
+unfolding lockFieldNumber
+lock-read u rest b =
+    let w = single-first 6 u rest b in
+    record {
+      tag = single-tag 6 u rest;
+      number = λ low top h k. sym (none _ _ (single-due 6 u rest payload-six) (no-less _ _ _ _ (rw w h) (less _ _ _ _ (rw w k) refl)));
+      one = w;
+      after = single-after 6 u rest;
+    }
 
 end-size : be2 (5 ∷ 0 ∷ 0 ∷ []) 1 ≡ 0
 unfolding be2
@@ -173,28 +193,29 @@ end-read =
     let d = due-from 5 5 5 0 (5 ∷ 0 ∷ 0 ∷ []) refl (omega arith) (omega arith) payload-five end-size (omega arith) in
     rw end-is (sym (none _ _ d (no-less _ _ _ _ (omega arith) refl)))
 
--- field 01, with tables of a and b words lent
-pub record HeadRead (s : List ℕ) (a b i n o : ℕ) (rest : List ℕ) : Type 0 where
-  pub number : headNumber s a b ≡ 0
+pub end-tag : getD endField 0 0 ≡ 5
+end-tag = rw end-is refl
+
+-- field 01, with tables of a and b words and l lock bytes lent
+pub record HeadRead (s : List ℕ) (a b l i n o : ℕ) (rest : List ℕ) : Type 0 where
+  pub number : headNumber s a b l ≡ 0
   pub inputs : be4 s 3 ≡ i
   pub nodes : be4 s 7 ≡ n
   pub outputs : be4 s 11 ≡ o
   pub after : drop 15 s ≡ rest
 
-pub head-read : (a b i n o : ℕ) (rest : List ℕ) → i ≤ 4096 → n ≤ 100000 → o ≤ 4096 → 3 * n ≤ a → o ≤ b → HeadRead (headField i n o ++ rest) a b i n o rest
+pub head-read : (a b l i n o : ℕ) (rest : List ℕ) → Rooms i n o a b l → HeadRead (headField i n o ++ rest) a b l i n o rest
 unfolding headNumber headField
-head-read a b i n o rest hi hn ho ha hb =
+head-read a b l i n o rest m =
     let s : List ℕ = fieldOf 1 (big 4 i ++ (big 4 n ++ big 4 o)) ++ rest in
     let r = length-append (fieldOf 1 (big 4 i ++ (big 4 n ++ big 4 o))) rest in
-    let l = length-three 1 i n o in
+    let k = length-three 1 i n o in
     let ei : be4 s 3 ≡ i = three-first 1 i n o rest (omega arith) in
     let en : be4 s 7 ≡ n = three-second 1 i n o rest (omega arith) in
     let eo : be4 s 11 ≡ o = three-third 1 i n o rest (omega arith) in
     let d = due-from 1 1 1 12 s (three-tag 1 i n o rest) (omega arith) (omega arith) payload-one (three-size 1 i n o rest) (omega arith) in
     record {
-      number =
-          sym (none _ _ d (sym (room-none (be4 s 3) (be4 s 7) (be4 s 11) a b
-          (record { few-inputs = omega arith; few-nodes = omega arith; few-outputs = omega arith; long-nodes = omega arith; long-outputs = omega arith }))));
+      number = sym (none _ _ d (sym (rw (ei, en, eo) (room-none i n o a b l m))));
       inputs = ei;
       nodes = en;
       outputs = eo;

@@ -1,56 +1,107 @@
 -- The whole of loading: what the check pass has shown, and what both passes come to. From the laws of both passes.
 use Prim.Native.Nat.{ℕ, zero, suc, _+_, _*_, _≤_}
-use mathlib.Core.Path.{_≡_, _∙_}
+use mathlib.Core.Path.{_≡_, refl, _∙_}
 use mathlib.Core.List.{List, [], _∷_, _++_}
+use native.Mathlib.Omega.{arith}
 use lib.ListN.{length, drop}
-use Rattle.graph.specs.Graph.{graphOf}
-use Rattle.graph.specs.Answer.{accepted, refused, outcome}
+use Rattle.graph.specs.Graph.{Graph, graphOf}
+use Rattle.graph.specs.Answer.{LockedOutcome, accepted, refused, lockedOutcome, guardedLocks}
 use Rattle.graph.proofs.Tests.{both}
-use Rattle.graph.proofs.Answers.{refused-outcome, accepted-outcome}
-use Rattle.file_checks.specs.File.{be4, nodeSize, outputFieldsNumber, nodeFieldsNumber, fileNumber, nodeWords, outputWords, afterNodes}
-use Rattle.tagged_file.specs.Load.{blank, graphRead, loadCall}
-use Rattle.file_checks.specs.Walk.{Nodes, Outputs}
-use Rattle.file_checks.proofs.Checked.{HeadPassed, head-passed, out-passed, node-passed}
+use Rattle.graph.proofs.Answers.{refused-locked, accepted-locked}
+use Rattle.file_checks.specs.File.{be4, nodeSize, lockCount, lockFieldsNumber, outputFieldsNumber, nodeFieldsNumber, fileNumber, nodeWords, singleWords, afterNodes, afterSingles, locksFrom, lockIndices}
+use Rattle.tagged_file.specs.Inner.{lockedAt}
+use Rattle.tagged_file.specs.Load.{blank, graphRead, locksRead, freeLocks, loadCall}
+use Rattle.tagged_file.proofs.Accepted.{after-nodes, after-outputs}
+use Rattle.tagged_file.proofs.Named.{all-locked}
+use Rattle.file_checks.specs.Walk.{Nodes, Singles, Locks}
+use Rattle.file_checks.proofs.Checked.{HeadPassed, head-passed, out-passed, lock-passed, node-passed}
 
-outputs-passed : (o : ℕ) (s : List ℕ) (i : ℕ) → outputFieldsNumber o s i ≡ 0 → Outputs o s
-outputs-passed zero s i e = tt
-outputs-passed (suc o) s i e = let h = both _ _ e in (out-passed s i (h .0), outputs-passed o (drop 7 s) i (h .1))
+nodes-passed : (n o : ℕ) (s : List ℕ) (low i : ℕ) → nodeFieldsNumber n o s low i ≡ 0 → Nodes n s
+nodes-passed zero o s low i e = tt
+nodes-passed (suc n) o s low i e = let h = both _ _ e in (node-passed s i (h .0), nodes-passed n o (drop (nodeSize s) s) low (i + 1) (h .1))
 
-nodes-passed : (n o : ℕ) (s : List ℕ) (i : ℕ) → nodeFieldsNumber n o s i ≡ 0 → Nodes n s × Outputs o (afterNodes n s)
-nodes-passed zero o s i e = (tt, outputs-passed o s i e)
-nodes-passed (suc n) o s i e =
+outputs-passed : (o : ℕ) (s : List ℕ) (low top : ℕ) → outputFieldsNumber o s low top ≡ 0 → Singles o s
+outputs-passed zero s low top e = tt
+outputs-passed (suc o) s low top e = let h = both _ _ e in (out-passed s top (h .0), outputs-passed o (drop 7 s) low top (h .1))
+
+-- locks from low on, of which the next names an index from l on
+locks-passed : (n : ℕ) (s : List ℕ) (low l top : ℕ) → low ≤ l → lockFieldsNumber n s l top ≡ 0 → Locks n s low top
+locks-passed zero s low l top k e = tt
+locks-passed (suc n) s low l top k e =
     let h = both _ _ e in
-    let r = nodes-passed n o (drop (nodeSize s) s) (i + 1) (h .1) in
-    ((node-passed s i (h .0), r .0), r .1)
+    let p = lock-passed s l top (h .0) in
+    (record { whole = p .whole; least = omega arith; below = p .below }, locks-passed n (drop 7 s) low (be4 s 3 + 1) top (omega arith) (h .1))
 
-pub record Passed (s : List ℕ) (a b : ℕ) : Type 0 where
-  pub head : HeadPassed s a b
+-- a longer slice holds them too
+locks-within : (n : ℕ) (s : List ℕ) (low top top′ : ℕ) → top ≤ top′ → Locks n s low top → Locks n s low top′
+locks-within zero s low top top′ k p = tt
+locks-within (suc n) s low top top′ k p =
+    (record { whole = p .0 .whole; least = p .0 .least; below = omega (arith, p .0) }, locks-within n (drop 7 s) low top top′ k (p .1))
+
+pub record Passed (s : List ℕ) (a b l : ℕ) : Type 0 where
+  pub head : HeadPassed s a b l
   pub nodes : Nodes (be4 s 7) (drop 15 s)
-  pub outputs : Outputs (be4 s 11) (afterNodes (be4 s 7) (drop 15 s))
+  pub outputs : Singles (be4 s 11) (afterNodes (be4 s 7) (drop 15 s))
+  pub locks : Locks (lockCount (locksFrom s)) (locksFrom s) (be4 s 3 + 1) (be4 s 3 + 1 + be4 s 7)
 
-pub passed : (s : List ℕ) (a b : ℕ) → fileNumber s a b ≡ 0 → Passed s a b
-unfolding fileNumber
-passed s a b e =
+pub passed : (s : List ℕ) (a b l : ℕ) → fileNumber s a b l ≡ 0 → Passed s a b l
+unfolding fileNumber locksFrom
+passed s a b l e =
     let h = both _ _ e in
-    let r = nodes-passed (be4 s 7) (be4 s 11) (drop 15 s) (be4 s 3 + 1) (h .1) in
-    record { head = head-passed s a b (h .0); nodes = r .0; outputs = r .1 }
+    let i : ℕ = be4 s 3 + 1 in
+    let t : List ℕ = afterNodes (be4 s 7) (drop 15 s) in
+    let o = after-nodes (be4 s 7) (be4 s 11) (drop 15 s) i i (h .1) in
+    record {
+      head = head-passed s a b l (h .0);
+      nodes = nodes-passed (be4 s 7) (be4 s 11) (drop 15 s) i i (h .1);
+      outputs = outputs-passed (be4 s 11) t i (i + be4 s 7) o;
+      locks =
+          locks-passed (lockCount (afterSingles (be4 s 11) t)) (afterSingles (be4 s 11) t) i i (i + be4 s 7) (omega arith)
+          (after-outputs (be4 s 11) t i (i + be4 s 7) o);
+    }
 
 -- what each fill function asks
-pub nodes-asked : (s : List ℕ) (a b n : ℕ) (t : List ℕ) → Passed s a b → n ≡ be4 s 7 → t ≡ drop 15 s → Nodes n t × (3 * n ≤ a)
-nodes-asked s a b n t p en et = (rw (en, et) (p .nodes), rw en (p .head .long-nodes))
+module _ (s : List ℕ) (a b l : ℕ) (p : Passed s a b l) (n : ℕ) (t : List ℕ) (en : n ≡ be4 s 7) (et : t ≡ drop 15 s) where
+  pub nodes-asked : Nodes n t × (3 * n ≤ a)
+  nodes-asked = (rw (en, et) (p .nodes), rw en (p .head .rooms .long-nodes))
 
-pub outputs-asked : (s : List ℕ) (a b n o : ℕ) (t r : List ℕ) → Passed s a b → n ≡ be4 s 7 → o ≡ be4 s 11 → t ≡ drop 15 s → r ≡ afterNodes n t
-    → Outputs o r × (o ≤ b)
-outputs-asked s a b n o t r p en eo et er = (rw (er, en, eo, et) (p .outputs), rw eo (p .head .long-outputs))
+  module _ (o : ℕ) (r : List ℕ) (eo : o ≡ be4 s 11) (er : r ≡ afterNodes n t) where
+    pub outputs-asked : Singles o r × (o ≤ b)
+    outputs-asked = (rw (er, en, eo, et) (p .outputs), rw eo (p .head .rooms .long-outputs))
+
+    from-is : (q : List ℕ) → q ≡ afterSingles o r → q ≡ locksFrom s
+    unfolding locksFrom
+    from-is q eq = eq ∙ rw (er, en, eo, et) refl
+
+    pub locks-asked : (i k : ℕ) (q : List ℕ) → i ≡ be4 s 3 → q ≡ afterSingles o r → k ≡ l → Locks (lockCount q) q (i + 1) (i + 1 + k)
+    locks-asked i k q ei eq ek =
+        let h : i + 1 + n ≤ i + 1 + k = omega (arith, p .head .rooms .enough-locks) in
+        locks-within (lockCount q) q (i + 1) (i + 1 + n) (i + 1 + k) h (rw (from-is q eq, ei, en) (p .locks))
+
+-- a call that may be refused answers its fault
+pub guarded-number : (k : ℕ) (g : Graph) (ls : List ℕ) (o : LockedOutcome) → o .answer .number ≡ 0 → guardedLocks k g ls o .answer .number ≡ k
+unfolding guardedLocks
+guarded-number zero g ls o e = e
+guarded-number (suc k) g ls o e = refl
 
 -- what the answers come to
-pub load-refused : (k j : ℕ) (s nodes outputs : List ℕ) → j ≡ k → k ≡ fileNumber s (length nodes) (length outputs) → (k ≡ 0 → ⊥)
-    → outcome (refused j) (blank nodes outputs) ≡ loadCall s nodes outputs
+pub load-refused : (k j : ℕ) (s nodes outputs locks : List ℕ) → j ≡ k → k ≡ fileNumber s (length nodes) (length outputs) (length locks) → (k ≡ 0 → ⊥)
+    → lockedOutcome (refused j) (blank nodes outputs) locks ≡ loadCall s nodes outputs locks
 unfolding loadCall
-load-refused k j s nodes outputs ej e h = refused-outcome _ _ _ _ (ej ∙ e) (λ z. h (e ∙ z))
+load-refused k j s nodes outputs locks ej e h = refused-locked _ _ _ _ _ (ej ∙ e) (λ z. h (e ∙ z))
 
-pub load-accepted : (s nodes outputs : List ℕ) (i n o : ℕ) (nodes′ outputs′ t r : List ℕ) → fileNumber s (length nodes) (length outputs) ≡ 0 → i ≡ be4 s 3
-    → n ≡ be4 s 7 → o ≡ be4 s 11 → t ≡ drop 15 s → r ≡ afterNodes n t → nodes′ ≡ nodeWords n t ++ drop (3 * n) nodes
-    → outputs′ ≡ outputWords o r ++ drop o outputs → outcome (accepted (i ∷ n ∷ o ∷ [])) (graphOf i n o nodes′ outputs′) ≡ loadCall s nodes outputs
+-- the lock bytes that are left
+locked-is : (s ls : List ℕ) (a b : ℕ) → Passed s a b (length ls) → lockedAt (be4 s 3 + 1) (lockIndices (locksFrom s)) (freeLocks (be4 s 7) ls) ≡ locksRead s ls
+unfolding locksRead lockIndices
+locked-is s ls a b p = all-locked (lockCount (locksFrom s)) (locksFrom s) (be4 s 3 + 1) (be4 s 7) ls (p .locks) (p .head .rooms .enough-locks)
+
+pub load-accepted : (s nodes outputs locks : List ℕ) → fileNumber s (length nodes) (length outputs) (length locks) ≡ 0 → (i n o : ℕ) (nodes′ outputs′ locks′ t r q : List ℕ)
+    → i ≡ be4 s 3 → n ≡ be4 s 7 → o ≡ be4 s 11 → t ≡ drop 15 s → r ≡ afterNodes n t → q ≡ afterSingles o r → nodes′ ≡ nodeWords n t ++ drop (3 * n) nodes
+    → outputs′ ≡ singleWords o r ++ drop o outputs → locks′ ≡ lockedAt (i + 1) (lockIndices q) (freeLocks n locks)
+    → lockedOutcome (accepted (i ∷ n ∷ o ∷ [])) (graphOf i n o nodes′ outputs′) locks′ ≡ loadCall s nodes outputs locks
 unfolding loadCall graphRead
-load-accepted s nodes outputs i n o nodes′ outputs′ t r z ei en eo et er ens eos = rw (ens, eos, er, et, ei, en, eo) (accepted-outcome _ _ _ z)
+load-accepted s nodes outputs locks z i n o nodes′ outputs′ locks′ t r q ei en eo et er eq ens eos els =
+    let p = passed s _ _ _ z in
+    let f = from-is s _ _ _ p n t en et o r eo er q eq in
+    let w : locks′ ≡ locksRead s locks = els ∙ rw (f, ei, en) (locked-is s locks _ _ p) in
+    rw (w, ens, eos, er, et, ei, en, eo) (accepted-locked _ _ _ _ z)

@@ -10,8 +10,8 @@ use Rattle.graph.specs.Admission.{admissionNumber}
 use Rattle.graph.specs.Answer.{IsRefusal, accepted, refused}
 use Rattle.graph.proofs.Tests.{both, off}
 use Rattle.graph.proofs.Answers.{ifLess-le, first-le, admission-le}
-use Rattle.tagged_file.specs.Write.{big, fieldOf, headField, endField, nodeFieldAt, outputFieldAt, inOrder, fileOf, writeNumber, writeOutcome, writeBy, writeCall}
-use Rattle.tagged_file.proofs.Stores.{front, then}
+use Rattle.tagged_file.specs.Write.{big, fieldOf, headField, endField, nodeFieldAt, outputFieldAt, lockFieldAt, inOrder, fileOf, writeNumber, writeOutcome, writeBy, writeCall}
+use Rattle.tagged_file.proofs.Stores.{front, in-a-row}
 use Rattle.tagged_file.proofs.FieldBytes.{length-output-at, end-is}
 use Rattle.tagged_file.proofs.Emitted.{inOrder-step}
 
@@ -28,16 +28,19 @@ unfolding endField fieldOf big
 length-end = refl
 
 -- the file's length, by its parts
-pub length-file : (g : Graph) → length (fileOf g) ≡ 18 + length (inOrder (nodeFieldAt (g .nodes)) 0 (g .N)) + 7 * g .O
+pub length-file : (g : Graph) (ls : List ℕ)
+    → length (fileOf g ls) ≡ 18 + length (inOrder (nodeFieldAt (g .nodes)) 0 (g .N)) + 7 * g .O + length (inOrder (lockFieldAt (g .I + 1) ls) 0 (g .N))
 unfolding fileOf
-length-file g =
+length-file g ls =
     let ns : List ℕ = inOrder (nodeFieldAt (g .nodes)) 0 (g .N) in
     let os : List ℕ = inOrder (outputFieldAt (g .outputs)) 0 (g .O) in
+    let ks : List ℕ = inOrder (lockFieldAt (g .I + 1) ls) 0 (g .N) in
     omega (
       arith,
-      length-append (headField (g .I) (g .N) (g .O)) (ns ++ (os ++ endField)),
-      length-append ns (os ++ endField),
-      length-append os endField,
+      length-append (headField (g .I) (g .N) (g .O)) (ns ++ (os ++ (ks ++ endField))),
+      length-append ns (os ++ (ks ++ endField)),
+      length-append os (ks ++ endField),
+      length-append ks endField,
       length-head (g .I) (g .N) (g .O),
       length-end,
       length-outputs (g .outputs) 0 (g .O),
@@ -57,39 +60,44 @@ head-is : (i n o : ℕ) → headField i n o ≡ fieldOf 1 (big 4 i ++ (big 4 n +
 unfolding headField
 head-is i n o = refl
 
-in-a-row : (g : Graph) → ((headField (g .I) (g .N) (g .O) ++ inOrder (nodeFieldAt (g .nodes)) 0 (g .N)) ++ inOrder (outputFieldAt (g .outputs)) 0 (g .O)) ++ endField ≡ fileOf g
+assembled : (g : Graph) (ls : List ℕ)
+    → (((headField (g .I) (g .N) (g .O) ++ inOrder (nodeFieldAt (g .nodes)) 0 (g .N)) ++ inOrder (outputFieldAt (g .outputs)) 0 (g .O))
+    ++ inOrder (lockFieldAt (g .I + 1) ls) 0 (g .N)) ++ endField ≡ fileOf g ls
 unfolding fileOf
-in-a-row g = simp append-assoc
+assembled g ls = simp append-assoc
 
-pub file-stored : (g : Graph) (t t₁ t₂ t₃ t₄ : List ℕ) (middle end : ℕ)
-    → t₁ ≡ sets t 0 (fieldOf 1 (big 4 (g .I) ++ (big 4 (g .N) ++ big 4 (g .O))))
-    → t₂ ≡ sets t₁ 15 (inOrder (nodeFieldAt (g .nodes)) 0 (g .N)) → t₃ ≡ sets t₂ middle (inOrder (outputFieldAt (g .outputs)) 0 (g .O))
-    → t₄ ≡ sets t₃ end (5 ∷ 0 ∷ 0 ∷ []) → middle ≡ 15 + length (inOrder (nodeFieldAt (g .nodes)) 0 (g .N))
-    → end ≡ middle + length (inOrder (outputFieldAt (g .outputs)) 0 (g .O)) → (end + 3 ≡ length (fileOf g)) × (t₄ ≡ sets t 0 (fileOf g))
-file-stored g t t₁ t₂ t₃ t₄ middle end e₁ e₂ e₃ e₄ em ee =
+-- a part that is put: the place after it, and the bytes
+abbrev Put : List ℕ → List ℕ → List ℕ → ℕ → ℕ → Type 0
+Put part t t′ at end = (end ≡ at + length part) × (t′ ≡ sets t at part)
+
+pub file-stored : (g : Graph) (ls t t₁ t₂ t₃ t₄ t₅ : List ℕ) (second third end : ℕ)
+    → t₁ ≡ sets t 0 (fieldOf 1 (big 4 (g .I) ++ (big 4 (g .N) ++ big 4 (g .O)))) → Put (inOrder (nodeFieldAt (g .nodes)) 0 (g .N)) t₁ t₂ 15 second
+    → Put (inOrder (outputFieldAt (g .outputs)) 0 (g .O)) t₂ t₃ second third → Put (inOrder (lockFieldAt (g .I + 1) ls) 0 (g .N)) t₃ t₄ third end
+    → t₅ ≡ sets t₄ end (5 ∷ 0 ∷ 0 ∷ []) → (end + 3 ≡ length (fileOf g ls)) × (t₅ ≡ sets t 0 (fileOf g ls))
+file-stored g ls t t₁ t₂ t₃ t₄ t₅ second third end e₁ p₂ p₃ p₄ e₅ =
+    let lh = length-head (g .I) (g .N) (g .O) in
+    let le = length-end in
     let h : List ℕ = headField (g .I) (g .N) (g .O) in
     let ns : List ℕ = inOrder (nodeFieldAt (g .nodes)) 0 (g .N) in
     let os : List ℕ = inOrder (outputFieldAt (g .outputs)) 0 (g .O) in
-    let lh = length-head (g .I) (g .N) (g .O) in
-    let ln = length-append h ns in
-    let lo = length-append (h ++ ns) os in
-    let f₁ : t₁ ≡ sets t 0 h = rw head-is e₁ in
-    let f₂ = then t t₁ t₂ h ns 0 15 f₁ e₂ (omega arith) in
-    let f₃ = then t t₂ t₃ (h ++ ns) os 0 middle f₂ e₃ (omega arith) in
-    let f₄ = then t t₃ t₄ ((h ++ ns) ++ os) endField 0 end f₃ (rw end-is e₄) (omega arith) in
-    (omega (arith, length-file g, length-outputs (g .outputs) 0 (g .O)), f₄ ∙ ap (sets t 0) (in-a-row g))
+    let ks : List ℕ = inOrder (lockFieldAt (g .I + 1) ls) 0 (g .N) in
+    let r₂ = in-a-row t t₁ t₂ h ns 0 15 second (omega arith, rw head-is e₁) p₂ in
+    let r₃ = in-a-row t t₂ t₃ (h ++ ns) os 0 second third r₂ p₃ in
+    let r₄ = in-a-row t t₃ t₄ ((h ++ ns) ++ os) ks 0 third end r₃ p₄ in
+    let r₅ = in-a-row t t₄ t₅ (((h ++ ns) ++ os) ++ ks) endField 0 end (end + 3) r₄ (omega arith, rw end-is e₅) in
+    let a = assembled g ls in
+    (omega (arith, ap length a), r₅ .1 ∙ ap (sets t 0) a)
 
 -- a refusal's number
-pub write-fault : (k : ℕ) (g : Graph) (room : ℕ) → k ≡ writeNumber g room → (k ≡ 0 → ⊥) → IsRefusal k
+pub write-fault : (k : ℕ) (g : Graph) (ls : List ℕ) (room : ℕ) → k ≡ writeNumber g ls room → (k ≡ 0 → ⊥) → IsRefusal k
 unfolding writeNumber
-write-fault k g room e n =
-    let a = admission-le g in
-    (omega arith, omega (arith, first-le (admissionNumber g) _ 9 (omega arith) (ifLess-le room (length (fileOf g)) 9 0 9 (omega arith) (omega arith))))
+write-fault k g ls room e n =
+    (omega arith, omega (arith, first-le (admissionNumber g ls) _ 13 (admission-le g ls) (ifLess-le room (length (fileOf g ls)) 9 0 13 (omega arith) (omega arith))))
 
 -- what an accepted graph and buffer have
-pub write-passed : (g : Graph) (room : ℕ) → writeNumber g room ≡ 0 → (admissionNumber g ≡ 0) × (length (fileOf g) ≤ room)
+pub write-passed : (g : Graph) (ls : List ℕ) (room : ℕ) → writeNumber g ls room ≡ 0 → (admissionNumber g ls ≡ 0) × (length (fileOf g ls) ≤ room)
 unfolding writeNumber
-write-passed g room e = let b = both _ _ e in (b .0, off _ _ _ _ (b .1) .0)
+write-passed g ls room e = let b = both _ _ e in (b .0, off _ _ _ _ (b .1) .0)
 
 -- the answers, of anything that is written: refused by k, and with no fault
 pub by-refused : (k j : ℕ) (file b : List ℕ) → j ≡ k → (k ≡ 0 → ⊥) → writeOutcome (refused j) b ≡ writeBy k file b
@@ -100,11 +108,11 @@ pub by-accepted : (k n : ℕ) (file b b′ : List ℕ) → k ≡ 0 → n ≡ len
     → writeOutcome (accepted (n ∷ [])) b′ ≡ writeBy k file b
 by-accepted k n file b b′ z en eb h = rw (z, en, eb, front file b (length file) refl h) refl
 
-pub write-refused : (k j : ℕ) (g : Graph) (b : List ℕ) → j ≡ k → k ≡ writeNumber g (length b) → (k ≡ 0 → ⊥) → writeOutcome (refused j) b ≡ writeCall g b
+pub write-refused : (k j : ℕ) (g : Graph) (ls b : List ℕ) → j ≡ k → k ≡ writeNumber g ls (length b) → (k ≡ 0 → ⊥) → writeOutcome (refused j) b ≡ writeCall g ls b
 unfolding writeCall
-write-refused k j g b ej e n = rw (← e) (by-refused k j (fileOf g) b ej n)
+write-refused k j g ls b ej e n = rw (← e) (by-refused k j (fileOf g ls) b ej n)
 
-pub write-accepted : (n : ℕ) (g : Graph) (b b′ : List ℕ) → writeNumber g (length b) ≡ 0 → n ≡ length (fileOf g) → b′ ≡ sets b 0 (fileOf g)
-    → writeOutcome (accepted (n ∷ [])) b′ ≡ writeCall g b
+pub write-accepted : (n : ℕ) (g : Graph) (ls b b′ : List ℕ) → writeNumber g ls (length b) ≡ 0 → n ≡ length (fileOf g ls) → b′ ≡ sets b 0 (fileOf g ls)
+    → writeOutcome (accepted (n ∷ [])) b′ ≡ writeCall g ls b
 unfolding writeCall
-write-accepted n g b b′ z en eb = by-accepted _ n (fileOf g) b b′ z en eb (write-passed g (length b) z .1)
+write-accepted n g ls b b′ z en eb = by-accepted _ n (fileOf g ls) b b′ z en eb (write-passed g ls (length b) z .1)

@@ -8,32 +8,35 @@ use native.Mathlib.Nat.{not-suc-le-zero, le-of-suc-le-suc}
 use lib.ListN.{getD}
 use Rattle.graph.specs.Graph.{mark}
 use Rattle.graph.proofs.Tests.{none}
-use Rattle.file_checks.specs.File.{outputFieldsNumber, nodeFieldsNumber, nodeWords, outputWords, afterNodes}
-use Rattle.tagged_file.specs.Write.{nodeFieldAt, outputFieldAt, endField, inOrder}
-use Rattle.tagged_file.proofs.ReadBack.{NodeRead, node-read, OutputRead, output-read, end-read}
+use Rattle.file_checks.specs.File.{lockCount, lockFieldsNumber, outputFieldsNumber, nodeFieldsNumber, nodeWords, singleWords, afterNodes, afterSingles}
+use Rattle.tagged_file.specs.Write.{nodeFieldAt, outputFieldAt, inOrder}
+use Rattle.tagged_file.proofs.ReadBack.{NodeRead, node-read, OutputRead, output-read}
 
--- o outputs in the table os, each naming an index below i
-module _ (os : List ℕ) (o i : ℕ) (small : i ≤ 1000000) (ok : (j : ℕ) → j < o → getD os j 0 / 2 < i) where
-  output-at : (v : ℕ) (rest : List ℕ) → v < o → OutputRead (outputFieldAt os v ++ rest) i (getD os v 0) rest
+joined : (f : ℕ → List ℕ) (rest : List ℕ) (n v : ℕ) → inOrder f v (suc n) ++ rest ≡ f v ++ (inOrder f (v + 1) n ++ rest)
+joined f rest n v = append-assoc (f v) (inOrder f (v + 1) n) rest
+
+-- o outputs in the table os, each naming an index below top
+module _ (os : List ℕ) (o top : ℕ) (small : top ≤ 1000000) (ok : (j : ℕ) → j < o → getD os j 0 / 2 < top) (rest : List ℕ) where
+  output-at : (n v : ℕ) → v < o → OutputRead (outputFieldAt os v ++ (inOrder (outputFieldAt os) (v + 1) n ++ rest)) top (getD os v 0) (inOrder (outputFieldAt os) (v + 1) n ++ rest)
   unfolding outputFieldAt
-  output-at v rest h = let b = ok v h in output-read (getD os v 0) rest i b (omega arith)
+  output-at n v h = let b = ok v h in output-read (getD os v 0) (inOrder (outputFieldAt os) (v + 1) n ++ rest) top b (omega arith)
 
-  pub outputs-number : (n v : ℕ) → v + n ≤ o → outputFieldsNumber n (inOrder (outputFieldAt os) v n ++ endField) i ≡ 0
-  outputs-number zero v h = end-read
-  outputs-number (suc n) v h =
-      let rest : List ℕ = inOrder (outputFieldAt os) (v + 1) n ++ endField in
-      let r = output-at v rest (omega arith) in
-      rw (append-assoc (outputFieldAt os v) (inOrder (outputFieldAt os) (v + 1) n) endField)
-      (sym (none _ _ (r .number) (sym (rw (r .after) (outputs-number n (v + 1) (omega arith))))))
+  pub outputs-number : (low : ℕ) → lockFieldsNumber (lockCount rest) rest low top ≡ 0 → (n v : ℕ) → v + n ≤ o
+      → outputFieldsNumber n (inOrder (outputFieldAt os) v n ++ rest) low top ≡ 0
+  outputs-number low e zero v h = e
+  outputs-number low e (suc n) v h =
+      let r = output-at n v (omega arith) in
+      rw (joined (outputFieldAt os) rest n v) (sym (none _ _ (r .number) (sym (rw (r .after) (outputs-number low e n (v + 1) (omega arith))))))
 
-  pub outputs-words : (n v : ℕ) → v + n ≤ o → (k : ℕ) → k < n → getD (outputWords n (inOrder (outputFieldAt os) v n ++ endField)) k 0 ≡ getD os (v + k) 0
+  pub outputs-after : (n v : ℕ) → v + n ≤ o → afterSingles n (inOrder (outputFieldAt os) v n ++ rest) ≡ rest
+  outputs-after zero v h = refl
+  outputs-after (suc n) v h = rw (joined (outputFieldAt os) rest n v, output-at n v (omega arith) .after) (outputs-after n (v + 1) (omega arith))
+
+  pub outputs-words : (n v : ℕ) → v + n ≤ o → (k : ℕ) → k < n → getD (singleWords n (inOrder (outputFieldAt os) v n ++ rest)) k 0 ≡ getD os (v + k) 0
   outputs-words zero v h k l = absurd (not-suc-le-zero l)
-  outputs-words (suc n) v h zero l =
-      let r = output-at v (inOrder (outputFieldAt os) (v + 1) n ++ endField) (omega arith) in
-      rw (append-assoc (outputFieldAt os v) (inOrder (outputFieldAt os) (v + 1) n) endField) (r .one ∙ ap (λ (j : ℕ). getD os j 0) (omega arith))
+  outputs-words (suc n) v h zero l = rw (joined (outputFieldAt os) rest n v) (output-at n v (omega arith) .one ∙ ap (λ (j : ℕ). getD os j 0) (omega arith))
   outputs-words (suc n) v h (suc k) l =
-      let r = output-at v (inOrder (outputFieldAt os) (v + 1) n ++ endField) (omega arith) in
-      rw (append-assoc (outputFieldAt os v) (inOrder (outputFieldAt os) (v + 1) n) endField, r .after)
+      rw (joined (outputFieldAt os) rest n v, output-at n v (omega arith) .after)
       (outputs-words n (v + 1) (omega arith) k (le-of-suc-le-suc l) ∙ ap (λ (j : ℕ). getD os j 0) (omega arith))
 
 -- what the three words of node v, whose index is i, may be
@@ -43,44 +46,32 @@ pub record Allowed (ns : List ℕ) (i v : ℕ) : Type 0 where
   pub last : getD ns (3 * v + 2) 0 ≢ mark → getD ns (3 * v + 2) 0 / 2 < i
 
 -- m nodes in the table ns, of which the first has index i
-module _ (ns : List ℕ) (m i : ℕ) (small : i + m ≤ 1000000) (ok : (j : ℕ) → j < m → Allowed ns (i + j) j) where
-  node-at : (v : ℕ) (rest : List ℕ) → v < m
-      → NodeRead (nodeFieldAt ns v ++ rest) (i + v) (getD ns (3 * v) 0) (getD ns (3 * v + 1) 0) (getD ns (3 * v + 2) 0) rest
+module _ (ns : List ℕ) (m i : ℕ) (small : i + m ≤ 1000000) (ok : (j : ℕ) → j < m → Allowed ns (i + j) j) (rest : List ℕ) where
+  node-at : (n v : ℕ) → v < m
+      → NodeRead (nodeFieldAt ns v ++ (inOrder (nodeFieldAt ns) (v + 1) n ++ rest)) (i + v) (getD ns (3 * v) 0) (getD ns (3 * v + 1) 0) (getD ns (3 * v + 2) 0)
+      (inOrder (nodeFieldAt ns) (v + 1) n ++ rest)
   unfolding nodeFieldAt
-  node-at v rest h =
+  node-at n v h =
       let a = ok v h in
-      node-read (i + v) (getD ns (3 * v) 0) (getD ns (3 * v + 1) 0) (getD ns (3 * v + 2) 0) rest
+      node-read (i + v) (getD ns (3 * v) 0) (getD ns (3 * v + 1) 0) (getD ns (3 * v + 2) 0) (inOrder (nodeFieldAt ns) (v + 1) n ++ rest)
       (omega (arith, a .one)) (omega (arith, a .two)) (a .one) (a .two) (a .last) (omega arith)
 
-  module _ (rest : List ℕ) where
-    joined : (n v : ℕ) → inOrder (nodeFieldAt ns) v (suc n) ++ rest ≡ nodeFieldAt ns v ++ (inOrder (nodeFieldAt ns) (v + 1) n ++ rest)
-    joined n v = append-assoc (nodeFieldAt ns v) (inOrder (nodeFieldAt ns) (v + 1) n) rest
+  pub nodes-number : (o low n v : ℕ) → v + n ≡ m → outputFieldsNumber o rest low (i + m) ≡ 0 → nodeFieldsNumber n o (inOrder (nodeFieldAt ns) v n ++ rest) low (i + v) ≡ 0
+  nodes-number o low zero v h e = let q : i + v ≡ i + m = omega arith in rw q e
+  nodes-number o low (suc n) v h e =
+      let r = node-at n v (omega arith) in
+      let q : i + v + 1 ≡ i + (v + 1) = omega arith in
+      rw (joined (nodeFieldAt ns) rest n v) (sym (none _ _ (r .number) (sym (rw (r .after, q) (nodes-number o low n (v + 1) (omega arith) e)))))
 
-    pub nodes-number : (o n v : ℕ) → v + n ≡ m → outputFieldsNumber o rest (i + m) ≡ 0 → nodeFieldsNumber n o (inOrder (nodeFieldAt ns) v n ++ rest) (i + v) ≡ 0
-    nodes-number o zero v h e = let q : i + v ≡ i + m = omega arith in rw q e
-    nodes-number o (suc n) v h e =
-        let r = node-at v (inOrder (nodeFieldAt ns) (v + 1) n ++ rest) (omega arith) in
-        let q : i + v + 1 ≡ i + (v + 1) = omega arith in
-        rw (joined n v) (sym (none _ _ (r .number) (sym (rw (r .after, q) (nodes-number o n (v + 1) (omega arith) e)))))
+  pub nodes-after : (n v : ℕ) → v + n ≤ m → afterNodes n (inOrder (nodeFieldAt ns) v n ++ rest) ≡ rest
+  nodes-after zero v h = refl
+  nodes-after (suc n) v h = rw (joined (nodeFieldAt ns) rest n v, node-at n v (omega arith) .after) (nodes-after n (v + 1) (omega arith))
 
-    pub nodes-after : (n v : ℕ) → v + n ≤ m → afterNodes n (inOrder (nodeFieldAt ns) v n ++ rest) ≡ rest
-    nodes-after zero v h = refl
-    nodes-after (suc n) v h =
-        let r = node-at v (inOrder (nodeFieldAt ns) (v + 1) n ++ rest) (omega arith) in
-        rw (joined n v, r .after) (nodes-after n (v + 1) (omega arith))
-
-    pub nodes-words : (n v : ℕ) → v + n ≤ m → (k : ℕ) → k < 3 * n → getD (nodeWords n (inOrder (nodeFieldAt ns) v n ++ rest)) k 0 ≡ getD ns (3 * v + k) 0
-    nodes-words zero v h k l = absurd (omega arith)
-    nodes-words (suc n) v h zero l =
-        let r = node-at v (inOrder (nodeFieldAt ns) (v + 1) n ++ rest) (omega arith) in
-        rw (joined n v) (r .one ∙ ap (λ (j : ℕ). getD ns j 0) (omega arith))
-    nodes-words (suc n) v h (suc zero) l =
-        let r = node-at v (inOrder (nodeFieldAt ns) (v + 1) n ++ rest) (omega arith) in
-        rw (joined n v) (r .two)
-    nodes-words (suc n) v h (suc (suc zero)) l =
-        let r = node-at v (inOrder (nodeFieldAt ns) (v + 1) n ++ rest) (omega arith) in
-        rw (joined n v) (r .last)
-    nodes-words (suc n) v h (suc (suc (suc k))) l =
-        let r = node-at v (inOrder (nodeFieldAt ns) (v + 1) n ++ rest) (omega arith) in
-        rw (joined n v, r .after)
-        (nodes-words n (v + 1) (omega arith) k (omega arith) ∙ ap (λ (j : ℕ). getD ns j 0) (omega arith))
+  pub nodes-words : (n v : ℕ) → v + n ≤ m → (k : ℕ) → k < 3 * n → getD (nodeWords n (inOrder (nodeFieldAt ns) v n ++ rest)) k 0 ≡ getD ns (3 * v + k) 0
+  nodes-words zero v h k l = absurd (omega arith)
+  nodes-words (suc n) v h zero l = rw (joined (nodeFieldAt ns) rest n v) (node-at n v (omega arith) .one ∙ ap (λ (j : ℕ). getD ns j 0) (omega arith))
+  nodes-words (suc n) v h (suc zero) l = rw (joined (nodeFieldAt ns) rest n v) (node-at n v (omega arith) .two)
+  nodes-words (suc n) v h (suc (suc zero)) l = rw (joined (nodeFieldAt ns) rest n v) (node-at n v (omega arith) .last)
+  nodes-words (suc n) v h (suc (suc (suc k))) l =
+      rw (joined (nodeFieldAt ns) rest n v, node-at n v (omega arith) .after)
+      (nodes-words n (v + 1) (omega arith) k (omega arith) ∙ ap (λ (j : ℕ). getD ns j 0) (omega arith))

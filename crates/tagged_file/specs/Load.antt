@@ -1,12 +1,13 @@
--- What loading answers, and what it leaves in the tables.
-use Prim.Native.Nat.{ℕ, _*_}
+-- What loading answers, and what it leaves in the tables and the lock bytes.
+use Prim.Native.Nat.{ℕ, _+_, _*_}
 use mathlib.Core.List.{List, [], _∷_, _++_}
 use lib.ListN.{length, drop}
+use Rattle.graph.specs.Finite.{ifEqual, tab}
 use Rattle.graph.specs.Graph.{Graph, graphOf}
-use Rattle.graph.specs.Answer.{Answer, accepted, refused, numberOf, Outcome, outcome, guarded}
+use Rattle.graph.specs.Answer.{Answer, accepted, refused, numberOf, LockedOutcome, lockedOutcome, guardedLocks}
 use Rattle.tagged_file.specs.declared.Loaded.{Loaded}
 use Rattle.tagged_file.specs.declared.Loaded.the-variants as loaded
-use Rattle.file_checks.specs.File.{be4, fileNumber, nodeWords, outputWords, afterNodes}
+use Rattle.file_checks.specs.File.{be4, fileNumber, nodeWords, singleWords, afterNodes, locksFrom, lockIndices}
 
 abbrev pub loadedAnswer : Loaded → Answer
 loadedAnswer (loaded.Graph i n o) = accepted (i ∷ n ∷ o ∷ [])
@@ -26,10 +27,23 @@ unfoldable pub graphRead : List ℕ → List ℕ → List ℕ → Graph
 graphRead s ns os =
     graphOf (be4 s 3) (be4 s 7) (be4 s 11)
     (nodeWords (be4 s 7) (drop 15 s) ++ drop (3 * be4 s 7) ns)
-    (outputWords (be4 s 11) (afterNodes (be4 s 7) (drop 15 s)) ++ drop (be4 s 11) os)
+    (singleWords (be4 s 11) (afterNodes (be4 s 7) (drop 15 s)) ++ drop (be4 s 11) os)
 
--- loading the file s into the tables ns and os
-unfoldable pub loadCall : List ℕ → List ℕ → List ℕ → Outcome
-loadCall s ns os =
-    guarded (fileNumber s (length ns) (length os)) (blank ns os)
-    (outcome (accepted (be4 s 3 ∷ be4 s 7 ∷ be4 s 11 ∷ [])) (graphRead s ns os))
+-- 1 where u is one of these, else 0
+abbrev pub among : List ℕ → ℕ → ℕ
+among [] u = 0
+among (x ∷ l) u = let more = among l u in ifEqual x u 1 more
+
+-- its locks, in the lent bytes: a node's is 1 where a field names the node and else 0, later bytes are left
+unfoldable pub locksRead : List ℕ → List ℕ → List ℕ
+locksRead s ls = tab (be4 s 7) (λ v. among (lockIndices (locksFrom s)) (be4 s 3 + 1 + v)) ++ drop (be4 s 7) ls
+
+-- the locks of n nodes that are all free, in the lent bytes: later ones are left
+unfoldable pub freeLocks : ℕ → List ℕ → List ℕ
+freeLocks n ls = tab n (λ v. 0) ++ drop n ls
+
+-- loading the file s into the tables ns and os and the lock bytes ls
+unfoldable pub loadCall : List ℕ → List ℕ → List ℕ → List ℕ → LockedOutcome
+loadCall s ns os ls =
+    guardedLocks (fileNumber s (length ns) (length os) (length ls)) (blank ns os) ls
+    (lockedOutcome (accepted (be4 s 3 ∷ be4 s 7 ∷ be4 s 11 ∷ [])) (graphRead s ns os) (locksRead s ls))

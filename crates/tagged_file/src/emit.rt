@@ -1,13 +1,14 @@
 // Writing fields at a place of the buffer, from front to back.
 ghost use mathlib.Core.Path.{_≡_};
 ghost use mathlib.Core.List.{[], _∷_, _++_};
-ghost use Prim.Native.Nat.{_+_, _*_, _≤_};
+ghost use Prim.Native.Nat.{_+_, _*_, _≤_, _<_};
 ghost use lib.ListN.{length};
 ghost use lib.Seq.{sets};
 ghost use Rattle.graph.specs.Finite.{ifEqual};
 ghost use Rattle.graph.specs.Graph.{graphOf, mark};
+ghost use Rattle.graph.specs.Admission.{Admitted};
 ghost use Rattle.tagged_file.specs.Inner.{thirdBytes};
-ghost use Rattle.tagged_file.specs.Write.{big, fieldOf, nodeField, outputField, nodeFieldAt, outputFieldAt, inOrder, fileOf};
+ghost use Rattle.tagged_file.specs.Write.{big, fieldOf, nodeField, lockField, nodeFieldAt, outputFieldAt, lockFieldAt, inOrder, fileOf};
 use graph::literal::MARK;
 use graph::table::word_at;
 
@@ -42,11 +43,12 @@ pub fn put_three(buffer: &mut [u8], at: usize, tag: u8, x: u32, y: u32, z: u32)
     put_number(buffer, at + 11, z);
 }
 
-pub fn put_output(buffer: &mut [u8], at: usize, x: u32)
+// A field of one number.
+pub fn put_single(buffer: &mut [u8], at: usize, tag: u8, x: u32)
     requires { ⌜ at + 7 ≤ length (now buffer) ⌝ }
-    ensures { λ _. ⌜ now (buffer .exit) ≡ sets (now (buffer .entry)) at (outputField x) ⌝ }
+    ensures { λ _. ⌜ now (buffer .exit) ≡ sets (now (buffer .entry)) at (fieldOf tag (big 4 x)) ⌝ }
 {
-    put_head(buffer, at, 4, 4);
+    put_head(buffer, at, tag, 4);
     put_number(buffer, at + 3, x);
 }
 
@@ -128,8 +130,39 @@ pub fn put_outputs(buffer: &mut [u8], start: usize, outputs: u32, output_table: 
     let mut v = 0;
     let mut left = outputs;
     while 0 < left {
-        put_output(buffer, at, word_at(output_table, v));
+        put_single(buffer, at, 4, word_at(output_table, v));
         at += 7;
+        v += 1;
+        left -= 1;
+    }
+    at
+}
+
+// Returns the place after the lock: a free node takes no bytes.
+pub fn put_lock(buffer: &mut [u8], at: usize, lock: u8, index: u32) -> usize
+    requires { ⌜ at + length (lockField lock index) ≤ length (now buffer) ⌝ }
+    ensures { λ r. ⌜ r ≡ at + length (lockField lock index) ⌝ }
+    ensures { λ _. ⌜ now (buffer .exit) ≡ sets (now (buffer .entry)) at (lockField lock index) ⌝ }
+{
+    if lock != 1 {
+        return at;
+    }
+    put_single(buffer, at, 6, index);
+    at + 7
+}
+
+// The locks of the nodes, of which the first has this index.
+pub fn put_locks(buffer: &mut [u8], start: usize, index: u32, nodes: u32, locks: &[u8]) -> usize
+    requires { ⌜ (nodes ≤ length (now locks)) × (index + nodes < 4294967296) ⌝ }
+    requires { ⌜ start + length (inOrder (lockFieldAt index (now locks)) 0 nodes) ≤ length (now buffer) ⌝ }
+    ensures { λ r. ⌜ r ≡ start + length (inOrder (lockFieldAt index (now (locks .entry))) 0 nodes) ⌝ }
+    ensures { λ _. ⌜ now (buffer .exit) ≡ sets (now (buffer .entry)) start (inOrder (lockFieldAt index (now (locks .entry))) 0 nodes) ⌝ }
+{
+    let mut at = start;
+    let mut v: u32 = 0;
+    let mut left = nodes;
+    while 0 < left {
+        at = put_lock(buffer, at, locks[v as usize], index + v);
         v += 1;
         left -= 1;
     }
@@ -143,17 +176,18 @@ pub fn put_file(
     outputs: u32,
     node_table: &[u32],
     output_table: &[u32],
+    locks: &[u8],
     buffer: &mut [u8],
 ) -> usize
-    requires { ⌜ 3 * nodes ≤ length (now «node_table») ⌝ }
-    requires { ⌜ outputs ≤ length (now «output_table») ⌝ }
-    requires { ⌜ length (fileOf (graphOf inputs nodes outputs (now «node_table») (now «output_table»))) ≤ length (now buffer) ⌝ }
-    ensures { λ r. ⌜ r ≡ length (fileOf (graphOf inputs nodes outputs (now («node_table» .entry)) (now («output_table» .entry)))) ⌝ }
-    ensures { λ _. ⌜ now (buffer .exit) ≡ sets (now (buffer .entry)) 0 (fileOf (graphOf inputs nodes outputs (now («node_table» .entry)) (now («output_table» .entry)))) ⌝ }
+    requires { ⌜ Admitted (graphOf inputs nodes outputs (now «node_table») (now «output_table»)) × (nodes ≤ length (now locks)) ⌝ }
+    requires { ⌜ length (fileOf (graphOf inputs nodes outputs (now «node_table») (now «output_table»)) (now locks)) ≤ length (now buffer) ⌝ }
+    ensures { λ r. ⌜ r ≡ length (fileOf (graphOf inputs nodes outputs (now («node_table» .entry)) (now («output_table» .entry))) (now (locks .entry))) ⌝ }
+    ensures { λ _. ⌜ now (buffer .exit) ≡ sets (now (buffer .entry)) 0 (fileOf (graphOf inputs nodes outputs (now («node_table» .entry)) (now («output_table» .entry))) (now (locks .entry))) ⌝ }
 {
     put_three(buffer, 0, 1, inputs, nodes, outputs);
-    let middle = put_nodes(buffer, 15, nodes, node_table);
-    let end = put_outputs(buffer, middle, outputs, output_table);
+    let second = put_nodes(buffer, 15, nodes, node_table);
+    let third = put_outputs(buffer, second, outputs, output_table);
+    let end = put_locks(buffer, third, inputs + 1, nodes, locks);
     put_head(buffer, end, 5, 0);
     end + 3
 }

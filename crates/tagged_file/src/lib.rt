@@ -1,7 +1,7 @@
 // The tagged file: one field of it, loading a graph from it, writing a graph as one.
 ghost use mathlib.Core.Path.{_≡_};
 ghost use Rattle.graph.specs.Graph.{graphOf};
-ghost use Rattle.graph.specs.Answer.{outcome};
+ghost use Rattle.graph.specs.Answer.{lockedOutcome};
 ghost use Rattle.file_checks.specs.File.{fieldNumber, fieldPayload};
 ghost use Rattle.tagged_file.specs.Load.{loadedAnswer, loadedGraph, loadCall};
 ghost use Rattle.tagged_file.specs.Write.{writtenAnswer, writeOutcome, writeCall};
@@ -9,6 +9,7 @@ ghost use Rattle.tagged_file.specs.Write.{writtenAnswer, writeOutcome, w
 mod emit;
 mod faults;
 mod fill;
+pub mod locks;
 
 use file_checks::bytes;
 use file_checks::fields;
@@ -33,33 +34,45 @@ pub enum Written {
 pub fn field_number(bytes: &[u8]) -> u32
     ensures { λ r. ⌜ r ≡ fieldNumber (now (bytes .entry)) ⌝ }
 {
-    fields::due(bytes, 1, 5)
+    fields::due(bytes, 1, 6)
 }
 
 // The payload of the field at the front, empty where it is refused.
 pub fn field(bytes: &[u8]) -> &[u8]
     ensures { λ r. ⌜ now r ≡ fieldPayload (now (bytes .entry)) ⌝ }
 {
-    if fields::due(bytes, 1, 5) != 0 {
+    if fields::due(bytes, 1, 6) != 0 {
         return &bytes[..0];
     }
     let n = bytes::two(bytes, 1) as usize;
     &bytes[3..3 + n]
 }
 
-// The first pass checks the whole file, the second fills the tables: a refusal has changed nothing.
-pub fn load(file: &[u8], node_table: &mut [u32], output_table: &mut [u32]) -> Loaded
-    ensures { λ r. ⌜ outcome (loadedAnswer r) (loadedGraph r (now («node_table» .exit)) (now («output_table» .exit))) ≡ loadCall (now (file .entry)) (now («node_table» .entry)) (now («output_table» .entry)) ⌝ }
+// The first pass checks the whole file, the second fills the tables and the lock bytes: a refusal has changed nothing.
+pub fn load(
+    file: &[u8],
+    node_table: &mut [u32],
+    output_table: &mut [u32],
+    locks: &mut [u8],
+) -> Loaded
+    ensures { λ r. ⌜ lockedOutcome (loadedAnswer r) (loadedGraph r (now («node_table» .exit)) (now («output_table» .exit))) (now (locks .exit)) ≡ loadCall (now (file .entry)) (now («node_table» .entry)) (now («output_table» .entry)) (now (locks .entry)) ⌝ }
 {
-    let refusal = file_checks::faults::file_number(file, node_table.len(), output_table.len());
+    let refusal = file_checks::faults::file_number(
+        file,
+        node_table.len(),
+        output_table.len(),
+        locks.len(),
+    );
     if refusal != 0 {
         return Loaded::Refused(graph::faults::refused_by(refusal));
     }
     let inputs = bytes::four(file, 3);
     let nodes = bytes::four(file, 7);
     let outputs = bytes::four(file, 11);
-    let rest = fill::fill_nodes(&file[15..], nodes, node_table);
-    fill::fill_outputs(rest, outputs, output_table);
+    let after = fill::fill_nodes(&file[15..], nodes, node_table);
+    let rest = fill::fill_outputs(after, outputs, output_table);
+    locks::free(locks, nodes);
+    fill::fill_locks(rest, inputs + 1, locks);
     Loaded::Graph {
         inputs,
         nodes,
@@ -74,9 +87,10 @@ pub fn write(
     outputs: u32,
     node_table: &[u32],
     output_table: &[u32],
+    locks: &[u8],
     buffer: &mut [u8],
 ) -> Written
-    ensures { λ r. ⌜ writeOutcome (writtenAnswer r) (now (buffer .exit)) ≡ writeCall (graphOf inputs nodes outputs (now («node_table» .entry)) (now («output_table» .entry))) (now (buffer .entry)) ⌝ }
+    ensures { λ r. ⌜ writeOutcome (writtenAnswer r) (now (buffer .exit)) ≡ writeCall (graphOf inputs nodes outputs (now («node_table» .entry)) (now («output_table» .entry))) (now (locks .entry)) (now (buffer .entry)) ⌝ }
 {
     let number = faults::write_number(
         inputs,
@@ -84,10 +98,19 @@ pub fn write(
         outputs,
         node_table,
         output_table,
+        locks,
         buffer.len(),
     );
     if number != 0 {
         return Written::Refused(graph::faults::refused_by(number));
     }
-    Written::Bytes(emit::put_file(inputs, nodes, outputs, node_table, output_table, buffer))
+    Written::Bytes(emit::put_file(
+        inputs,
+        nodes,
+        outputs,
+        node_table,
+        output_table,
+        locks,
+        buffer,
+    ))
 }

@@ -24,15 +24,15 @@ root-node g r v i e =
     (omega (arith, e, i .after-inputs, i .within), rw q (i .root))
 
 -- g filled, stepped to g′ and written out as h
-pub rewrite-is : (g g′ h : Graph) (sc sc′ : List ℕ) (r v b : ℕ) (s : Step) (x : Answer) → IsRoot g r → v ≡ r - (g .I + 1) → stands g sc ≡ g
-    → TreeMade sc g′ sc′ (treeMoved (stands g sc) (node g v)) (s .count) × Parted (rewrite (stands g sc) (tree (stands g sc) (node g v))) s → h ≡ stands g′ sc′
-    → b ≡ C g → x ≡ savedBy b (s .count) (s .before) (s .after) → outcome x h ≡ rewrite g (tree g r)
-rewrite-is g g′ h sc sc′ r v b s x i e z m w p q =
+pub rewrite-is : (g g′ h : Graph) (ls sc sc′ : List ℕ) (r v b : ℕ) (s : Step) (x : Answer) → IsRoot g r → v ≡ r - (g .I + 1) → stands g sc ≡ g
+    → TreeMade sc g′ sc′ (treeMoved (stands g sc) ls (node g v)) (s .count) × Parted (rewrite (stands g sc) ls (tree (stands g sc) (node g v))) s → h ≡ stands g′ sc′
+    → b ≡ C g → x ≡ savedBy b (s .count) (s .before) (s .after) → outcome x h ≡ rewrite g ls (tree g r)
+rewrite-is g g′ h ls sc sc′ r v b s x i e z m w p q =
     let n : node g v ≡ r = omega (arith, e, i .after-inputs) in
-    let k : treeMoved (stands g sc) (node g v) ≡ treeMoved g r = ap (λ y. treeMoved y (node g v)) z ∙ ap (treeMoved g) n in
-    let t : h ≡ treeMoved g r = w ∙ m .0 .stands-for ∙ k in
-    let c : s .count ≡ C (treeMoved g r) = m .0 .count ∙ ap C k in
-    let d : othersOf (rewrite g (tree g r) .answer) ≡ difference (s .before) (s .after) =
-    ap (λ (u : ℕ). othersOf (rewrite g (tree g u) .answer)) (sym n) ∙ ap (λ (y : Graph). othersOf (rewrite y (tree y (node g v)) .answer)) (sym z) ∙ m .1 .others in
+    let k : treeMoved (stands g sc) ls (node g v) ≡ treeMoved g ls r = ap (λ y. treeMoved y ls (node g v)) z ∙ ap (treeMoved g ls) n in
+    let t : h ≡ treeMoved g ls r = w ∙ m .0 .stands-for ∙ k in
+    let c : s .count ≡ C (treeMoved g ls r) = m .0 .count ∙ ap C k in
+    let d : othersOf (rewrite g ls (tree g r) .answer) ≡ difference (s .before) (s .after) =
+    ap (λ (u : ℕ). othersOf (rewrite g ls (tree g u) .answer)) (sym n) ∙ ap (λ (y : Graph). othersOf (rewrite y ls (tree y (node g v)) .answer)) (sym z) ∙ m .1 .others in
     ap (λ (y : Answer). outcome y h) q ∙
-    saved-outcome g (tree g r) h b (s .count) (s .before) (s .after) t (omega (arith, p, c, ap C t)) (rw t (sym (rewrite-others g (tree g r)) ∙ d))
+    saved-outcome g ls (tree g r) h b (s .count) (s .before) (s .after) t (omega (arith, p, c, ap C t)) (rw t (sym (rewrite-others g ls (tree g r)) ∙ d))

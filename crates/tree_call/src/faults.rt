@@ -1,4 +1,4 @@
-// Which of document 01's numbers 3, 4, 5, 7 and 8 refuses a tree call; 0 is none.
+// Which of the numbers 3, 4, 5, 13, 7 and 8 refuses a tree call; 0 is none.
 ghost use mathlib.Core.Path.{_≡_};
 ghost use mathlib.Core.List.{List};
 ghost use Prim.Native.Nat.{ℕ, _+_, _*_, _≤_, _<_};
@@ -48,12 +48,13 @@ pub fn tree_number(
     outputs: u32,
     node_table: &[u32],
     output_table: &[u32],
+    locks: &[u8],
     root: u32,
     length: usize,
 ) -> u32
-    ensures { λ r. ⌜ r ≡ treeNumber (graphOf inputs nodes outputs (now («node_table» .entry)) (now («output_table» .entry))) length root ⌝ }
+    ensures { λ r. ⌜ r ≡ treeNumber (graphOf inputs nodes outputs (now («node_table» .entry)) (now («output_table» .entry))) (now (locks .entry)) length root ⌝ }
 {
-    let admission = admission_number(inputs, nodes, outputs, node_table, output_table);
+    let admission = admission_number(inputs, nodes, outputs, node_table, output_table, locks);
     if admission != 0 {
         return admission;
     }

@@ -10,17 +10,19 @@ mod rewrite;
 use graph::faults::refused_by;
 use moves::Saving;
 
-// The tree call: of all choices of moves for the tree of a root the first with the least C, by falling index.
+// The tree call: of all choices of moves for the tree of a root that leave locked nodes alone the first with the least C, by falling
+// index.
 pub fn tree_call(
     inputs: u32,
     nodes: u32,
     outputs: u32,
     node_table: &mut [u32],
     output_table: &mut [u32],
+    locks: &[u8],
     root: u32,
     scratch: &mut [u32],
 ) -> Saving
-    ensures outcome { λ r. ⌜ outcome (savingAnswer r) (graphOf inputs nodes outputs (now («node_table» .exit)) (now («output_table» .exit))) ≡ treeCall (graphOf inputs nodes outputs (now («node_table» .entry)) (now («output_table» .entry))) (length (now (scratch .entry))) root ⌝ }
+    ensures outcome { λ r. ⌜ outcome (savingAnswer r) (graphOf inputs nodes outputs (now («node_table» .exit)) (now («output_table» .exit))) ≡ treeCall (graphOf inputs nodes outputs (now («node_table» .entry)) (now («output_table» .entry))) (now (locks .entry)) (length (now (scratch .entry))) root ⌝ }
     ensures scratch { λ r. ⌜ ScratchKept (savingAnswer r) (now (scratch .entry)) (now (scratch .exit)) ⌝ }
 {
     let number = faults::tree_number(
@@ -29,6 +31,7 @@ pub fn tree_call(
         outputs,
         node_table,
         output_table,
+        locks,
         root,
         scratch.len(),
     );
@@ -41,6 +44,7 @@ pub fn tree_call(
         outputs,
         node_table,
         output_table,
+        locks,
         root,
         scratch,
     )

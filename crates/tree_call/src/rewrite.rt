@@ -23,11 +23,12 @@ pub fn rewrite_tree(
     outputs: u32,
     node_table: &mut [u32],
     output_table: &mut [u32],
+    locks: &[u8],
     root: u32,
     scratch: &mut [u32],
 ) -> Saving
-    requires { ⌜ Admitted (graphOf inputs nodes outputs (now «node_table») (now «output_table»)) × IsRoot (graphOf inputs nodes outputs (now «node_table») (now «output_table»)) root × (8 * nodes ≤ length (now scratch)) ⌝ }
-    ensures { λ r. ⌜ outcome (savingAnswer r) (graphOf inputs nodes outputs (now («node_table» .exit)) (now («output_table» .exit))) ≡ rewrite (graphOf inputs nodes outputs (now («node_table» .entry)) (now («output_table» .entry))) (tree (graphOf inputs nodes outputs (now («node_table» .entry)) (now («output_table» .entry))) root) ⌝ }
+    requires { ⌜ Admitted (graphOf inputs nodes outputs (now «node_table») (now «output_table»)) × IsRoot (graphOf inputs nodes outputs (now «node_table») (now «output_table»)) root × (8 * nodes ≤ length (now scratch)) × (nodes ≤ length (now locks)) ⌝ }
+    ensures { λ r. ⌜ outcome (savingAnswer r) (graphOf inputs nodes outputs (now («node_table» .exit)) (now («output_table» .exit))) ≡ rewrite (graphOf inputs nodes outputs (now («node_table» .entry)) (now («output_table» .entry))) (now (locks .entry)) (tree (graphOf inputs nodes outputs (now («node_table» .entry)) (now («output_table» .entry))) root) ⌝ }
 {
     let before = complemented(inputs, nodes, outputs, node_table, output_table);
     fill_scratch(inputs, nodes, outputs, node_table, output_table, scratch);
@@ -38,6 +39,7 @@ pub fn rewrite_tree(
         outputs,
         node_table,
         output_table,
+        locks,
         v,
         before,
         scratch,

@@ -19,6 +19,7 @@ use Rattle.moves.specs.Tree.{isRoot, place, rootOf}
 use Rattle.moves.specs.Cost.{inner, wordCosts, moveCost, rootCost, shown, shows, baseCost}
 use Rattle.moves.specs.Decide.{costWith}
 use Rattle.moves.proofs.Local.{with-named}
+use Rattle.moves.proofs.Moves.{moves-no-more}
 use Rattle.moves.proofs.NodeCosts.{move-is, root-is}
 use Rattle.moves.proofs.Readers.{rootOf-root, rootOf-above, rootOf-inner, not-root}
 use Rattle.moves.proofs.TreeBest.{reader-node, tree-best}
@@ -55,18 +56,18 @@ unfolding costAt
 same-cost h sc₁ sc w s e = let q : node h w - (h .I + 1) ≡ w = omega arith in rw (q, e)
 
 -- the tree's nodes from n on are decided, those below have their costs
-pub record MovesFrom (h : Graph) (sc₁ : List ℕ) (r n : ℕ) (sc : List ℕ) : Type 0 where
+pub record MovesFrom (h : Graph) (ls sc₁ : List ℕ) (r n : ℕ) (sc : List ℕ) : Type 0 where
   pub only : CostsOnly sc₁ sc
   pub below : (v : ℕ) → v < n → field sc v 4 ≡ field sc₁ v 4
-  pub top : n ≤ r → FirstBelow (rootCost h (inner h) (treeCost h) r) (movesAt h (node h r)) (movesIn (h .I) sc (node h r))
+  pub top : n ≤ r → FirstBelow (rootCost h (inner h) (treeCost h ls) r) (movesAt h ls (node h r)) (movesIn (h .I) sc (node h r))
   pub rest : (v : ℕ) → n ≤ v → v < h .N → rootOf h (node h v) ≡ node h r → v ≢ r
-      → FirstBelow (moveCost h (inner h) (treeCost h) v (shows h (movesIn (h .I) sc) (node h v))) (movesAt h (node h v)) (movesIn (h .I) sc (node h v))
+      → FirstBelow (moveCost h (inner h) (treeCost h ls) v (shows h (movesIn (h .I) sc) (node h v))) (movesAt h ls (node h v)) (movesIn (h .I) sc (node h v))
 
-module _ (h : Graph) (sc₁ : List ℕ) (rd : Ready h sc₁) (r : ℕ) (rn : r < h .N) (rt : isRoot h (node h r) ≡ true) where
+module _ (h : Graph) (ls sc₁ : List ℕ) (rd : Ready h sc₁) (r : ℕ) (rn : r < h .N) (rt : isRoot h (node h r) ≡ true) where
   adm : Admitted h
   adm = rd .admitted
 
-  pub moves-begin : MovesFrom h sc₁ r (suc r) sc₁
+  pub moves-begin : MovesFrom h ls sc₁ r (suc r) sc₁
   moves-begin =
       record {
         only = record { same = refl; kept = λ j d. refl };
@@ -76,7 +77,7 @@ module _ (h : Graph) (sc₁ : List ℕ) (rd : Ready h sc₁) (r : ℕ) (rn : r <
       }
 
   -- fewer nodes than n, none of the tree between
-  pub moves-down : (n n′ : ℕ) (sc : List ℕ) → n′ ≤ n → ((x : ℕ) → n′ ≤ x → x < n → rootOf h (node h x) ≢ node h r) → MovesFrom h sc₁ r n sc → MovesFrom h sc₁ r n′ sc
+  pub moves-down : (n n′ : ℕ) (sc : List ℕ) → n′ ≤ n → ((x : ℕ) → n′ ≤ x → x < n → rootOf h (node h x) ≢ node h r) → MovesFrom h ls sc₁ r n sc → MovesFrom h ls sc₁ r n′ sc
   moves-down n n′ sc l free mf =
       record {
         only = mf .only;
@@ -86,7 +87,7 @@ module _ (h : Graph) (sc₁ : List ℕ) (rd : Ready h sc₁) (r : ℕ) (rn : r <
       }
 
   -- a decided node has one of its moves
-  pub moves-fit : (n : ℕ) (sc : List ℕ) → MovesFrom h sc₁ r n sc → (v : ℕ) → n ≤ v → v < h .N → rootOf h (node h v) ≡ node h r → field sc v 4 < movesAt h (node h v)
+  pub moves-fit : (n : ℕ) (sc : List ℕ) → MovesFrom h ls sc₁ r n sc → (v : ℕ) → n ≤ v → v < h .N → rootOf h (node h v) ≡ node h r → field sc v 4 < movesAt h ls (node h v)
   moves-fit n sc mf v k l t =
       ⊎-elim
       (λ (e : v ≡ r). rw (← moves-at h sc v, e) (mf .top (omega arith) .below))
@@ -94,12 +95,12 @@ module _ (h : Graph) (sc₁ : List ℕ) (rd : Ready h sc₁) (r : ℕ) (rn : r <
       (eq-or-ne v r)
 
   -- all decided
-  pub moves-all : (sc : List ℕ) → MovesFrom h sc₁ r 0 sc → TreeDecided h (node h r) sc
+  pub moves-all : (sc : List ℕ) → MovesFrom h ls sc₁ r 0 sc → TreeDecided h ls (node h r) sc
   moves-all sc mf =
       record {
         permitted = λ v l t. moves-fit 0 sc mf v (omega arith) l t;
         best =
-            tree-best h (node h r) (treeCost h) (baseCost h (inner h) (treeCost h)) (movesIn (h .I) sc) adm (record { after-inputs = omega arith; within = omega arith; root = rt }) (costs-hold h adm)
+            tree-best h ls (node h r) (treeCost h ls) (baseCost h ls (inner h) (treeCost h ls)) (movesIn (h .I) sc) adm (record { after-inputs = omega arith; within = omega arith; root = rt }) (costs-hold h ls adm)
             (record {
               top = λ v e. let q : v ≡ r = omega arith in rw q (mf .top (omega arith));
               rest = λ v l t z. mf .rest v (omega arith) l t (λ q. z (rw q));
@@ -107,8 +108,8 @@ module _ (h : Graph) (sc₁ : List ℕ) (rd : Ready h sc₁) (r : ℕ) (rn : r <
       }
 
   -- node v of the tree, all above it decided
-  module _ (g : Graph) (o : Ordered g sc₁) (eh : stands g sc₁ ≡ h) (cd : CostedBelow h sc₁ (node h r) r) (v : ℕ) (vr : v ≤ r) (here : rootOf h (node h v) ≡ node h r) (sc : List ℕ)
-      (mf : MovesFrom h sc₁ r (suc v) sc) where
+  module _ (g : Graph) (o : Ordered g sc₁) (eh : stands g sc₁ ≡ h) (cd : CostedBelow h ls sc₁ (node h r) r) (v : ℕ) (vr : v ≤ r) (here : rootOf h (node h v) ≡ node h r) (sc : List ℕ)
+      (mf : MovesFrom h ls sc₁ r (suc v) sc) where
     below : v < h .N
     below = omega arith
 
@@ -124,8 +125,8 @@ module _ (h : Graph) (sc₁ : List ℕ) (rd : Ready h sc₁) (r : ℕ) (rn : r <
     same-kind : (w : ℕ) → isXor g w ≡ isXor h w
     same-kind w = sym (alike-xor g (stands g sc₁) (stands-alike g sc₁ (o .admitted)) w) ∙ ap (λ z. isXor z w) eh
 
-    same-moves : (w : ℕ) → movesAt g (node g w) ≡ movesAt h (node h w)
-    same-moves w = sym (alike-movesAt g (stands g sc₁) (stands-alike g sc₁ (o .admitted)) w) ∙ ap (λ z. movesAt z (node z w)) eh
+    same-moves : (w : ℕ) → movesAt g ls (node g w) ≡ movesAt h ls (node h w)
+    same-moves w = sym (alike-movesAt g (stands g sc₁) (stands-alike g sc₁ (o .admitted)) ls w) ∙ ap (λ z. movesAt z ls (node z w)) eh
 
     stands-now : stands g sc ≡ h
     stands-now = stands-costs g sc₁ sc (mf .only) ∙ eh
@@ -142,7 +143,8 @@ module _ (h : Graph) (sc₁ : List ℕ) (rd : Ready h sc₁) (r : ℕ) (rn : r <
     pub reader-decided : ReaderDecided g sc v
     reader-decided d =
         let a = above (other-if h adm sc (ready .placed) v below d) in
-        rw (a .0, same-moves (place h (node h v) / 3)) (moves-fit (suc v) sc mf (place h (node h v) / 3) (a .1) (a .2) (a .3))
+        let w : ℕ = place h (node h v) / 3 in
+        rw (a .0) (omega (arith, same-moves w, moves-fit (suc v) sc mf w (a .1) (a .2) (a .3), moves-no-more g ls (node g w)))
 
     odd-root : v ≡ r → oddAt g sc v ≡ shown h (node h v) 0
     unfolding oddAt
@@ -160,9 +162,9 @@ module _ (h : Graph) (sc₁ : List ℕ) (rd : Ready h sc₁) (r : ℕ) (rn : r <
         sym (unequal (field sc v 3) mark (field sc v 1) (showsAt g sc (field sc v 3)) (placed-low h adm sc (ready .placed) v below s)
         (rw (a .0, stands-now, same-kind (p / 3), moves-at h sc (p / 3))))
 
-    numbers : (a b : ℕ) → costWith (isXor h v) (wordCosts h (innerAt (h .I) sc) (costAt (h .I) sc) v) a b ≡ costWith (isXor h v) (wordCosts h (inner h) (treeCost h) v) a b
+    numbers : (a b : ℕ) → costWith (isXor h v) (wordCosts h (innerAt (h .I) sc) (costAt (h .I) sc) v) a b ≡ costWith (isXor h v) (wordCosts h (inner h) (treeCost h ls) v) a b
     numbers =
-        with-named h h (innerAt (h .I) sc) (inner h) (costAt (h .I) sc) (treeCost h) v refl refl (λ i l. refl) (λ i l. refl)
+        with-named ls h h (innerAt (h .I) sc) (inner h) (costAt (h .I) sc) (treeCost h ls) v refl refl (λ i l. refl) (λ i l. refl)
         (λ i l e. inner-same h sc ready _ (omega (arith, named-below h adm v i below l e)))
         (λ i s l e n m.
         let a = named-in h adm v i below l e n in
@@ -175,24 +177,24 @@ module _ (h : Graph) (sc₁ : List ℕ) (rd : Ready h sc₁) (r : ℕ) (rn : r <
         cost-kept : (w s : ℕ) → w < v → costAt (h .I) sc (node h w) s ≡ costAt (h .I) sc₁ (node h w) s
         cost-kept w s l = same-cost h sc₁ sc w s (mf .below w (omega arith))
 
-    module _ (m i : ℕ) (x : Bool) (n : ℕ) (ei : i ≡ g .I) (ex : x ≡ isXor g v) (en : n ≡ movesAt g (node g v))
+    module _ (m i : ℕ) (x : Bool) (n : ℕ) (ei : i ≡ g .I) (ex : x ≡ isXor g v) (en : n ≡ movesAt g ls (node g v))
         (fb : FirstBelow (costWith x (wordCosts (stands g sc) (innerAt i sc) (costAt i sc) v) (field sc v 0) (oddAt g sc v)) n m) where
-      found : FirstBelow (costWith (isXor h v) (wordCosts h (inner h) (treeCost h) v) (field sc v 0) (oddAt g sc v)) (movesAt h (node h v)) m
+      found : FirstBelow (costWith (isXor h v) (wordCosts h (inner h) (treeCost h ls) v) (field sc v 0) (oddAt g sc v)) (movesAt h ls (node h v)) m
       found =
           first-as (numbers (field sc v 0) (oddAt g sc v))
-          (first-at sc v (field sc v 0) (oddAt g sc v) m x (isXor h v) n (movesAt h (node h v)) (stands g sc) h i (h .I) (ex ∙ same-kind v) (en ∙ same-moves v) stands-now (ei ∙ same-I) fb)
+          (first-at sc v (field sc v 0) (oddAt g sc v) m x (isXor h v) n (movesAt h ls (node h v)) (stands g sc) h i (h .I) (ex ∙ same-kind v) (en ∙ same-moves v) stands-now (ei ∙ same-I) fb)
 
-      found-other : v ≢ r → FirstBelow (moveCost h (inner h) (treeCost h) v (shows h (movesIn (h .I) sc) (node h v))) (movesAt h (node h v)) m
+      found-other : v ≢ r → FirstBelow (moveCost h (inner h) (treeCost h ls) v (shows h (movesIn (h .I) sc) (node h v))) (movesAt h ls (node h v)) m
       found-other z =
-          first-as (ap (λ a. costWith (isXor h v) (wordCosts h (inner h) (treeCost h) v) a (oddAt g sc v)) (ready .reads v below ∙ one-reader h (node h v) (no-root z)) ∙
-          ap (costWith (isXor h v) (wordCosts h (inner h) (treeCost h) v) 1) (odd-other z) ∙
-          move-is h (inner h) (treeCost h) v (shows h (movesIn (h .I) sc) (node h v)) (omega (arith, shows-bit h (movesIn (h .I) sc) (node h v))))
+          first-as (ap (λ a. costWith (isXor h v) (wordCosts h (inner h) (treeCost h ls) v) a (oddAt g sc v)) (ready .reads v below ∙ one-reader h (node h v) (no-root z)) ∙
+          ap (costWith (isXor h v) (wordCosts h (inner h) (treeCost h ls) v) 1) (odd-other z) ∙
+          move-is h (inner h) (treeCost h ls) v (shows h (movesIn (h .I) sc) (node h v)) (omega (arith, shows-bit h (movesIn (h .I) sc) (node h v))))
           found
 
-      found-root : v ≡ r → FirstBelow (rootCost h (inner h) (treeCost h) v) (movesAt h (node h v)) m
+      found-root : v ≡ r → FirstBelow (rootCost h (inner h) (treeCost h ls) v) (movesAt h ls (node h v)) m
       found-root z =
-          first-as (ap (λ a. costWith (isXor h v) (wordCosts h (inner h) (treeCost h) v) a (oddAt g sc v)) (ready .reads v below) ∙
-          ap (costWith (isXor h v) (wordCosts h (inner h) (treeCost h) v) (readers h (node h v))) (odd-root z) ∙ root-is h (inner h) (treeCost h) v)
+          first-as (ap (λ a. costWith (isXor h v) (wordCosts h (inner h) (treeCost h ls) v) a (oddAt g sc v)) (ready .reads v below) ∙
+          ap (costWith (isXor h v) (wordCosts h (inner h) (treeCost h ls) v) (readers h (node h v))) (odd-root z) ∙ root-is h (inner h) (treeCost h ls) v)
           found
 
       -- the move stored
@@ -212,7 +214,7 @@ module _ (h : Graph) (sc₁ : List ℕ) (rd : Ready h sc₁) (r : ℕ) (rn : r <
             let a = reader-node h adm (node h w) s in
             rw (move-old (place h (node h w) / 3) (λ z. omega arith))
 
-        pub moves-step : MovesFrom h sc₁ r v sc′
+        pub moves-step : MovesFrom h ls sc₁ r v sc′
         moves-step =
             record {
               only = record { same = st .same ∙ mf .only .same; kept = λ j d. st .old j (λ e. d (omega arith)) ∙ mf .only .kept j d };

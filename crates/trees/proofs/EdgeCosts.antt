@@ -1,7 +1,7 @@
 -- What an edge, a word and a node cost, as the code finds it in scratch. From the laws on tests and on a node's numbers.
 use mathlib.Core.Path.{_≡_, refl, sym, ap, _∙_}
 use mathlib.Core.Bool.{Bool, true, false, not, cond, _&&_}
-use mathlib.Core.List.{List}
+use mathlib.Core.List.{List, []}
 use mathlib.Core.Logic.{_≢_}
 use Prim.Native.Nat.{ℕ, _+_, _-_, _*_, _/_, _%_, _≤_, _<_}
 use native.Mathlib.Omega.{arith}
@@ -81,7 +81,7 @@ unfolding numbersOf
 numbers-now g sc o v l z a b e ea eb =
     let h : Graph = stands g sc in
     let q = alike-readers g h (stands-alike g sc (o .admitted)) (node g v) in
-    let n = deciding.numbers-low g v (o .admitted) in
+    let n = deciding.numbers-low g [] v (o .admitted) in
     numbers-low h (innerAt (g .I) sc) (costAt (g .I) sc) v (costs-low (g .I) sc) z a b e
     (omega (arith, o .reads v l, o .odd v l, shown-both h (node g v)))
     (omega (arith, o .reads v l, n .numbers .few))
@@ -90,17 +90,17 @@ pub decided-by : (x y : Bool) (n k : ℕ) (z w : List ℕ) (a b c d m : ℕ) →
 decided-by x y n k z w a b c d m p u q s t f = rw (← p, ← u, ← q, ← s, ← t) f
 
 -- the kind and the moves of a node, as they are read
-pub moves-read : (g : Graph) (v : ℕ) (x : Bool) (n : ℕ) → x ≡ isXor g v → n ≡ movesAt g (node g v) → MovesOf x n
-moves-read g v x n e q = rw (e, q) (moves-of g v)
+pub moves-read : (g : Graph) (ls : List ℕ) (v : ℕ) (x : Bool) (n : ℕ) → x ≡ isXor g v → n ≡ movesAt g ls (node g v) → MovesOf x n
+moves-read g ls v x n e q = rw (e, q) (moves-of g ls v)
 
 -- the stored bits of a node
-pub bits-of : (g : Graph) (sc : List ℕ) → Ordered g sc → (v : ℕ) (x : Bool) (n : ℕ) (z : List ℕ) (r : ℕ) → z ≡ wordCosts (stands g sc) (innerAt (g .I) sc) (costAt (g .I) sc) v
-    → x ≡ isXor g v → n ≡ movesAt g (node g v) → CostBits x n z r
-    → (r % 2 ≡ bitCost (stands g sc) (innerAt (g .I) sc) (costAt (g .I) sc) v 0) × (r / 2 % 2 ≡ bitCost (stands g sc) (innerAt (g .I) sc) (costAt (g .I) sc) v 1)
-bits-of g sc o v x n z r e k j cb =
+pub bits-of : (g : Graph) (ls sc : List ℕ) → Ordered g sc → (v : ℕ) (x : Bool) (n : ℕ) (z : List ℕ) (r : ℕ) → z ≡ wordCosts (stands g sc) (innerAt (g .I) sc) (costAt (g .I) sc) v
+    → x ≡ isXor g v → n ≡ movesAt g ls (node g v) → CostBits x n z r
+    → (r % 2 ≡ bitCost (stands g sc) ls (innerAt (g .I) sc) (costAt (g .I) sc) v 0) × (r / 2 % 2 ≡ bitCost (stands g sc) ls (innerAt (g .I) sc) (costAt (g .I) sc) v 1)
+bits-of g ls sc o v x n z r e k j cb =
     let a = stands-alike g sc (o .admitted) in
     let q : x ≡ isXor (stands g sc) v = k ∙ sym (alike-xor g (stands g sc) a v) in
-    let u : n ≡ movesAt (stands g sc) (node (stands g sc) v) = j ∙ sym (alike-movesAt g (stands g sc) a v) in
-    let c : CostBits (isXor (stands g sc) v) (movesAt (stands g sc) (node (stands g sc) v)) (wordCosts (stands g sc) (innerAt (g .I) sc) (costAt (g .I) sc) v) r = rw (← q, ← u, ← e) cb in
-    bits-are (stands g sc) (innerAt (g .I) sc) (costAt (g .I) sc) v (c .zero-least .move) (c .one-least .move) (c .zero-cost) (c .one-cost)
+    let u : n ≡ movesAt (stands g sc) ls (node (stands g sc) v) = j ∙ sym (alike-movesAt g (stands g sc) a ls v) in
+    let c : CostBits (isXor (stands g sc) v) (movesAt (stands g sc) ls (node (stands g sc) v)) (wordCosts (stands g sc) (innerAt (g .I) sc) (costAt (g .I) sc) v) r = rw (← q, ← u, ← e) cb in
+    bits-are (stands g sc) ls (innerAt (g .I) sc) (costAt (g .I) sc) v (c .zero-least .move) (c .one-least .move) (c .zero-cost) (c .one-cost)
     (c .zero-least .least) (c .one-least .least) (c .zero-least .cost) (c .one-least .cost) r _ _ refl refl (c .bits)

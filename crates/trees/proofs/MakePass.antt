@@ -10,7 +10,7 @@ use borrow.Author.Tests.{eq-eqb, ne-eqb, lt-ltb, le-ltb}
 use Rattle.graph.specs.Graph.{Graph, node, isXor}
 use Rattle.graph.specs.Admission.{Admitted}
 use Rattle.graph.proofs.Cases.{eq-or-ne, lt-or-le}
-use Rattle.moves.specs.Rows.{movesAt}
+use Rattle.moves.specs.Rows.{kindMoves}
 use Rattle.moves.specs.Apply.{Choice, Permitted, none, at, put, apply, compose}
 use Rattle.moves.specs.Tree.{rootOf, tree}
 use Rattle.moves.specs.Call.{moved, bestAt}
@@ -19,7 +19,7 @@ use Rattle.moves.proofs.Compose.{apply-apply}
 use Rattle.moves.proofs.Kept.{apply-idle}
 use Rattle.moves.proofs.Potential.{Off}
 use Rattle.moves.proofs.Readers.{rootOf-above}
-use Rattle.moves.proofs.Moves.{moves-pos, has-row, node-row}
+use Rattle.moves.proofs.Moves.{kind-pos, has-row, node-row}
 use Rattle.moves.proofs.Written.{within, put-tree}
 use Rattle.state.specs.State.{field, stands, Ordered}
 use Rattle.state.specs.Step.{TreesKept, Became}
@@ -65,7 +65,7 @@ module _ (h : Graph) (sc₁ : List ℕ) (adm : Admitted h) (r : ℕ) (rn : r < h
         ordered = o;
         stands-for = e ∙ sym (apply-idle h none adm (λ u. refl));
         kept = record { long = refl; others = λ v f l p q. refl };
-        permitted = λ v l. moves-pos h (node h v);
+        permitted = λ v l. kind-pos h (node h v);
         off = λ u q. refl;
         low = λ u q. refl;
         high = λ u q. refl;
@@ -88,9 +88,9 @@ module _ (h : Graph) (sc₁ : List ℕ) (adm : Admitted h) (r : ℕ) (rn : r < h
       }
 
   -- all made: the tree call
-  pub made-all : (g : Graph) (sc : List ℕ) → TreeDecided h (node h r) sc₁ → MadeFrom h sc₁ r 0 g sc → stands g sc ≡ moved h (tree h (node h r)) (bestAt h (tree h (node h r)))
+  pub made-all : (ls : List ℕ) (g : Graph) (sc : List ℕ) → TreeDecided h ls (node h r) sc₁ → MadeFrom h sc₁ r 0 g sc → stands g sc ≡ moved h (tree h (node h r)) (bestAt h ls (tree h (node h r)))
   unfolding moved
-  made-all g sc td mf =
+  made-all ls g sc td mf =
       mf .stands-for ∙ ap (apply h) (sym only-tree) ∙ ap (apply h) (sym (put-tree h (node h r) (movesIn (h .I) sc₁))) ∙
       ap (λ ms. apply h (put none (tree h (node h r)) ms)) (td .best)
     where
@@ -104,7 +104,7 @@ module _ (h : Graph) (sc₁ : List ℕ) (adm : Admitted h) (r : ℕ) (rn : r < h
       only-tree = fun-ext (λ u. in-or-out h (node h r) (movesIn (h .I) sc₁) (mf .d) u (inside u) (mf .off u) (λ l. mf .low u (omega arith)) (mf .high u))
 
   -- the move m at node v of the tree, those above it made
-  module _ (v : ℕ) (vn : v < h .N) (here : rootOf h (node h v) ≡ node h r) (g : Graph) (sc : List ℕ) (mf : MadeFrom h sc₁ r (suc v) g sc) (m : ℕ) (fits : m < movesAt h (node h v)) (em : m ≡ field sc₁ v 4)
+  module _ (v : ℕ) (vn : v < h .N) (here : rootOf h (node h v) ≡ node h r) (g : Graph) (sc : List ℕ) (mf : MadeFrom h sc₁ r (suc v) g sc) (m : ℕ) (fits : m < kindMoves h (node h v)) (em : m ≡ field sc₁ v 4)
       (i : ℕ) (ei : i ≡ h .I) where
     d′ : Choice
     d′ = at (mf .d) (node h v) m
@@ -112,15 +112,15 @@ module _ (h : Graph) (sc₁ : List ℕ) (adm : Admitted h) (r : ℕ) (rn : r < h
     still-own : mf .d (node h v) ≡ 0
     still-own = mf .low (node h v) (omega arith)
 
-    all-fit : (u : ℕ) → mf .d u < movesAt h u
+    all-fit : (u : ℕ) → mf .d u < kindMoves h u
     all-fit u =
         ⊎-elim
         (λ (a : h .I < u).
         ⊎-elim
         (λ (b : u < node h (h .N)). let q : node h (u - (h .I + 1)) ≡ u = omega arith in (rw q at (mf .permitted (u - (h .I + 1)) (omega arith))))
-        (λ (b : node h (h .N) ≤ u). rw (mf .high u b) (moves-pos h u))
+        (λ (b : node h (h .N) ≤ u). rw (mf .high u b) (kind-pos h u))
         (lt-or-le u (node h (h .N))))
-        (λ (a : u ≤ h .I). rw (mf .low u (omega arith)) (moves-pos h u))
+        (λ (a : u ≤ h .I). rw (mf .low u (omega arith)) (kind-pos h u))
         (lt-or-le (h .I) u)
 
     joined : compose h (mf .d) (at none (node h v) m) ≡ d′
@@ -145,7 +145,7 @@ module _ (h : Graph) (sc₁ : List ℕ) (adm : Admitted h) (r : ℕ) (rn : r < h
     moved-to : apply (stands g sc) (at none (i + 1 + v) m) ≡ apply h d′
     moved-to =
         ap (λ y. apply y (at none (i + 1 + v) m)) (mf .stands-for) ∙ ap (λ y. apply (apply h (mf .d)) (at none (y + 1 + v) m)) ei ∙
-        apply-apply h (mf .d) (at none (node h v) m) (mf .permitted) (permitted-with none (λ w l. moves-pos h (node h w))) adm ∙ ap (apply h) joined
+        apply-apply h (mf .d) (at none (node h v) m) (mf .permitted) (permitted-with none (λ w l. kind-pos h (node h w))) adm ∙ ap (apply h) joined
 
     pub made-step : (g′ : Graph) (sc′ : List ℕ) → Became sc g′ sc′ (apply (stands g sc) (at none (i + 1 + v) m)) → MadeFrom h sc₁ r v g′ sc′
     unfolding d′

@@ -2,7 +2,7 @@
 -- other edges (crate moves) and the order of the state.
 use mathlib.Core.Path.{_≡_, sym, ap, _∙_}
 use mathlib.Core.Bool.{true}
-use mathlib.Core.List.{List}
+use mathlib.Core.List.{List, []}
 use Prim.Native.Nat.{ℕ, _+_, _≤_, _<_}
 use native.Mathlib.Omega.{arith}
 use Rattle.graph.specs.Graph.{Graph, node}
@@ -23,22 +23,22 @@ use Rattle.trees.specs.Stepping.{TreeMade, treeMoved}
 
 odd-few : (g : Graph) (sc : List ℕ) → Ordered g sc → (v : ℕ) → v < g .N → field sc v 1 ≤ 304096
 unfolding numbersOf stands turnedBy
-odd-few g sc o v l = let k = numbers-low (stands g sc) v (stands-admitted g sc (o .admitted)) .numbers in omega (arith, o .odd v l, k .some, k .few)
+odd-few g sc o v l = let k = numbers-low (stands g sc) [] v (stands-admitted g sc (o .admitted)) .numbers in omega (arith, o .odd v l, k .some, k .few)
 
-module _ (g : Graph) (sc : List ℕ) (o : Ordered g sc) (v : ℕ) (l : v < g .N) where
-  others-now : isRoot g (node g v) ≡ true → difference (shown (stands g sc) (node g v) 0) (shown (treeMoved (stands g sc) (node g v)) (node g v) 0) ≡ othersOf (rewrite (stands g sc) (tree (stands g sc) (node g v)) .answer)
+module _ (g : Graph) (ls sc : List ℕ) (o : Ordered g sc) (v : ℕ) (l : v < g .N) where
+  others-now : isRoot g (node g v) ≡ true → difference (shown (stands g sc) (node g v) 0) (shown (treeMoved (stands g sc) ls (node g v)) (node g v) 0) ≡ othersOf (rewrite (stands g sc) ls (tree (stands g sc) (node g v)) .answer)
   unfolding stands turnedBy
   others-now t =
       let h : Graph = stands g sc in
       let a = stands-alike g sc (o .admitted) in
-      sym (tree-best-others h (stands-admitted g sc (o .admitted)) v l (alike-isRoot g h a (node g v) ∙ t))
+      sym (tree-best-others h (stands-admitted g sc (o .admitted)) v l (alike-isRoot g h a (node g v) ∙ t) ls)
 
-  pub tree-parted : isRoot g (node g v) ≡ true → (g′ : Graph) (sc′ : List ℕ) (c : ℕ) → g′ .I ≡ g .I → g′ .N ≡ g .N → TreeMade sc g′ sc′ (treeMoved (stands g sc) (node g v)) c
-      → (b a : ℕ) → b ≡ field sc v 1 → a ≡ field sc′ v 1 → Parted (rewrite (stands g sc) (tree (stands g sc) (node g v))) (record { count = c; before = b; after = a })
+  pub tree-parted : isRoot g (node g v) ≡ true → (g′ : Graph) (sc′ : List ℕ) (c : ℕ) → g′ .I ≡ g .I → g′ .N ≡ g .N → TreeMade sc g′ sc′ (treeMoved (stands g sc) ls (node g v)) c
+      → (b a : ℕ) → b ≡ field sc v 1 → a ≡ field sc′ v 1 → Parted (rewrite (stands g sc) ls (tree (stands g sc) (node g v))) (record { count = c; before = b; after = a })
   tree-parted t g′ sc′ c i n m b a p q =
       let u : v < g′ .N = omega arith in
       let x : b ≡ shown (stands g sc) (node g v) 0 = p ∙ o .odd v l in
-      let y : a ≡ shown (treeMoved (stands g sc) (node g v)) (node g v) 0 =
+      let y : a ≡ shown (treeMoved (stands g sc) ls (node g v)) (node g v) 0 =
       q ∙ m .ordered .odd v u ∙ ap (λ (k : ℕ). shown (stands g′ sc′) (k + 1 + v) 0) i ∙ ap (λ (k : Graph). shown k (node g v) 0) (m .stands-for) in
       record {
         others = sym (ap (λ (z : ℕ). difference z a) x ∙ ap (λ (z : ℕ). difference (shown (stands g sc) (node g v) 0) z) y ∙ others-now t);

@@ -12,7 +12,7 @@ use Rattle.graph.specs.Graph.{Graph, mark, node, word, isXor}
 use Rattle.graph.specs.Count.{nodeReaders, readers}
 use Rattle.graph.proofs.Cases.{eq-or-ne}
 use Rattle.graph.proofs.Tests.{equal, unequal}
-use Rattle.moves.specs.Rows.{arity, flag, movesAt}
+use Rattle.moves.specs.Rows.{arity, flag, kindMoves}
 use Rattle.moves.specs.Tree.{isRoot}
 use Rattle.moves.specs.Cost.{wordCosts}
 use Rattle.moves.specs.Decide.{Numbers}
@@ -29,7 +29,7 @@ pub one-reader : (h : Graph) (u : ℕ) → isRoot h u ≡ false → readers h u 
 unfolding isRoot
 one-reader h u e = eqb-true (readers h u) 1 (both-true (eqb (readers h u) 1) (eqb (nodeReaders h u) 1) (not-false _ e) .0)
 
-pub fits-kind : (g : Graph) (v : ℕ) (x : Bool) (m k : ℕ) → x ≡ isXor g v → m ≡ k → k < movesAt g (node g v) → m < arity x
+pub fits-kind : (g : Graph) (v : ℕ) (x : Bool) (m k : ℕ) → x ≡ isXor g v → m ≡ k → k < kindMoves g (node g v) → m < arity x
 fits-kind g v x m k p q l = rw (p, q) (node-row g v k l)
 
 module _ (g : Graph) (sc : List ℕ) where
@@ -51,7 +51,7 @@ module _ (g : Graph) (sc : List ℕ) where
 
   module _ (o : Ordered g sc) (v : ℕ) (l : v < g .N) where
     -- where a node's only reading word stands
-    pub place-fits : (p : ℕ) → p ≡ field sc v 3 → p ≢ mark → ReaderDecided g sc v → (p < 3 * g .N) × (field sc (p / 3) 4 < movesAt g (node g (p / 3)))
+    pub place-fits : (p : ℕ) → p ≡ field sc v 3 → p ≢ mark → ReaderDecided g sc v → (p < 3 * g .N) × (field sc (p / 3) 4 < kindMoves g (node g (p / 3)))
     place-fits p e d rd =
         let d′ : field sc v 3 ≢ mark = λ z. d (e ∙ z) in
         let s = other-if g (o .admitted) sc (o .placed) v l d′ in

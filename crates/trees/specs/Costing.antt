@@ -42,18 +42,18 @@ pub record CostBits (x : Bool) (n : ℕ) (z : List ℕ) (r : ℕ) : Type 0 where
 unfoldable pub costIn : Graph → List ℕ → ℕ → ℕ → ℕ
 costIn h l u s = getD l (2 * (u - (h .I + 1)) + s) 0
 
--- the costs of the first n nodes, each from those of lower ones
-unfoldable pub costs : Graph → ℕ → List ℕ
-costs h zero = []
-costs h (suc n) = let l = costs h n in l ++ (bitCost h (inner h) (costIn h l) n 0 ∷ bitCost h (inner h) (costIn h l) n 1 ∷ [])
+-- the costs of the first n nodes with the locks ls, each from those of lower ones
+unfoldable pub costs : Graph → List ℕ → ℕ → List ℕ
+costs h ls zero = []
+costs h ls (suc n) = let l = costs h ls n in l ++ (bitCost h ls (inner h) (costIn h l) n 0 ∷ bitCost h ls (inner h) (costIn h l) n 1 ∷ [])
 
 -- the costs of the non-roots of h
-unfoldable pub treeCost : Graph → ℕ → ℕ → ℕ
-treeCost h = costIn h (costs h (h .N))
+unfoldable pub treeCost : Graph → List ℕ → ℕ → ℕ → ℕ
+treeCost h ls = costIn h (costs h ls (h .N))
 
 -- the nodes below n of the tree of r have their costs stored
-abbrev pub CostedBelow : Graph → List ℕ → ℕ → ℕ → Type 0
-CostedBelow h sc r n = (v s : ℕ) → v < n → s < 2 → rootOf h (node h v) ≡ r → costAt (h .I) sc (node h v) s ≡ treeCost h (node h v) s
+abbrev pub CostedBelow : Graph → List ℕ → List ℕ → ℕ → ℕ → Type 0
+CostedBelow h ls sc r n = (v s : ℕ) → v < n → s < 2 → rootOf h (node h v) ≡ r → costAt (h .I) sc (node h v) s ≡ treeCost h ls (node h v) s
 
 -- only costs differ
 pub record CostsOnly (sc sc′ : List ℕ) : Type 0 where

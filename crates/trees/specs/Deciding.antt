@@ -6,7 +6,7 @@ use mathlib.Core.Logic.{_≢_}
 use Prim.Native.Nat.{ℕ, _+_, _-_, _/_, _%_, _<_}
 use Rattle.graph.specs.Finite.{ifEqual}
 use Rattle.graph.specs.Graph.{Graph, mark, node, word, isXor}
-use Rattle.moves.specs.Rows.{flag, movesAt}
+use Rattle.moves.specs.Rows.{flag, kindMoves, movesAt}
 use Rattle.moves.specs.Apply.{Choice}
 use Rattle.moves.specs.Tree.{rootOf, tree}
 use Rattle.moves.specs.Call.{bestAt}
@@ -24,11 +24,11 @@ showsAt g sc p = (word (stands g sc) p + flag (isXor g (p / 3)) (field sc (p / 3
 unfoldable pub oddAt : Graph → List ℕ → ℕ → ℕ
 oddAt g sc v = ifEqual (field sc v 3) mark (field sc v 1) (showsAt g sc (field sc v 3))
 
--- the node of v's only reading word, if v has one, has a move stored
+-- the node of v's only reading word, if v has one, has a move of its kind stored
 abbrev pub ReaderDecided : Graph → List ℕ → ℕ → Type 0
-ReaderDecided g sc v = field sc v 3 ≢ mark → field sc (field sc v 3 / 3) 4 < movesAt g (node g (field sc v 3 / 3))
+ReaderDecided g sc v = field sc v 3 ≢ mark → field sc (field sc v 3 / 3) 4 < kindMoves g (node g (field sc v 3 / 3))
 
--- the nodes of the tree of r in h have moves stored that they have, and these are the best
-pub record TreeDecided (h : Graph) (r : ℕ) (sc : List ℕ) : Type 0 where
-  pub permitted : (v : ℕ) → v < h .N → rootOf h (node h v) ≡ r → field sc v 4 < movesAt h (node h v)
-  pub best : map (movesIn (h .I) sc) (tree h r) ≡ bestAt h (tree h r)
+-- the nodes of the tree of r in h, with the locks ls, have moves stored that they have, and these are the best
+pub record TreeDecided (h : Graph) (ls : List ℕ) (r : ℕ) (sc : List ℕ) : Type 0 where
+  pub permitted : (v : ℕ) → v < h .N → rootOf h (node h v) ≡ r → field sc v 4 < movesAt h ls (node h v)
+  pub best : map (movesIn (h .I) sc) (tree h r) ≡ bestAt h ls (tree h r)

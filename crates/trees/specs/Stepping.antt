@@ -10,9 +10,9 @@ use Rattle.moves.specs.Tree.{tree}
 use Rattle.moves.specs.Call.{moved, bestAt}
 use Rattle.state.specs.State.{field, stands, Ordered}
 
--- h after the tree call at the root r: its graph, as `treeCall` has it
-abbrev pub treeMoved : Graph → ℕ → Graph
-treeMoved h r = moved h (tree h r) (bestAt h (tree h r))
+-- h with the locks ls after the tree call at the root r: its graph, as `treeCall` has it
+abbrev pub treeMoved : Graph → List ℕ → ℕ → Graph
+treeMoved h ls r = moved h (tree h r) (bestAt h ls (tree h r))
 
 -- tables g and scratch `after`, in order, that stand for h, c being C of h; of scratch `before` only the counts of complemented
 -- readers, the pending turns and the costs have changed

@@ -134,16 +134,17 @@ pub fn node_costs(
     outputs: u32,
     node_table: &[u32],
     output_table: &[u32],
+    locks: &[u8],
     v: usize,
     scratch: &[u32],
 ) -> u32
-    requires { ⌜ Ordered (graphOf inputs nodes outputs (now «node_table») (now «output_table»)) (now scratch) × (v < nodes) ⌝ }
-    ensures { λ r. ⌜ (r % 2 ≡ bitCost (stands (graphOf inputs nodes outputs (now («node_table» .entry)) (now («output_table» .entry))) (now (scratch .entry))) (innerAt inputs (now (scratch .entry))) (costAt inputs (now (scratch .entry))) v 0) × (r / 2 % 2 ≡ bitCost (stands (graphOf inputs nodes outputs (now («node_table» .entry)) (now («output_table» .entry))) (now (scratch .entry))) (innerAt inputs (now (scratch .entry))) (costAt inputs (now (scratch .entry))) v 1) ⌝ }
+    requires { ⌜ Ordered (graphOf inputs nodes outputs (now «node_table») (now «output_table»)) (now scratch) × (v < nodes) × (nodes ≤ length (now locks)) ⌝ }
+    ensures { λ r. ⌜ (r % 2 ≡ bitCost (stands (graphOf inputs nodes outputs (now («node_table» .entry)) (now («output_table» .entry))) (now (scratch .entry))) (now (locks .entry)) (innerAt inputs (now (scratch .entry))) (costAt inputs (now (scratch .entry))) v 0) × (r / 2 % 2 ≡ bitCost (stands (graphOf inputs nodes outputs (now («node_table» .entry)) (now («output_table» .entry))) (now (scratch .entry))) (now (locks .entry)) (innerAt inputs (now (scratch .entry))) (costAt inputs (now (scratch .entry))) v 1) ⌝ }
 {
     let z = tree_numbers(inputs, nodes, outputs, node_table, output_table, v, scratch);
     cost_bits(
         rows::is_xor(node_table, v),
-        rows::moves_at(node_table, v),
+        rows::moves_at(node_table, locks, v),
         z,
     )
 }
@@ -155,15 +156,25 @@ pub fn fill_costs(
     outputs: u32,
     node_table: &[u32],
     output_table: &[u32],
+    locks: &[u8],
     root: usize,
     scratch: &mut [u32],
 )
-    requires { ⌜ Ordered (graphOf inputs nodes outputs (now «node_table») (now «output_table»)) (now scratch) × (root < nodes) × (isRoot (graphOf inputs nodes outputs (now «node_table») (now «output_table»)) (inputs + 1 + root) ≡ true) ⌝ }
-    ensures { λ _. ⌜ CostedBelow (stands (graphOf inputs nodes outputs (now («node_table» .entry)) (now («output_table» .entry))) (now (scratch .entry))) (now (scratch .exit)) (inputs + 1 + root) root × CostsOnly (now (scratch .entry)) (now (scratch .exit)) ⌝ }
+    requires { ⌜ Ordered (graphOf inputs nodes outputs (now «node_table») (now «output_table»)) (now scratch) × (root < nodes) × (isRoot (graphOf inputs nodes outputs (now «node_table») (now «output_table»)) (inputs + 1 + root) ≡ true) × (nodes ≤ length (now locks)) ⌝ }
+    ensures { λ _. ⌜ CostedBelow (stands (graphOf inputs nodes outputs (now («node_table» .entry)) (now («output_table» .entry))) (now (scratch .entry))) (now (locks .entry)) (now (scratch .exit)) (inputs + 1 + root) root × CostsOnly (now (scratch .entry)) (now (scratch .exit)) ⌝ }
 {
     let mut v = wide(read(scratch, root, 7));
     while v != root {
-        let bits = node_costs(inputs, nodes, outputs, node_table, output_table, v, scratch);
+        let bits = node_costs(
+            inputs,
+            nodes,
+            outputs,
+            node_table,
+            output_table,
+            locks,
+            v,
+            scratch,
+        );
         store(scratch, v, 4, bits);
         v = wide(read(scratch, v, 6));
     }

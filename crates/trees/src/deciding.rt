@@ -1,10 +1,11 @@
 // A tree decided: the costs of its nodes by rising index, their moves by falling index. Only scratch is written.
 ghost use mathlib.Core.Path.{_≡_};
 ghost use mathlib.Core.Bool.{true};
-ghost use Prim.Native.Nat.{_+_, _*_, _/_, _<_};
+ghost use Prim.Native.Nat.{_+_, _*_, _/_, _≤_, _<_};
+ghost use lib.ListN.{length};
 ghost use Rattle.graph.specs.Graph.{graphOf, isXor};
 ghost use Rattle.choice.specs.Choice.{FirstBelow};
-ghost use Rattle.moves.specs.Rows.{movesAt};
+ghost use Rattle.moves.specs.Rows.{kindMoves, movesAt};
 ghost use Rattle.moves.specs.Tree.{isRoot};
 ghost use Rattle.moves.specs.Cost.{wordCosts};
 ghost use Rattle.moves.specs.Decide.{costWith};
@@ -31,7 +32,7 @@ pub fn shown_bit(
     p: usize,
     scratch: &[u32],
 ) -> u32
-    requires { ⌜ Ordered (graphOf inputs nodes outputs (now «node_table») (now «output_table»)) (now scratch) × (p < 3 * nodes) × (field (now scratch) (p / 3) 4 < movesAt (graphOf inputs nodes outputs (now «node_table») (now «output_table»)) (inputs + 1 + p / 3)) ⌝ }
+    requires { ⌜ Ordered (graphOf inputs nodes outputs (now «node_table») (now «output_table»)) (now scratch) × (p < 3 * nodes) × (field (now scratch) (p / 3) 4 < kindMoves (graphOf inputs nodes outputs (now «node_table») (now «output_table»)) (inputs + 1 + p / 3)) ⌝ }
     ensures { λ r. ⌜ r ≡ showsAt (graphOf inputs nodes outputs (now («node_table» .entry)) (now («output_table» .entry))) (now (scratch .entry)) p ⌝ }
 {
     let w = p / 3;
@@ -76,18 +77,19 @@ pub fn decide_at(
     outputs: u32,
     node_table: &[u32],
     output_table: &[u32],
+    locks: &[u8],
     v: usize,
     scratch: &[u32],
 ) -> u32
-    requires { ⌜ Ordered (graphOf inputs nodes outputs (now «node_table») (now «output_table»)) (now scratch) × (v < nodes) × ReaderDecided (graphOf inputs nodes outputs (now «node_table») (now «output_table»)) (now scratch) v ⌝ }
-    ensures { λ r. ⌜ FirstBelow (costWith (isXor (graphOf inputs nodes outputs (now («node_table» .entry)) (now («output_table» .entry))) v) (wordCosts (stands (graphOf inputs nodes outputs (now («node_table» .entry)) (now («output_table» .entry))) (now (scratch .entry))) (innerAt inputs (now (scratch .entry))) (costAt inputs (now (scratch .entry))) v) (field (now (scratch .entry)) v 0) (oddAt (graphOf inputs nodes outputs (now («node_table» .entry)) (now («output_table» .entry))) (now (scratch .entry)) v)) (movesAt (graphOf inputs nodes outputs (now («node_table» .entry)) (now («output_table» .entry))) (inputs + 1 + v)) r ⌝ }
+    requires { ⌜ Ordered (graphOf inputs nodes outputs (now «node_table») (now «output_table»)) (now scratch) × (v < nodes) × ReaderDecided (graphOf inputs nodes outputs (now «node_table») (now «output_table»)) (now scratch) v × (nodes ≤ length (now locks)) ⌝ }
+    ensures { λ r. ⌜ FirstBelow (costWith (isXor (graphOf inputs nodes outputs (now («node_table» .entry)) (now («output_table» .entry))) v) (wordCosts (stands (graphOf inputs nodes outputs (now («node_table» .entry)) (now («output_table» .entry))) (now (scratch .entry))) (innerAt inputs (now (scratch .entry))) (costAt inputs (now (scratch .entry))) v) (field (now (scratch .entry)) v 0) (oddAt (graphOf inputs nodes outputs (now («node_table» .entry)) (now («output_table» .entry))) (now (scratch .entry)) v)) (movesAt (graphOf inputs nodes outputs (now («node_table» .entry)) (now («output_table» .entry))) (now (locks .entry)) (inputs + 1 + v)) r ⌝ }
 {
     let z = costs::tree_numbers(inputs, nodes, outputs, node_table, output_table, v, scratch);
     let readers = read(scratch, v, 0);
     let odd = odd_at(inputs, nodes, outputs, node_table, output_table, v, scratch);
     decide::first_least(
         rows::is_xor(node_table, v),
-        rows::moves_at(node_table, v),
+        rows::moves_at(node_table, locks, v),
         z,
         readers,
         odd,
@@ -101,16 +103,26 @@ pub fn fill_moves(
     outputs: u32,
     node_table: &[u32],
     output_table: &[u32],
+    locks: &[u8],
     root: usize,
     scratch: &mut [u32],
 )
-    requires { ⌜ Ordered (graphOf inputs nodes outputs (now «node_table») (now «output_table»)) (now scratch) × (root < nodes) × (isRoot (graphOf inputs nodes outputs (now «node_table») (now «output_table»)) (inputs + 1 + root) ≡ true) × CostedBelow (stands (graphOf inputs nodes outputs (now «node_table») (now «output_table»)) (now scratch)) (now scratch) (inputs + 1 + root) root ⌝ }
-    ensures { λ _. ⌜ TreeDecided (stands (graphOf inputs nodes outputs (now («node_table» .entry)) (now («output_table» .entry))) (now (scratch .entry))) (inputs + 1 + root) (now (scratch .exit)) × CostsOnly (now (scratch .entry)) (now (scratch .exit)) ⌝ }
+    requires { ⌜ Ordered (graphOf inputs nodes outputs (now «node_table») (now «output_table»)) (now scratch) × (root < nodes) × (isRoot (graphOf inputs nodes outputs (now «node_table») (now «output_table»)) (inputs + 1 + root) ≡ true) × CostedBelow (stands (graphOf inputs nodes outputs (now «node_table») (now «output_table»)) (now scratch)) (now locks) (now scratch) (inputs + 1 + root) root × (nodes ≤ length (now locks)) ⌝ }
+    ensures { λ _. ⌜ TreeDecided (stands (graphOf inputs nodes outputs (now («node_table» .entry)) (now («output_table» .entry))) (now (scratch .entry))) (now (locks .entry)) (inputs + 1 + root) (now (scratch .exit)) × CostsOnly (now (scratch .entry)) (now (scratch .exit)) ⌝ }
 {
     let mut v = narrow(root);
     while v != MARK {
         let w = wide(v);
-        let m = decide_at(inputs, nodes, outputs, node_table, output_table, w, scratch);
+        let m = decide_at(
+            inputs,
+            nodes,
+            outputs,
+            node_table,
+            output_table,
+            locks,
+            w,
+            scratch,
+        );
         store(scratch, w, 4, m);
         v = read(scratch, w, 5);
     }
@@ -123,11 +135,12 @@ pub fn decide_tree(
     outputs: u32,
     node_table: &[u32],
     output_table: &[u32],
+    locks: &[u8],
     root: usize,
     scratch: &mut [u32],
 )
-    requires { ⌜ Ordered (graphOf inputs nodes outputs (now «node_table») (now «output_table»)) (now scratch) × (root < nodes) × (isRoot (graphOf inputs nodes outputs (now «node_table») (now «output_table»)) (inputs + 1 + root) ≡ true) ⌝ }
-    ensures { λ _. ⌜ TreeDecided (stands (graphOf inputs nodes outputs (now («node_table» .entry)) (now («output_table» .entry))) (now (scratch .entry))) (inputs + 1 + root) (now (scratch .exit)) × CostsOnly (now (scratch .entry)) (now (scratch .exit)) ⌝ }
+    requires { ⌜ Ordered (graphOf inputs nodes outputs (now «node_table») (now «output_table»)) (now scratch) × (root < nodes) × (isRoot (graphOf inputs nodes outputs (now «node_table») (now «output_table»)) (inputs + 1 + root) ≡ true) × (nodes ≤ length (now locks)) ⌝ }
+    ensures { λ _. ⌜ TreeDecided (stands (graphOf inputs nodes outputs (now («node_table» .entry)) (now («output_table» .entry))) (now (scratch .entry))) (now (locks .entry)) (inputs + 1 + root) (now (scratch .exit)) × CostsOnly (now (scratch .entry)) (now (scratch .exit)) ⌝ }
 {
     costs::fill_costs(
         inputs,
@@ -135,6 +148,7 @@ pub fn decide_tree(
         outputs,
         node_table,
         output_table,
+        locks,
         root,
         scratch,
     );
@@ -144,6 +158,7 @@ pub fn decide_tree(
         outputs,
         node_table,
         output_table,
+        locks,
         root,
         scratch,
     );

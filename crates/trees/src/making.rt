@@ -1,7 +1,8 @@
 // The tree step: a tree decided, then its moves made.
 ghost use mathlib.Core.Path.{_≡_};
 ghost use mathlib.Core.Bool.{true};
-ghost use Prim.Native.Nat.{_+_, _<_};
+ghost use Prim.Native.Nat.{_+_, _≤_, _<_};
+ghost use lib.ListN.{length};
 ghost use Rattle.graph.specs.Graph.{graphOf};
 ghost use Rattle.graph.specs.Count.{C};
 ghost use Rattle.moves.specs.Call.{rewrite};
@@ -25,12 +26,13 @@ pub fn make_moves(
     outputs: u32,
     node_table: &mut [u32],
     output_table: &[u32],
+    locks: &[u8],
     root: usize,
     count: u32,
     scratch: &mut [u32],
 ) -> u32
-    requires { ⌜ Ordered (graphOf inputs nodes outputs (now «node_table») (now «output_table»)) (now scratch) × (root < nodes) × (isRoot (graphOf inputs nodes outputs (now «node_table») (now «output_table»)) (inputs + 1 + root) ≡ true) × (count ≡ C (stands (graphOf inputs nodes outputs (now «node_table») (now «output_table»)) (now scratch))) × TreeDecided (stands (graphOf inputs nodes outputs (now «node_table») (now «output_table»)) (now scratch)) (inputs + 1 + root) (now scratch) ⌝ }
-    ensures { λ r. ⌜ Made (now (scratch .entry)) (graphOf inputs nodes outputs (now («node_table» .exit)) (now («output_table» .entry))) (now (scratch .exit)) (treeMoved (stands (graphOf inputs nodes outputs (now («node_table» .entry)) (now («output_table» .entry))) (now (scratch .entry))) (inputs + 1 + root)) r ⌝ }
+    requires { ⌜ Ordered (graphOf inputs nodes outputs (now «node_table») (now «output_table»)) (now scratch) × (root < nodes) × (isRoot (graphOf inputs nodes outputs (now «node_table») (now «output_table»)) (inputs + 1 + root) ≡ true) × (count ≡ C (stands (graphOf inputs nodes outputs (now «node_table») (now «output_table»)) (now scratch))) × TreeDecided (stands (graphOf inputs nodes outputs (now «node_table») (now «output_table»)) (now scratch)) (now locks) (inputs + 1 + root) (now scratch) × (nodes ≤ length (now locks)) ⌝ }
+    ensures { λ r. ⌜ Made (now (scratch .entry)) (graphOf inputs nodes outputs (now («node_table» .exit)) (now («output_table» .entry))) (now (scratch .exit)) (treeMoved (stands (graphOf inputs nodes outputs (now («node_table» .entry)) (now («output_table» .entry))) (now (scratch .entry))) (now (locks .entry)) (inputs + 1 + root)) r ⌝ }
 {
     let mut c = count;
     let mut v = narrow(root);
@@ -43,6 +45,7 @@ pub fn make_moves(
             outputs,
             node_table,
             output_table,
+            locks,
             w,
             m,
             c,
@@ -60,12 +63,13 @@ pub fn tree_step(
     outputs: u32,
     node_table: &mut [u32],
     output_table: &[u32],
+    locks: &[u8],
     root: usize,
     count: u32,
     scratch: &mut [u32],
 ) -> Step
-    requires { ⌜ Ordered (graphOf inputs nodes outputs (now «node_table») (now «output_table»)) (now scratch) × (root < nodes) × (isRoot (graphOf inputs nodes outputs (now «node_table») (now «output_table»)) (inputs + 1 + root) ≡ true) × (count ≡ C (stands (graphOf inputs nodes outputs (now «node_table») (now «output_table»)) (now scratch))) ⌝ }
-    ensures { λ r. ⌜ TreeMade (now (scratch .entry)) (graphOf inputs nodes outputs (now («node_table» .exit)) (now («output_table» .entry))) (now (scratch .exit)) (treeMoved (stands (graphOf inputs nodes outputs (now («node_table» .entry)) (now («output_table» .entry))) (now (scratch .entry))) (inputs + 1 + root)) (r .count) × Parted (rewrite (stands (graphOf inputs nodes outputs (now («node_table» .entry)) (now («output_table» .entry))) (now (scratch .entry))) (tree (stands (graphOf inputs nodes outputs (now («node_table» .entry)) (now («output_table» .entry))) (now (scratch .entry))) (inputs + 1 + root))) r ⌝ }
+    requires { ⌜ Ordered (graphOf inputs nodes outputs (now «node_table») (now «output_table»)) (now scratch) × (root < nodes) × (isRoot (graphOf inputs nodes outputs (now «node_table») (now «output_table»)) (inputs + 1 + root) ≡ true) × (count ≡ C (stands (graphOf inputs nodes outputs (now «node_table») (now «output_table»)) (now scratch))) × (nodes ≤ length (now locks)) ⌝ }
+    ensures { λ r. ⌜ TreeMade (now (scratch .entry)) (graphOf inputs nodes outputs (now («node_table» .exit)) (now («output_table» .entry))) (now (scratch .exit)) (treeMoved (stands (graphOf inputs nodes outputs (now («node_table» .entry)) (now («output_table» .entry))) (now (scratch .entry))) (now (locks .entry)) (inputs + 1 + root)) (r .count) × Parted (rewrite (stands (graphOf inputs nodes outputs (now («node_table» .entry)) (now («output_table» .entry))) (now (scratch .entry))) (now (locks .entry)) (tree (stands (graphOf inputs nodes outputs (now («node_table» .entry)) (now («output_table» .entry))) (now (scratch .entry))) (inputs + 1 + root))) r ⌝ }
 {
     let before = read(scratch, root, 1);
     deciding::decide_tree(
@@ -74,6 +78,7 @@ pub fn tree_step(
         outputs,
         node_table,
         output_table,
+        locks,
         root,
         scratch,
     );
@@ -83,6 +88,7 @@ pub fn tree_step(
         outputs,
         node_table,
         output_table,
+        locks,
         root,
         count,
         scratch,

@@ -4,7 +4,7 @@ use crate::print;
 use crate::read;
 use replay::Replayed;
 
-pub fn list(file: &[u8], node_table: &mut [u32], output_table: &mut [u32]) {
+pub fn list(file: &[u8], node_table: &mut [u32], output_table: &mut [u32], locks: &mut [u8]) {
     let mut calls = [0u32; 128];
     let mut scratch = [77u32; 4096];
     let mut answers = [77i64; 192];
@@ -12,6 +12,7 @@ pub fn list(file: &[u8], node_table: &mut [u32], output_table: &mut [u32]) {
         file,
         node_table,
         output_table,
+        locks,
         &mut calls,
         &mut scratch,
         &mut answers,
@@ -22,6 +23,7 @@ fn lend(
     file: &[u8],
     node_table: &mut [u32],
     output_table: &mut [u32],
+    locks: &mut [u8],
     calls: &mut [u32],
     scratch: &mut [u32],
     answers: &mut [i64],
@@ -34,6 +36,7 @@ fn lend(
         file,
         node_table,
         output_table,
+        locks,
         &calls[..calls_end],
         &mut scratch[..scratch_end],
         &mut answers[..answers_end],
@@ -44,11 +47,20 @@ fn run(
     file: &[u8],
     node_table: &mut [u32],
     output_table: &mut [u32],
+    locks: &mut [u8],
     calls: &[u32],
     scratch: &mut [u32],
     answers: &mut [i64],
 ) {
-    let answer = replay::replay(file, calls, node_table, output_table, scratch, answers);
+    let answer = replay::replay(
+        file,
+        calls,
+        node_table,
+        output_table,
+        locks,
+        scratch,
+        answers,
+    );
     replayed(answer, scratch);
     print::size(answers.len());
 }

@@ -1,42 +1,46 @@
 // Runs the entries on cases from standard input and prints a line of decimal numbers for each; the reference
 // in rust/reference writes the cases and, from its own answers, the lines that are due.
 //
-// A case is big-endian numbers of four bytes: 1; the lengths of the bytes, the node table and the output table; how many bytes are
-// given for the front of the first, and these; how many words for the front of the node table, and these; so the output table; the
-// op, and what it reads by itself.
+// A case is big-endian numbers of four bytes: 1; the lengths of the bytes, the node table, the output table and the locks; how many
+// bytes are given for the front of the first, and these; how many words for the front of the node table, and these; so the output
+// table; how many bytes for the front of the locks, and these; the op, and what it reads by itself.
 mod listing;
 mod ops;
 mod print;
 mod read;
 
-fn fill(bytes: &mut [u8], node_table: &mut [u32], output_table: &mut [u32]) {
+fn fill(bytes: &mut [u8], node_table: &mut [u32], output_table: &mut [u32], locks: &mut [u8]) {
     read::fill_bytes(bytes);
     read::fill_words(node_table);
     read::fill_words(output_table);
+    read::fill_bytes(locks);
 }
 
-fn show(bytes: &[u8], node_table: &[u32], output_table: &[u32]) {
+fn show(bytes: &[u8], node_table: &[u32], output_table: &[u32], locks: &[u8]) {
     print::bytes(bytes);
     print::words(node_table);
     print::words(output_table);
+    print::bytes(locks);
     print::end_line();
 }
 
-fn run(bytes: &mut [u8], node_table: &mut [u32], output_table: &mut [u32]) {
-    fill(bytes, node_table, output_table);
-    ops::call(read::word(), bytes, node_table, output_table);
-    show(bytes, node_table, output_table);
+fn run(bytes: &mut [u8], node_table: &mut [u32], output_table: &mut [u32], locks: &mut [u8]) {
+    fill(bytes, node_table, output_table, locks);
+    ops::call(read::word(), bytes, node_table, output_table, locks);
+    show(bytes, node_table, output_table, locks);
 }
 
 // The lengths of a case read, and so much of each slice lent.
-fn lend(bytes: &mut [u8], node_table: &mut [u32], output_table: &mut [u32]) {
+fn lend(bytes: &mut [u8], node_table: &mut [u32], output_table: &mut [u32], locks: &mut [u8]) {
     let byte_end = read::room_bytes(read::size(), bytes);
     let node_end = read::room_words(read::size(), node_table);
     let output_end = read::room_words(read::size(), output_table);
+    let lock_end = read::room_bytes(read::size(), locks);
     run(
         &mut bytes[..byte_end],
         &mut node_table[..node_end],
         &mut output_table[..output_end],
+        &mut locks[..lock_end],
     );
 }
 
@@ -48,7 +52,8 @@ fn run_case() -> bool {
     let mut bytes = [165u8; 65536];
     let mut node_table = [0u32; 4096];
     let mut output_table = [0u32; 4352];
-    lend(&mut bytes, &mut node_table, &mut output_table);
+    let mut locks = [0u8; 2048];
+    lend(&mut bytes, &mut node_table, &mut output_table, &mut locks);
     true
 }
 

@@ -4,14 +4,20 @@ use crate::print;
 use crate::read;
 use answers::told;
 
-pub fn call(op: u32, bytes: &mut [u8], node_table: &mut [u32], output_table: &mut [u32]) {
+pub fn call(
+    op: u32,
+    bytes: &mut [u8],
+    node_table: &mut [u32],
+    output_table: &mut [u32],
+    locks: &mut [u8],
+) {
     match op {
-        1 => admit(node_table, output_table),
-        2 => count(node_table, output_table),
+        1 => admit(node_table, output_table, locks),
+        2 => count(node_table, output_table, locks),
         3 => field(bytes),
-        4 => load(bytes, node_table, output_table),
-        5 => write(bytes, node_table, output_table),
-        _ => listing::list(bytes, node_table, output_table),
+        4 => load(bytes, node_table, output_table, locks),
+        5 => write(bytes, node_table, output_table, locks),
+        _ => listing::list(bytes, node_table, output_table, locks),
     }
 }
 
@@ -22,24 +28,26 @@ fn admission(answer: graph::Admission) -> u32 {
     }
 }
 
-fn admit(node_table: &[u32], output_table: &[u32]) {
+fn admit(node_table: &[u32], output_table: &[u32], locks: &[u8]) {
     let answer = graph::admit_graph(
         read::word(),
         read::word(),
         read::word(),
         node_table,
         output_table,
+        locks,
     );
     print::answer(admission(answer), [0; 3]);
 }
 
-fn count(node_table: &[u32], output_table: &[u32]) {
+fn count(node_table: &[u32], output_table: &[u32], locks: &[u8]) {
     let answer = graph::complemented_edges(
         read::word(),
         read::word(),
         read::word(),
         node_table,
         output_table,
+        locks,
     );
     print::answer(
         told::count_number(answer),
@@ -52,21 +60,22 @@ fn field(bytes: &[u8]) {
     print::answer(tagged_file::field_number(bytes), [0; 3]);
 }
 
-fn load(bytes: &[u8], node_table: &mut [u32], output_table: &mut [u32]) {
-    let answer = tagged_file::load(bytes, node_table, output_table);
+fn load(bytes: &[u8], node_table: &mut [u32], output_table: &mut [u32], locks: &mut [u8]) {
+    let answer = tagged_file::load(bytes, node_table, output_table, locks);
     print::answer(
         told::loaded_number(answer),
         told::loaded_told(answer, [0; 3]),
     );
 }
 
-fn write(buffer: &mut [u8], node_table: &[u32], output_table: &[u32]) {
+fn write(buffer: &mut [u8], node_table: &[u32], output_table: &[u32], locks: &[u8]) {
     let answer = tagged_file::write(
         read::word(),
         read::word(),
         read::word(),
         node_table,
         output_table,
+        locks,
         buffer,
     );
     print::answer(told::written_number(answer), [0; 3]);

@@ -8,9 +8,9 @@ use Rattle.graph.proofs.admit_graph.Tie as tie
 
 refused-by-requires : tie.Need-refused-by-requires
 refused-by-requires c κs =
-    let a = c .before .before .before .before .args in
+    let a = c .before .before .before .before .before .args in
     let g : Graph = graphOf (a .inputs) (a .nodes) (a .outputs) (a .node-table .now) (a .output-table .now) in
-    admission-range g _ (c .before .admission-number .ensures) (c .if1 .taken)
+    admission-range g (a .locks .now) _ (c .before .admission-number .ensures) (c .if1 .taken)
 
 returns : tie.Need-returns
 returns c =

@@ -12,9 +12,9 @@ use Rattle.graph.proofs.complemented_edges.Tie as tie
 
 refused-by-requires : tie.Need-refused-by-requires
 refused-by-requires c κs =
-    let a = c .before .before .before .before .args in
+    let a = c .before .before .before .before .before .args in
     let g : Graph = graphOf (a .inputs) (a .nodes) (a .outputs) (a .node-table .now) (a .output-table .now) in
-    admission-range g _ (c .before .admission-number .ensures) (c .if1 .taken)
+    admission-range g (a .locks .now) _ (c .before .admission-number .ensures) (c .if1 .taken)
 
 returns : tie.Need-returns
 returns c =
@@ -22,7 +22,7 @@ returns c =
     refused-is _ _ _ (c .refused-by .ensures ∙ e) (λ z. c .before .if1 .taken (e ∙ z))
 
 complemented-requires : tie.Need-complemented-requires
-complemented-requires c κs = admitted _ (sym (c .before .admission-number .ensures) ∙ c .if1 .left)
+complemented-requires c κs = admitted _ _ (sym (c .before .admission-number .ensures) ∙ c .if1 .left)
 
 returns-2 : tie.Need-returns-2
 returns-2 c =

@@ -10,19 +10,19 @@ use Rattle.node_call.proofs.pair_call.Tie as tie
 
 refused-by-requires : tie.Need-refused-by-requires
 refused-by-requires c κs =
-    let s = c .before .before .before .before .before .before in
+    let s = c .before .before .before .before .before .before .before in
     let a = s .args in
     let g : Graph = graphOf (a .inputs) (a .nodes) (a .outputs) (a .node-table .now) (a .output-table .now) in
-    pair-range g (a .node) (a .word) _ (c .before .pair-number .ensures) (c .if1 .taken)
+    pair-range g (a .locks .now) (a .node) (a .word) _ (c .before .pair-number .ensures) (c .if1 .taken)
 
 returns : tie.Need-returns
 unfolding pairCall
 returns c =
-    let s = c .before .before .before .before .before .before .before in
+    let s = c .before .before .before .before .before .before .before .before in
     let a = s .args in
     let g : Graph = graphOf (a .inputs) (a .nodes) (a .outputs) (a .node-table .now) (a .output-table .now) in
     let e = c .before .before .pair-number .ensures in
-    refused-outcome _ (pairNumber g (a .node) (a .word)) g (pairRewrite g (a .node) (a .word)) (c .refused-by .ensures ∙ e) (λ z. c .before .if1 .taken (e ∙ z))
+    refused-outcome _ (pairNumber g (a .locks .now) (a .node) (a .word)) g (pairRewrite g (a .locks .now) (a .node) (a .word)) (c .refused-by .ensures ∙ e) (λ z. c .before .if1 .taken (e ∙ z))
 
 rewrite-named-requires : tie.Need-rewrite-named-requires
 rewrite-named-requires c κs = sym (c .before .before .before .pair-number .ensures) ∙ c .before .before .if1 .left
@@ -30,10 +30,10 @@ rewrite-named-requires c κs = sym (c .before .before .before .pair-number .ensu
 returns-2 : tie.Need-returns-2
 unfolding pairCall
 returns-2 c =
-    let s = c .before .before .before .before .before .before .before .before .before .before .before .before .before in
+    let s = c .before .before .before .before .before .before .before .before .before .before .before .before .before .before in
     let a = s .args in
     let g : Graph = graphOf (a .inputs) (a .nodes) (a .outputs) (a .node-table .now) (a .output-table .now) in
-    c .before .before .before .before .rewrite-named .ensures ∙ accepted-outcome (pairNumber g (a .node) (a .word)) g (pairRewrite g (a .node) (a .word)) (sym (c .before .before .before .before .before .before .before .before .pair-number .ensures) ∙ c .before .before .before .before .before .before .before .if1 .left)
+    c .before .before .before .before .rewrite-named .ensures ∙ accepted-outcome (pairNumber g (a .locks .now) (a .node) (a .word)) g (pairRewrite g (a .locks .now) (a .node) (a .word)) (sym (c .before .before .before .before .before .before .before .before .pair-number .ensures) ∙ c .before .before .before .before .before .before .before .if1 .left)
 
 pub pair-call-spec : {M : Type 1} → statement M
 pair-call-spec =

@@ -15,8 +15,8 @@ graph s = let a = s .args in graphOf (a .inputs) (a .nodes) (a .outputs) (a .nod
 
 refused-by-requires : tie.Need-refused-by-requires
 refused-by-requires c κs =
-    let s = c .before .before .before .before in
-    pair-range (graph s) (s .args .node) (s .args .word) _ (c .before .pair-number .ensures) (c .if1 .taken)
+    let s = c .before .before .before .before .before in
+    pair-range (graph s) (s .args .locks .now) (s .args .node) (s .args .word) _ (c .before .pair-number .ensures) (c .if1 .taken)
 
 returns : tie.Need-returns
 unfolding trialCall
@@ -32,9 +32,9 @@ returns-2 : tie.Need-returns-2
 unfolding trialCall
 returns-2 c =
     let n = c .before .before in
-    let s = n .before .before .before in
+    let s = n .before .before .before .before in
     let a = s .args in
-    accepted-trial (pairNumber (graph s) (a .node) (a .word)) (trialSaving (graph s) (a .node) (a .word) (a .named-move) (a .node-move)) _
+    accepted-trial (pairNumber (graph s) (s .args .locks .now) (a .node) (a .word)) (trialSaving (graph s) (s .args .locks .now) (a .node) (a .word) (a .named-move) (a .node-move)) _
     (read-as _ (c .named-saving .ok) ∙ c .named-saving .ensures) (sym (n .pair-number .ensures) ∙ c .before .if1 .left)
 
 pub trial-spec : {M : Type 1} → statement M

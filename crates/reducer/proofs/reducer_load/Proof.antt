@@ -1,6 +1,6 @@
 -- `reducer_load` meets its contract. From those of `load` and of its answer's number and values.
 use mathlib.Core.Path.{ap, _∙_}
-use Rattle.graph.specs.Answer.{Outcome}
+use Rattle.graph.specs.Answer.{LockedOutcome}
 use Rattle.answers.proofs.Same.{same-told}
 use Rattle.reducer.proofs.Left.{loaded-nodes, loaded-outputs}
 use borrow.Author.Needs.{needs}
@@ -9,14 +9,14 @@ use Rattle.reducer.proofs.reducer_load.Tie as tie
 
 returns : tie.Need-returns
 returns c =
-    let l = c .before .before .before .before .before .before .before .load in
+    let l = c .before .before .before .before .before .before .before .before .before .load in
     let e = l .ensures in (
-      c .loaded-number .ensures ∙ ap (λ (o : Outcome). o .answer .number) e,
+      c .loaded-number .ensures ∙ ap (λ (o : LockedOutcome). o .answer .number) e,
       (
-        loaded-nodes (l .result) _ _ ∙ ap (λ (o : Outcome). o .graph .nodes) e,
+        loaded-nodes (l .result) _ _ ∙ ap (λ (o : LockedOutcome). o .graph .nodes) e,
         (
-          loaded-outputs (l .result) _ _ ∙ ap (λ (o : Outcome). o .graph .outputs) e,
-          c .before .loaded-told .ensures ∙ same-told _ (ap (λ (o : Outcome). o .answer) e),
+          loaded-outputs (l .result) _ _ ∙ ap (λ (o : LockedOutcome). o .graph .outputs) e,
+          (ap (λ (o : LockedOutcome). o .locks) e, c .before .loaded-told .ensures ∙ same-told _ (ap (λ (o : LockedOutcome). o .answer) e)),
         ),
       ),
     )
@@ -28,6 +28,7 @@ reducer-load-spec =
     (λ c κs. search needs)
     (λ c κs. search needs)
     (λ c κs. search needs)
+    (λ c. search needs)
     (λ c. search needs)
     (λ c. search needs)
     returns)

@@ -1,6 +1,6 @@
 -- `reducer_replay` meets its contract. From those of `replay` and of its answer's number and values.
 use mathlib.Core.Path.{sym, ap, _∙_}
-use Rattle.graph.specs.Answer.{Outcome}
+use Rattle.graph.specs.Answer.{LockedOutcome}
 use Rattle.answers.proofs.Same.{same-told}
 use Rattle.reducer.proofs.Left.{same-kept, replayed-nodes, replayed-outputs, replayed-demand}
 use borrow.Author.Needs.{needs}
@@ -9,22 +9,25 @@ use Rattle.reducer.proofs.reducer_replay.Tie as tie
 
 returns : tie.Need-returns
 returns c =
-    let p = c .before .before .before .before .before .before .before .before .before .before .replay in
+    let p = c .before .before .before .before .before .before .before .before .before .before .before .before .replay in
     let e = p .ensures .0 in
-    let s = ap (λ (o : Outcome). o .answer) e in
+    let s = ap (λ (o : LockedOutcome). o .answer) e in
     let t = c .before .replayed-told .ensures in (
-      c .replayed-number .ensures ∙ ap (λ (o : Outcome). o .answer .number) e,
+      c .replayed-number .ensures ∙ ap (λ (o : LockedOutcome). o .answer .number) e,
       (
-        replayed-nodes (p .result) _ _ ∙ ap (λ (o : Outcome). o .graph .nodes) e,
+        replayed-nodes (p .result) _ _ ∙ ap (λ (o : LockedOutcome). o .graph .nodes) e,
         (
-          replayed-outputs (p .result) _ _ ∙ ap (λ (o : Outcome). o .graph .outputs) e,
+          replayed-outputs (p .result) _ _ ∙ ap (λ (o : LockedOutcome). o .graph .outputs) e,
           (
-            t ∙ same-told _ s,
+            ap (λ (o : LockedOutcome). o .locks) e,
             (
-              p .ensures .1 .0,
+              t ∙ same-told _ s,
               (
-                same-kept _ _ s (p .ensures .1 .1 .0),
-                λ z. replayed-demand (p .result) _ _ _ _ _ _ _ t (p .ensures .1 .1 .1) (sym (c .replayed-number .ensures) ∙ z),
+                p .ensures .1 .0,
+                (
+                  same-kept _ _ s (p .ensures .1 .1 .0),
+                  λ z. replayed-demand (p .result) _ _ _ _ _ _ _ _ t (p .ensures .1 .1 .1) (sym (c .replayed-number .ensures) ∙ z),
+                ),
               ),
             ),
           ),
@@ -39,6 +42,7 @@ reducer-replay-spec =
     (λ c κs. search needs)
     (λ c κs. search needs)
     (λ c κs. search needs)
+    (λ c. search needs)
     (λ c. search needs)
     (λ c. search needs)
     (λ c. search needs)

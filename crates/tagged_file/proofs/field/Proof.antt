@@ -14,10 +14,10 @@ unfolding fieldPayload
 returns c = unequal _ _ _ _ (λ e. omega arith) refl
 
 two-requires : tie.Need-two-requires
-two-requires c κs = omega (arith, due-is 1 5 (now (c .before .before .before .args .bytes)) (omega arith))
+two-requires c κs = omega (arith, due-is 1 6 (now (c .before .before .before .args .bytes)) (omega arith))
 
 part-result-end : tie.Need-part-result-end
-part-result-end c = omega (arith, due-is 1 5 (now (c .before .before .before .before .args .bytes)) (omega arith))
+part-result-end c = omega (arith, due-is 1 6 (now (c .before .before .before .before .args .bytes)) (omega arith))
 
 returns-2 : tie.Need-returns-2
 unfolding fieldPayload

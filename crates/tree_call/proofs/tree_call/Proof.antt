@@ -11,39 +11,39 @@ use Rattle.tree_call.proofs.tree_call.Tie as tie
 
 refused-by-requires : tie.Need-refused-by-requires
 refused-by-requires c κs =
-    let st = c .before .before .before .before .before .before .before in
-    let a = st .args in
-    let g : Graph = graphOf (a .inputs) (a .nodes) (a .outputs) (a .node-table .now) (a .output-table .now) in
-    tree-range g (length (a .scratch .now)) (a .root) (c .before .tree-number .result) (c .before .tree-number .ensures) (c .if1 .taken)
-
-returns : tie.Need-returns
-returns c =
     let st = c .before .before .before .before .before .before .before .before in
     let a = st .args in
     let g : Graph = graphOf (a .inputs) (a .nodes) (a .outputs) (a .node-table .now) (a .output-table .now) in
+    tree-range g (a .locks .now) (length (a .scratch .now)) (a .root) (c .before .tree-number .result) (c .before .tree-number .ensures) (c .if1 .taken)
+
+returns : tie.Need-returns
+returns c =
+    let st = c .before .before .before .before .before .before .before .before .before in
+    let a = st .args in
+    let g : Graph = graphOf (a .inputs) (a .nodes) (a .outputs) (a .node-table .now) (a .output-table .now) in
     let q = c .refused-by .ensures in
-    (refused-call g (length (a .scratch .now)) (a .root) _ (q ∙ c .before .before .tree-number .ensures) (λ z. c .before .if1 .taken (sym q ∙ z)), λ z. refl)
+    (refused-call g (a .locks .now) (length (a .scratch .now)) (a .root) _ (q ∙ c .before .before .tree-number .ensures) (λ z. c .before .if1 .taken (sym q ∙ z)), λ z. refl)
 
 rewrite-tree-requires : tie.Need-rewrite-tree-requires
 rewrite-tree-requires c κs =
-    let st = c .before .before .before .before .before .before .before .before .before .before in
+    let st = c .before .before .before .before .before .before .before .before .before .before .before in
     let a = st .args in
     let g : Graph = graphOf (a .inputs) (a .nodes) (a .outputs) (a .node-table .now) (a .output-table .now) in
     let n : ℕ = c .before .before .before .before .tree-number .result in
-    let e : n ≡ treeNumber g (length (a .scratch .now)) (a .root) = c .before .before .before .before .tree-number .ensures in
+    let e : n ≡ treeNumber g (a .locks .now) (length (a .scratch .now)) (a .root) = c .before .before .before .before .tree-number .ensures in
     let z : n ≡ 0 = c .before .before .before .if1 .left in
-    accepted-by g (length (a .scratch .now)) (a .root) (sym e ∙ z)
+    accepted-by g (a .locks .now) (length (a .scratch .now)) (a .root) (sym e ∙ z)
 
 returns-2 : tie.Need-returns-2
 returns-2 c =
-    let st = c .before .before .before .before .before .before .before .before .before .before .before .before .before .before .before .before .before in
+    let st = c .before .before .before .before .before .before .before .before .before .before .before .before .before .before .before .before .before .before in
     let a = st .args in
     let g : Graph = graphOf (a .inputs) (a .nodes) (a .outputs) (a .node-table .now) (a .output-table .now) in
     let n : ℕ = c .before .before .before .before .before .before .before .before .before .before .before .tree-number .result in
-    let e : n ≡ treeNumber g (length (a .scratch .now)) (a .root) = c .before .before .before .before .before .before .before .before .before .before .before .tree-number .ensures in
+    let e : n ≡ treeNumber g (a .locks .now) (length (a .scratch .now)) (a .root) = c .before .before .before .before .before .before .before .before .before .before .before .tree-number .ensures in
     let z : n ≡ 0 = c .before .before .before .before .before .before .before .before .before .before .if1 .left in
     let t = c .before .before .before .before .before .before .rewrite-tree .ensures in
-    (accepted-call g (length (a .scratch .now)) (a .root) _ (sym e ∙ z) t, λ y. absurd (y (accepted-number g (a .root) _ _ t)))
+    (accepted-call g (a .locks .now) (length (a .scratch .now)) (a .root) _ (sym e ∙ z) t, λ y. absurd (y (accepted-number g (a .locks .now) (a .root) _ _ t)))
 
 pub tree-call-spec : {M : Type 1} → statement M
 tree-call-spec =

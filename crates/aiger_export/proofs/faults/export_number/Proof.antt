@@ -17,7 +17,7 @@ unfolding exportNumber
 returns-2 c = let i = c .before in none _ _ (sym (i .before .admission-number .ensures) ∙ i .if1 .left) (less _ _ _ _ (c .if2 .taken) refl)
 
 text-size-requires : tie.Need-text-size-requires
-text-size-requires c κs = let i = c .before in admitted _ (sym (i .before .admission-number .ensures) ∙ i .if1 .left)
+text-size-requires c κs = let i = c .before in admitted _ _ (sym (i .before .admission-number .ensures) ∙ i .if1 .left)
 
 returns-3 : tie.Need-returns-3
 unfolding exportNumber

@@ -9,7 +9,7 @@ use Rattle.aiger_import.proofs.header.read_header.Statement.{statement}
 use Rattle.aiger_import.proofs.header.read_header.Tie as tie
 
 returns : tie.Need-returns
-returns c = no-aag _ _ _ _ _ (c .no-header .ensures) (c .before .before .aag-number .ensures) (c .before .if1 .taken)
+returns c = no-aag _ _ _ _ _ _ (c .no-header .ensures) (c .before .before .aag-number .ensures) (c .before .if1 .taken)
 
 sub-read-line : tie.Need-sub-read-line
 sub-read-line c = omega (arith, aag-room (now (c .before .before .before .args .s)) (sym (c .before .aag-number .ensures) ∙ c .if1 .left))
@@ -21,14 +21,14 @@ returns-2 : tie.Need-returns-2
 returns-2 c =
     let r = c .before .before .before in
     let e = r .before .before .before in
-    no-line _ _ _ _ (sym (e .before .aag-number .ensures) ∙ e .if1 .left) _ _ (rest 4 (now (e .before .before .before .args .s))) _ _ (r .read-line .ensures) (c .no-header2 .ensures) (c .before .if2 .taken)
+    no-line _ _ _ _ _ (sym (e .before .aag-number .ensures) ∙ e .if1 .left) _ _ (rest 4 (now (e .before .before .before .args .s))) _ _ (r .read-line .ensures) (c .no-header2 .ensures) (c .before .if2 .taken)
 
 returns-3 : tie.Need-returns-3
 returns-3 c =
     let l = c .before .before in
     let r = l .before .before in
     let e = r .before .before .before in
-    has-latches _ _ _ _ (sym (e .before .aag-number .ensures) ∙ e .if1 .left) _ _ (rest 4 (now (e .before .before .before .args .s))) _ _ (r .read-line .ensures) (l .if2 .left) (c .no-header3 .ensures) (c .before .if3 .taken)
+    has-latches _ _ _ _ _ (sym (e .before .aag-number .ensures) ∙ e .if1 .left) _ _ (rest 4 (now (e .before .before .before .args .s))) _ _ (r .read-line .ensures) (l .if2 .left) (c .no-header3 .ensures) (c .before .if3 .taken)
 
 returns-4 : tie.Need-returns-4
 returns-4 c =
@@ -37,11 +37,11 @@ returns-4 c =
     let l = k .before in
     let r = l .before .before in
     let e = r .before .before .before in
-    wrong-m _ _ _ _ (sym (e .before .aag-number .ensures) ∙ e .if1 .left) _ _ (rest 4 (now (e .before .before .before .args .s))) _ _ (r .read-line .ensures) (l .if2 .left) (k .if3 .left) (c .no-header4 .ensures)
+    wrong-m _ _ _ _ _ (sym (e .before .aag-number .ensures) ∙ e .if1 .left) _ _ (rest 4 (now (e .before .before .before .args .s))) _ _ (r .read-line .ensures) (l .if2 .left) (k .if3 .left) (c .no-header4 .ensures)
     (λ y. c .before .if4 .taken (omega arith))
 
-add-t13 : tie.Need-add-t13
-add-t13 c =
+add-t14 : tie.Need-add-t14
+add-t14 c =
     let k = c .before .before .before .before .before .before in
     let l = k .before in
     let r = l .before .before in
@@ -55,7 +55,7 @@ returns-5 c =
     let l = k .before in
     let r = l .before .before in
     let e = r .before .before .before in
-    whole _ _ _ _ (sym (e .before .aag-number .ensures) ∙ e .if1 .left) _ _ (rest 4 (now (e .before .before .before .args .s))) _ _ (r .read-line .ensures) (l .if2 .left) (k .if3 .left)
+    whole _ _ _ _ _ (sym (e .before .aag-number .ensures) ∙ e .if1 .left) _ _ (rest 4 (now (e .before .before .before .args .s))) _ _ (r .read-line .ensures) (l .if2 .left) (k .if3 .left)
     (omega arith) (c .before .room-number .ensures) refl refl refl refl
 
 pub read-header-spec : {M : Type 1} → statement M
@@ -86,5 +86,5 @@ read-header-spec =
     (λ c κs. search needs)
     returns-4
     (λ c κs. search needs)
-    add-t13
+    add-t14
     returns-5)

@@ -12,13 +12,13 @@ use Rattle.evaluation.proofs.faults.evaluate_number.Statement.{statemen
 use Rattle.evaluation.proofs.faults.evaluate_number.Tie as tie
 
 -- what each test that was passed has shown
-room-held : (c : tie.Else1) → let a = c .before .before .before .before .args in tablesNumber (graphOf (a .inputs) (a .nodes) (a .outputs) (a .node-table .now) (a .output-table .now)) ≡ 0
+room-held : (c : tie.Else1) → let a = c .before .before .before .before .before .args in tablesNumber (graphOf (a .inputs) (a .nodes) (a .outputs) (a .node-table .now) (a .output-table .now)) (a .locks .now) ≡ 0
 unfolding tablesNumber
 room-held c = sym (c .before .room-number .ensures) ∙ c .if1 .left
 
-slices-held : (c : tie.Else3) → let a = c .before .before .before .before .before .before .args in sliceNumber (graphOf (a .inputs) (a .nodes) (a .outputs) (a .node-table .now) (a .output-table .now)) (a .words) (a .results) ≡ 0
+slices-held : (c : tie.Else3) → let a = c .before .before .before .before .before .before .before .args in sliceNumber (graphOf (a .inputs) (a .nodes) (a .outputs) (a .node-table .now) (a .output-table .now)) (a .words) (a .results) ≡ 0
 slices-held c =
-    let a = c .before .before .before .before .before .before .args in
+    let a = c .before .before .before .before .before .before .before .args in
     long-slices (graphOf (a .inputs) (a .nodes) (a .outputs) (a .node-table .now) (a .output-table .now)) (a .words) (a .results) (c .before .if2 .left) (c .if3 .left)
 
 returns : tie.Need-returns
@@ -29,7 +29,7 @@ returns-2 : tie.Need-returns-2
 unfolding evaluateNumber
 returns-2 c =
     let t = c .before in
-    let a = t .before .before .before .before .args in
+    let a = t .before .before .before .before .before .args in
     none _ _ (room-held t)
     (met _ _ (omega arith) (short-words (graphOf (a .inputs) (a .nodes) (a .outputs) (a .node-table .now) (a .output-table .now)) (a .words) (a .results) (c .if2 .taken)))
 
@@ -37,12 +37,12 @@ returns-3 : tie.Need-returns-3
 unfolding evaluateNumber
 returns-3 c =
     let t = c .before .before in
-    let a = t .before .before .before .before .args in
+    let a = t .before .before .before .before .before .args in
     none _ _ (room-held t)
     (met _ _ (omega arith) (short-results (graphOf (a .inputs) (a .nodes) (a .outputs) (a .node-table .now) (a .output-table .now)) (a .words) (a .results) (c .before .if2 .left) (c .if3 .taken)))
 
-literal-number-requires : tie.Need-literal-number-requires
-literal-number-requires c κs = room-held (c .before .before)
+content-number-requires : tie.Need-content-number-requires
+content-number-requires c κs = room-held (c .before .before)
 
 returns-4 : tie.Need-returns-4
 unfolding evaluateNumber scratchNumber
@@ -50,7 +50,7 @@ returns-4 c =
     let f = c .before in
     let s = f .before .before in
     none _ _ (room-held (s .before .before)) (none _ _ (slices-held s)
-    (c .first-fault .ensures ∙ ap₂ first (f .before .literal-number .ensures) (f .scratch-number .ensures)))
+    (c .first-fault .ensures ∙ ap₂ first (f .before .content-number .ensures) (f .scratch-number .ensures)))
 
 pub evaluate-number-spec : {M : Type 1} → statement M
 evaluate-number-spec =
@@ -60,7 +60,7 @@ evaluate-number-spec =
     returns
     returns-2
     returns-3
-    literal-number-requires
+    content-number-requires
     (λ c κs. search needs)
     (λ c κs. search needs)
     returns-4)

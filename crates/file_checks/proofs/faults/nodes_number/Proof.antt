@@ -11,7 +11,7 @@ use Rattle.file_checks.proofs.faults.nodes_number.Statement.{statement}
 use Rattle.file_checks.proofs.faults.nodes_number.Tie as tie
 
 abbrev Inv-loop : tie.InvT-loop
-Inv-loop bytes start n o s₀ index₀ left₀ s index left = (nodeFieldsNumber left o s index ≡ nodeFieldsNumber n o bytes start) × (index + left ≡ start + n)
+Inv-loop bytes start n o s₀ index₀ left₀ s index left = (nodeFieldsNumber left o s start index ≡ nodeFieldsNumber n o bytes start start) × (index + left ≡ start + n)
 
 abbrev μ-loop : tie.MeasureT-loop
 μ-loop bytes start n o s₀ index₀ left₀ s index left = left
@@ -20,7 +20,7 @@ loop-holds : tie.Need-loop-holds Inv-loop μ-loop
 loop-holds c = (refl, refl)
 
 returns : tie.Need-returns Inv-loop μ-loop
-returns c = let l = c .before .before .before .loop in stops _ _ (l .inv .0) (nodes-step (l .left) _ (now (l .s)) _ (omega arith)) (c .before .node-number .ensures) (c .if1 .taken)
+returns c = let l = c .before .before .before .loop in stops _ _ (l .inv .0) (nodes-step (l .left) _ (now (l .s)) _ _ (omega arith)) (c .before .node-number .ensures) (c .if1 .taken)
 
 node-size-requires : tie.Need-node-size-requires Inv-loop μ-loop
 node-size-requires c κs = let l = c .before .before .before .loop in omega (arith, node-passed (now (l .s)) (l .index) (omega arith))
@@ -32,10 +32,10 @@ part-s-start : tie.Need-part-s-start Inv-loop μ-loop
 part-s-start c = let l = c .before .before .before .before .loop in omega (arith, node-passed (now (l .s)) (l .index) (omega arith))
 
 loop-again : tie.Need-loop-again Inv-loop μ-loop
-loop-again c = let l = c .before .before .before .before .before .loop in (rw (rest-at (c .before .node-size .result) (nodeSize (now (l .s))) (now (l .s)) (omega arith)) (goes _ _ (l .inv .0) (nodes-step (l .left) _ (now (l .s)) _ (omega arith)) (omega arith)), omega arith)
+loop-again c = let l = c .before .before .before .before .before .loop in (rw (rest-at (c .before .node-size .result) (nodeSize (now (l .s))) (now (l .s)) (omega arith)) (goes _ _ (l .inv .0) (nodes-step (l .left) _ (now (l .s)) _ _ (omega arith)) (omega arith)), omega arith)
 
 returns-2 : tie.Need-returns-2 Inv-loop μ-loop
-returns-2 c = let l = c .before .before .loop in c .outputs-number .ensures ∙ sym (nodes-done (l .left) _ (now (l .s)) _ (omega arith)) ∙ l .inv .0
+returns-2 c = let l = c .before .before .loop in c .outputs-number .ensures ∙ sym (nodes-done (l .left) _ (now (l .s)) _ _ (omega arith)) ∙ l .inv .0
 
 pub nodes-number-spec : {M : Type 1} → statement M
 nodes-number-spec =

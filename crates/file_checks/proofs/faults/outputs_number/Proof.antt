@@ -12,28 +12,28 @@ use Rattle.file_checks.proofs.faults.outputs_number.Statement.{statemen
 use Rattle.file_checks.proofs.faults.outputs_number.Tie as tie
 
 abbrev Inv-loop : tie.InvT-loop
-Inv-loop bytes index o s₀ left₀ s left = outputFieldsNumber left s index ≡ outputFieldsNumber o bytes index
+Inv-loop bytes start top o s₀ left₀ s left = outputFieldsNumber left s start top ≡ outputFieldsNumber o bytes start top
 
 abbrev μ-loop : tie.MeasureT-loop
-μ-loop bytes index o s₀ left₀ s left = left
+μ-loop bytes start top o s₀ left₀ s left = left
 
 loop-holds : tie.Need-loop-holds Inv-loop μ-loop
 loop-holds c = refl
 
 returns : tie.Need-returns Inv-loop μ-loop
-returns c = let l = c .before .before .before .loop in stops _ _ (l .inv) (outputs-step (l .left) (now (l .s)) _ (omega arith)) (c .before .output-number .ensures) (c .if1 .taken)
+returns c = let l = c .before .before .before .loop in stops _ _ (l .inv) (outputs-step (l .left) (now (l .s)) _ _ (omega arith)) (c .before .output-number .ensures) (c .if1 .taken)
 
 sub-s : tie.Need-sub-s Inv-loop μ-loop
-sub-s c = let l = c .before .before .before .loop in omega (arith, out-passed (now (l .s)) (c .before .before .before .before .before .args .index) (omega arith))
+sub-s c = let l = c .before .before .before .loop in omega (arith, out-passed (now (l .s)) (c .before .before .before .before .before .args .top) (omega arith))
 
 part-s-start : tie.Need-part-s-start Inv-loop μ-loop
-part-s-start c = let l = c .before .before .before .loop in omega (arith, out-passed (now (l .s)) (c .before .before .before .before .before .args .index) (omega arith))
+part-s-start c = let l = c .before .before .before .loop in omega (arith, out-passed (now (l .s)) (c .before .before .before .before .before .args .top) (omega arith))
 
 loop-again : tie.Need-loop-again Inv-loop μ-loop
-loop-again c = let l = c .before .before .before .before .loop in rw (rest 7 (now (l .s))) (goes _ _ (l .inv) (outputs-step (l .left) (now (l .s)) _ (omega arith)) (omega arith))
+loop-again c = let l = c .before .before .before .before .loop in rw (rest 7 (now (l .s))) (goes _ _ (l .inv) (outputs-step (l .left) (now (l .s)) _ _ (omega arith)) (omega arith))
 
 returns-2 : tie.Need-returns-2 Inv-loop μ-loop
-returns-2 c = let l = c .before .before .loop in c .end-number .ensures ∙ sym (outputs-done (l .left) (now (l .s)) _ (omega arith)) ∙ l .inv
+returns-2 c = let l = c .before .before .loop in c .locks-number .ensures ∙ sym (outputs-done (l .left) (now (l .s)) _ _ (omega arith)) ∙ l .inv
 
 pub outputs-number-spec : {M : Type 1} → statement M
 outputs-number-spec =

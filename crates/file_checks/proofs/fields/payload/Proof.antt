@@ -29,7 +29,11 @@ returns-5 c = (unequal _ _ _ _ (λ e. omega arith) (unequal _ _ _ _ (λ e. omega
 
 returns-6 : tie.Need-returns-6
 unfolding payloadOf
-returns-6 c = (unequal _ _ _ _ (c .match .rest .0 .0 .0 .0 .1) (unequal _ _ _ _ (c .match .rest .0 .0 .0 .1) (unequal _ _ _ _ (c .match .rest .0 .0 .1) (unequal _ _ _ _ (c .match .rest .0 .1) (unequal _ _ _ _ (c .match .rest .1) (refl))))), lit≤ tt)
+returns-6 c = (unequal _ _ _ _ (λ e. omega arith) (unequal _ _ _ _ (λ e. omega arith) (unequal _ _ _ _ (λ e. omega arith) (unequal _ _ _ _ (λ e. omega arith) (unequal _ _ _ _ (λ e. omega arith) (equal _ _ _ _ (c .match .keys6) refl))))), lit≤ tt)
+
+returns-7 : tie.Need-returns-7
+unfolding payloadOf
+returns-7 c = (unequal _ _ _ _ (c .match .rest .0 .0 .0 .0 .0 .1) (unequal _ _ _ _ (c .match .rest .0 .0 .0 .0 .1) (unequal _ _ _ _ (c .match .rest .0 .0 .0 .1) (unequal _ _ _ _ (c .match .rest .0 .0 .1) (unequal _ _ _ _ (c .match .rest .0 .1) (unequal _ _ _ _ (c .match .rest .1) (refl)))))), lit≤ tt)
 
 pub payload-spec : {M : Type 1} → statement M
-payload-spec = tie.close (tie.spec returns returns-2 returns-3 returns-4 returns-5 returns-6)
+payload-spec = tie.close (tie.spec returns returns-2 returns-3 returns-4 returns-5 returns-6 returns-7)

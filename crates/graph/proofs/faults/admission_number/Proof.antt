@@ -10,14 +10,14 @@ returns : tie.Need-returns
 unfolding admissionNumber tablesNumber
 returns c = let e = c .before .room-number .ensures in fault _ _ e (λ z. c .if1 .taken (e ∙ z))
 
-literal-number-requires : tie.Need-literal-number-requires
+content-number-requires : tie.Need-content-number-requires
 unfolding tablesNumber
-literal-number-requires c κs = sym (c .before .room-number .ensures) ∙ c .if1 .left
+content-number-requires c κs = sym (c .before .room-number .ensures) ∙ c .if1 .left
 
 returns-2 : tie.Need-returns-2
 unfolding admissionNumber tablesNumber
-returns-2 c = none _ _ (sym (c .before .before .room-number .ensures) ∙ c .before .if1 .left) (c .literal-number .ensures)
+returns-2 c = none _ _ (sym (c .before .before .room-number .ensures) ∙ c .before .if1 .left) (c .content-number .ensures)
 
 pub admission-number-spec : {M : Type 1} → statement M
 admission-number-spec =
-    tie.close (tie.spec (λ c κs. search needs) returns literal-number-requires returns-2)
+    tie.close (tie.spec (λ c κs. search needs) returns content-number-requires returns-2)

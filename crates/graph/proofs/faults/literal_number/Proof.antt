@@ -2,14 +2,13 @@
 use mathlib.Core.Path.{sym, _∙_}
 use Rattle.graph.specs.Admission.{literalNumber}
 use Rattle.graph.proofs.Tests.{fault, none}
-use Rattle.graph.proofs.Admit.{tables-are}
 use Rattle.graph.proofs.faults.literal_number.Statement.{statement}
 use Rattle.graph.proofs.faults.literal_number.Tie as tie
 
 nodes-number-requires : tie.Need-nodes-number-requires
 nodes-number-requires c κs =
-    let r = tables-are _ (c .before .before .pre) in
-    (r .few-inputs, r .few-nodes, r .long-nodes)
+    let p = c .before .before .pre in
+    (p .0, p .1, p .2)
 
 returns : tie.Need-returns
 unfolding literalNumber
@@ -20,8 +19,8 @@ returns c =
 
 outputs-number-requires : tie.Need-outputs-number-requires
 outputs-number-requires c κs =
-    let r = tables-are _ (c .before .before .before .before .pre) in
-    (r .few-inputs, r .few-nodes, r .long-outputs)
+    let p = c .before .before .before .before .pre in
+    (p .0, p .1, p .3)
 
 returns-2 : tie.Need-returns-2
 unfolding literalNumber

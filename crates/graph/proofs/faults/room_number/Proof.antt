@@ -29,7 +29,11 @@ returns-5 c = no-less _ _ _ _ (omega arith) (no-less _ _ _ _ (omega arith) (no-l
 
 returns-6 : tie.Need-returns-6
 unfolding roomNumber
-returns-6 c = no-less _ _ _ _ (omega arith) (no-less _ _ _ _ (omega arith) (no-less _ _ _ _ (omega arith) (no-less _ _ _ _ (omega arith) (no-less _ _ _ _ (omega arith) refl))))
+returns-6 c = no-less _ _ _ _ (omega arith) (no-less _ _ _ _ (omega arith) (no-less _ _ _ _ (omega arith) (no-less _ _ _ _ (omega arith) (no-less _ _ _ _ (omega arith) (less _ _ _ _ (omega arith) refl)))))
+
+returns-7 : tie.Need-returns-7
+unfolding roomNumber
+returns-7 c = no-less _ _ _ _ (omega arith) (no-less _ _ _ _ (omega arith) (no-less _ _ _ _ (omega arith) (no-less _ _ _ _ (omega arith) (no-less _ _ _ _ (omega arith) (no-less _ _ _ _ (omega arith) refl)))))
 
 pub room-number-spec : {M : Type 1} → statement M
-room-number-spec = tie.close (tie.spec returns returns-2 returns-3 (λ c. search needs) returns-4 returns-5 returns-6)
+room-number-spec = tie.close (tie.spec returns returns-2 returns-3 (λ c. search needs) returns-4 returns-5 returns-6 returns-7)

@@ -3,8 +3,12 @@ use mathlib.Core.Path.{ap, _∙_}
 use native.Mathlib.Omega.{arith}
 use borrow.Author.Needs.{needs}
 use Rattle.moves.specs.Outside.{oddBy}
+use Rattle.moves.proofs.Moves.{moves-row}
 use Rattle.moves.proofs.gains.node_odds.Statement.{statement}
 use Rattle.moves.proofs.gains.node_odds.Tie as tie
+
+flag-of-requires : tie.Need-flag-of-requires
+flag-of-requires c κs = (moves-row _ _ _ (c .pre .0 .has) (c .pre .1), omega arith)
 
 returns : tie.Need-returns
 returns c =
@@ -19,4 +23,4 @@ returns c =
     }
 
 pub node-odds-spec : {M : Type 1} → statement M
-node-odds-spec = tie.close (tie.spec (λ c κs. search needs) (λ c κs. search needs) (λ c κs. search needs) returns)
+node-odds-spec = tie.close (tie.spec flag-of-requires (λ c κs. search needs) (λ c κs. search needs) returns)

@@ -4,8 +4,15 @@ use native.Mathlib.Omega.{arith}
 use borrow.Author.Needs.{needs}
 use Rattle.moves.specs.Outside.{oddBy, betweenBy, pairOdd}
 use Rattle.moves.specs.Rows.{flag}
+use Rattle.moves.proofs.Moves.{moves-row}
 use Rattle.moves.proofs.gains.pair_odds.Statement.{statement}
 use Rattle.moves.proofs.gains.pair_odds.Tie as tie
+
+flag-of-requires : tie.Need-flag-of-requires
+flag-of-requires c κs = (moves-row _ _ _ (c .pre .0 .has) (c .pre .2), omega arith)
+
+flag-of-requires-2 : tie.Need-flag-of-requires-2
+flag-of-requires-2 c κs = let s = c .before in (moves-row _ _ _ (s .pre .1 .has) (s .pre .3), omega arith)
 
 returns : tie.Need-returns
 unfolding pairOdd
@@ -32,8 +39,8 @@ pub pair-odds-spec : {M : Type 1} → statement M
 pair-odds-spec =
     tie.close
     (tie.spec
-    (λ c κs. search needs)
-    (λ c κs. search needs)
+    flag-of-requires
+    flag-of-requires-2
     (λ c κs. search needs)
     (λ c κs. search needs)
     (λ c. search needs)

@@ -14,14 +14,14 @@ returns c = fault _ _ (c .before .admission-number .ensures) (λ z. c .if1 .take
 
 node-fault-requires : tie.Need-node-fault-requires
 node-fault-requires c κs =
-    let a = c .before .before .before .before .args in
-    let d = admitted (graphOf (a .inputs) (a .nodes) (a .outputs) (a .node-table .now) (a .output-table .now)) (sym (c .before .admission-number .ensures) ∙ c .if1 .left) in
+    let a = c .before .before .before .before .before .args in
+    let d = admitted (graphOf (a .inputs) (a .nodes) (a .outputs) (a .node-table .now) (a .output-table .now)) (a .locks .now) (sym (c .before .admission-number .ensures) ∙ c .if1 .left) in
     (d .few-inputs, d .few-nodes)
 
 returns-2 : tie.Need-returns-2
 unfolding nodeNumber
 returns-2 c =
-    let a = c .before .before .before .before .before .args in
+    let a = c .before .before .before .before .before .before .args in
     none _ _ (sym (c .before .before .admission-number .ensures) ∙ c .before .if1 .left) (c .node-fault .ensures (a .outputs) (a .node-table .now) (a .output-table .now))
 
 pub node-number-spec : {M : Type 1} → statement M

@@ -11,34 +11,34 @@ use Rattle.node_call.proofs.faults.pair_number.Tie as tie
 
 returns : tie.Need-returns
 returns c =
-    let a = c .before .before .before .before .args in
+    let a = c .before .before .before .before .before .args in
     let e = c .before .node-number .ensures in
-    fault _ _ e (λ z. c .if1 .taken (e ∙ z)) ∙ sym (pair-is (graphOf (a .inputs) (a .nodes) (a .outputs) (a .node-table .now) (a .output-table .now)) (a .node) (a .word))
+    fault _ _ e (λ z. c .if1 .taken (e ∙ z)) ∙ sym (pair-is (graphOf (a .inputs) (a .nodes) (a .outputs) (a .node-table .now) (a .output-table .now)) (a .locks .now) (a .node) (a .word))
 
 add-v : tie.Need-add-v
 add-v c =
-    let a = c .before .before .before .before .args in
-    let d = node-accepted (graphOf (a .inputs) (a .nodes) (a .outputs) (a .node-table .now) (a .output-table .now)) (a .node) (sym (c .before .node-number .ensures) ∙ c .if1 .left) in
+    let a = c .before .before .before .before .before .args in
+    let d = node-accepted (graphOf (a .inputs) (a .nodes) (a .outputs) (a .node-table .now) (a .output-table .now)) (a .locks .now) (a .node) (sym (c .before .node-number .ensures) ∙ c .if1 .left) in
     omega (arith, d .admitted .few-inputs)
 
 sub-v : tie.Need-sub-v
 sub-v c =
-    let a = c .before .before .before .before .args in
-    let d = node-accepted (graphOf (a .inputs) (a .nodes) (a .outputs) (a .node-table .now) (a .output-table .now)) (a .node) (sym (c .before .node-number .ensures) ∙ c .if1 .left) in
+    let a = c .before .before .before .before .before .args in
+    let d = node-accepted (graphOf (a .inputs) (a .nodes) (a .outputs) (a .node-table .now) (a .output-table .now)) (a .locks .now) (a .node) (sym (c .before .node-number .ensures) ∙ c .if1 .left) in
     omega (arith, d .after)
 
 is-xor-requires : tie.Need-is-xor-requires
 is-xor-requires c κs =
-    let a = c .before .before .before .before .args in
-    let d = node-accepted (graphOf (a .inputs) (a .nodes) (a .outputs) (a .node-table .now) (a .output-table .now)) (a .node) (sym (c .before .node-number .ensures) ∙ c .if1 .left) in
+    let a = c .before .before .before .before .before .args in
+    let d = node-accepted (graphOf (a .inputs) (a .nodes) (a .outputs) (a .node-table .now) (a .output-table .now)) (a .locks .now) (a .node) (sym (c .before .node-number .ensures) ∙ c .if1 .left) in
     omega (arith, d .after, d .before, d .admitted .few-nodes, d .admitted .long-nodes)
 
 returns-2 : tie.Need-returns-2
 unfolding wordFault
 returns-2 c =
-    let a = c .before .before .before .before .before .before .args in
+    let a = c .before .before .before .before .before .before .before .args in
     let x = c .before .is-xor .ensures (a .inputs) (a .nodes) (a .outputs) (a .output-table .now) in
-    none _ _ (sym (c .before .before .before .node-number .ensures) ∙ c .before .before .if1 .left) (c .word-fault .ensures ∙ rw x) ∙ sym (pair-is (graphOf (a .inputs) (a .nodes) (a .outputs) (a .node-table .now) (a .output-table .now)) (a .node) (a .word))
+    none _ _ (sym (c .before .before .before .node-number .ensures) ∙ c .before .before .if1 .left) (c .word-fault .ensures ∙ rw x) ∙ sym (pair-is (graphOf (a .inputs) (a .nodes) (a .outputs) (a .node-table .now) (a .output-table .now)) (a .locks .now) (a .node) (a .word))
 
 pub pair-number-spec : {M : Type 1} → statement M
 pair-number-spec =

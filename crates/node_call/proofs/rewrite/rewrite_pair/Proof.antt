@@ -11,27 +11,27 @@ best-pair-requires : tie.Need-best-pair-requires
 best-pair-requires c κs =
     let two = c .before .before in
     let one = two .before .before .before in
-    let s = one .before .before .before .before .before in
+    let s = one .before .before .before .before .before .before in
     let a = s .args in
     let g : Graph = graphOf (a .inputs) (a .nodes) (a .outputs) (a .node-table .now) (a .output-table .now) in
     let p = one .numbers-of in
     let n = two .numbers-of2 in
     let w = c .which-name in
     let wn = w .ensures (a .inputs) (a .nodes) (a .outputs) (a .output-table .now) in
-    (counted g (a .p) (p .result) (s .pre .0) (p .ensures), counted g (a .v) (n .result) (s .pre .0) (n .ensures), naming-bits g (a .v) _ (w .result) wn)
+    (counted g (a .locks .now) (a .p) (p .result) (s .pre .0) (p .ensures), counted g (a .locks .now) (a .v) (n .result) (s .pre .0) (n .ensures), naming-bits g (a .v) _ (w .result) wn)
 
 pair-odds-requires : tie.Need-pair-odds-requires
 pair-odds-requires c κs =
     let three = c .before in
     let two = three .before .before in
     let one = two .before .before .before in
-    let s = one .before .before .before .before .before in
+    let s = one .before .before .before .before .before .before in
     let a = s .args in
     let g : Graph = graphOf (a .inputs) (a .nodes) (a .outputs) (a .node-table .now) (a .output-table .now) in
     let p = one .numbers-of in
     let n = two .numbers-of2 in
     let b = c .best-pair .ensures .greatest in
-    (counted g (a .p) (p .result) (s .pre .0) (p .ensures), counted g (a .v) (n .result) (s .pre .0) (n .ensures), b .below, b .fits)
+    (counted g (a .locks .now) (a .p) (p .result) (s .pre .0) (p .ensures), counted g (a .locks .now) (a .v) (n .result) (s .pre .0) (n .ensures), b .below, b .fits)
 
 make-moves-requires : tie.Need-make-moves-requires
 make-moves-requires c κs =
@@ -39,7 +39,7 @@ make-moves-requires c κs =
     let three = best .before in
     let two = three .before .before in
     let one = two .before .before .before in
-    let s = one .before .before .before .before .before in
+    let s = one .before .before .before .before .before .before in
     let a = s .args in
     let g : Graph = graphOf (a .inputs) (a .nodes) (a .outputs) (a .node-table .now) (a .output-table .now) in
     let p = one .numbers-of in
@@ -47,7 +47,7 @@ make-moves-requires c κs =
     let w = three .which-name in
     let h : a .p < a .nodes = omega (arith, s .pre .1, s .pre .2) in
     let wn = w .ensures (a .inputs) (a .nodes) (a .outputs) (a .output-table .now) in
-    let b = both-fit g (s .pre .0) (a .p) (a .v) (s .pre .1) (s .pre .2) (p .result) (n .result) (w .result) (p .ensures) (n .ensures) wn _ _ (best .best-pair .ensures .greatest) in
+    let b = both-fit g (a .locks .now) (s .pre .0) (a .p) (a .v) (s .pre .1) (s .pre .2) (p .result) (n .result) (w .result) (p .ensures) (n .ensures) wn _ _ (best .best-pair .ensures .greatest) in
     (s .pre .0, h, s .pre .2, b .0, b .1)
 
 returns : tie.Need-returns
@@ -58,7 +58,7 @@ returns c =
     let three = best .before in
     let two = three .before .before in
     let one = two .before .before .before in
-    let s = one .before .before .before .before .before in
+    let s = one .before .before .before .before .before .before in
     let a = s .args in
     let g : Graph = graphOf (a .inputs) (a .nodes) (a .outputs) (a .node-table .now) (a .output-table .now) in
     let p = one .numbers-of in
@@ -66,7 +66,7 @@ returns c =
     let w = three .which-name in
     let wn = w .ensures (a .inputs) (a .nodes) (a .outputs) (a .output-table .now) in
     let b = best .best-pair .ensures in
-    pair-outcome g (s .pre .0) (a .p) (a .v) (s .pre .1) (s .pre .2) (p .result) (n .result) (w .result) (p .ensures) (n .ensures) wn _ _ (b .greatest) _ _ (odds .pair-odds .result) (made .make-moves .ensures) (b .saving) (odds .pair-odds .ensures) _ (c .saved-by .ensures)
+    pair-outcome g (a .locks .now) (s .pre .0) (a .p) (a .v) (s .pre .1) (s .pre .2) (p .result) (n .result) (w .result) (p .ensures) (n .ensures) wn _ _ (b .greatest) _ _ (odds .pair-odds .result) (made .make-moves .ensures) (b .saving) (odds .pair-odds .ensures) _ (c .saved-by .ensures)
 
 pub rewrite-pair-spec : {M : Type 1} → statement M
 rewrite-pair-spec =

@@ -12,15 +12,15 @@ pair-saving-requires c κs =
     let three = c .before .before in
     let two = three .before in
     let one = two .before in
-    let s = one .before .before .before in
+    let s = one .before .before .before .before in
     let a = s .args in
     let g : Graph = graphOf (a .inputs) (a .nodes) (a .outputs) (a .node-table .now) (a .output-table .now) in
     let p = one .numbers-of in
     let n = two .numbers-of2 in
     let w = three .which-name in
     let wn = w .ensures (a .inputs) (a .nodes) (a .outputs) (a .output-table .now) in
-    let f = tried-fit g (s .pre .0) (a .p) (a .v) (s .pre .1) (s .pre .2) (p .result) (n .result) (w .result) (p .ensures) (n .ensures) wn (a .a) (a .k) _ _ (c .before .had .ensures) (c .had2 .ensures) in
-    (counted g (a .p) (p .result) (s .pre .0) (p .ensures), counted g (a .v) (n .result) (s .pre .0) (n .ensures), naming-bits g (a .v) _ (w .result) wn, f .0, f .1)
+    let f = tried-fit g (a .locks .now) (s .pre .0) (a .p) (a .v) (s .pre .1) (s .pre .2) (p .result) (n .result) (w .result) (p .ensures) (n .ensures) wn (a .a) (a .k) _ _ (c .before .had .ensures) (c .had2 .ensures) in
+    (counted g (a .locks .now) (a .p) (p .result) (s .pre .0) (p .ensures), counted g (a .locks .now) (a .v) (n .result) (s .pre .0) (n .ensures), naming-bits g (a .v) _ (w .result) wn, f .0, f .1)
 
 returns : tie.Need-returns
 returns c =
@@ -28,7 +28,7 @@ returns c =
     let three = had .before .before in
     let two = three .before in
     let one = two .before in
-    let s = one .before .before .before in
+    let s = one .before .before .before .before in
     let a = s .args in
     let g : Graph = graphOf (a .inputs) (a .nodes) (a .outputs) (a .node-table .now) (a .output-table .now) in
     let p = one .numbers-of in
@@ -37,7 +37,7 @@ returns c =
     let wn = w .ensures (a .inputs) (a .nodes) (a .outputs) (a .output-table .now) in
     read-as _ (c .pair-saving .ok)
     ∙ c .pair-saving .ensures
-    ∙ tried-saving g (s .pre .0) (a .p) (a .v) (s .pre .1) (s .pre .2) (p .result) (n .result) (w .result) (p .ensures) (n .ensures) wn (a .a) (a .k) _ _ (had .before .had .ensures) (had .had2 .ensures)
+    ∙ tried-saving g (a .locks .now) (s .pre .0) (a .p) (a .v) (s .pre .1) (s .pre .2) (p .result) (n .result) (w .result) (p .ensures) (n .ensures) wn (a .a) (a .k) _ _ (had .before .had .ensures) (had .had2 .ensures)
 
 pub pair-saving-spec : {M : Type 1} → statement M
 pair-saving-spec =

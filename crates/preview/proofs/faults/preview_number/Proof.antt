@@ -16,14 +16,14 @@ returns c = let e = c .before .room-number .ensures in fault _ _ e (λ z. c .if1
 returns-2 : tie.Need-returns-2
 unfolding previewNumber tablesNumber
 returns-2 c =
-    let a = c .before .before .before .before .before .args in
+    let a = c .before .before .before .before .before .before .args in
     let e = short-bytes (a .bytes) (a .nodes) (omega arith) in
     none _ _ (sym (c .before .before .room-number .ensures) ∙ c .before .if1 .left) (fault _ _ e (λ z. omega (arith, e, z)))
 
 returns-3 : tie.Need-returns-3
 unfolding previewNumber tablesNumber
 returns-3 c =
-    let a = c .before .before .before .before .before .before .args in
+    let a = c .before .before .before .before .before .before .before .args in
     let e = long-bytes (a .bytes) (a .nodes) (omega arith) in
     none _ _ (sym (c .before .before .before .room-number .ensures) ∙ c .before .before .if1 .left) (none _ _ (sym e) (c .tree-number .ensures))
 

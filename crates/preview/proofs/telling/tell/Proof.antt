@@ -12,16 +12,15 @@ use Rattle.graph.specs.Graph.{Graph, graphOf, mark, node, isXor}
 use Rattle.graph.proofs.Cases.{eq-or-ne, lt-or-le}
 use Rattle.moves.specs.Tree.{isRoot, rootOf}
 use Rattle.moves.proofs.Deciding.{arity-low}
-use Rattle.moves.proofs.Moves.{moves-of}
+use Rattle.moves.proofs.Moves.{kind-moves}
 use Rattle.moves.proofs.Readers.{rootOf-root, rootOf-above}
 use Rattle.graph.specs.Turned.{turnedBy}
 use Rattle.state.specs.State.{field, stands, Ordered}
 use Rattle.state.proofs.Alike.{alike-isRoot}
 use Rattle.state.proofs.Stands.{stands-alike}
-use Rattle.trees.specs.Deciding.{TreeDecided}
 use Rattle.trees.proofs.Ready.{Ready, ordered-ready}
 use Rattle.trees.proofs.Falling.{boundOf, bound-mark, bound-node, next-lower}
-use Rattle.preview.specs.Telling.{Told}
+use Rattle.preview.specs.Telling.{MovesStored, Told}
 use borrow.Author.Needs.{needs}
 use Rattle.preview.proofs.telling.tell.Statement.{statement}
 use Rattle.preview.proofs.telling.tell.Tie as tie
@@ -57,7 +56,7 @@ module _ (g : Graph) (sc : List ℕ) (o : Ordered g sc) (r : ℕ) (h : r < g .N)
         here = λ z. rw e (omega arith, own-root);
       }
 
-  module _ (td : TreeDecided k (node k r) sc) (bs₀ bs : List ℕ) (v : ℕ) (iv : Inv g sc r bs₀ bs v) (d : v ≢ mark) (w : ℕ) (e : w ≡ v) where
+  module _ (td : MovesStored k (node k r) sc) (bs₀ bs : List ℕ) (v : ℕ) (iv : Inv g sc r bs₀ bs v) (d : v ≢ mark) (w : ℕ) (e : w ≡ v) where
     low : w ≤ r
     low = rw e (iv .here d .0)
 
@@ -68,7 +67,7 @@ module _ (g : Graph) (sc : List ℕ) (o : Ordered g sc) (r : ℕ) (h : r < g .N)
     below = omega (arith, low, within)
 
     small : field sc w 4 < 256
-    small = omega (arith, td .permitted w below in-tree, moves-of k w, arity-low (isXor k w))
+    small = omega (arith, td w below in-tree, kind-moves k w, arity-low (isXor k w))
 
     again : (y x : ℕ) → y ≡ field sc w 4 → x ≡ field sc w 5 → w < length bs → Inv g sc r bs₀ (set bs w y) x × (boundOf x < boundOf v)
     again y x ey q l =
@@ -101,7 +100,7 @@ module _ (g : Graph) (sc : List ℕ) (o : Ordered g sc) (r : ℕ) (h : r < g .N)
       let b = bound-mark v e in
       record { same = iv .same; told = λ x l q. iv .told x (omega arith) l q; kept = λ j f. iv .kept j (λ a q. absurd (f a q)) }
 
-  as-stands : TreeDecided k (node g r) sc → TreeDecided k (node k r) sc
+  as-stands : MovesStored k (node g r) sc → MovesStored k (node k r) sc
   unfolding stands turnedBy
   as-stands td = td
 

@@ -9,22 +9,22 @@ use Rattle.replay.proofs.calls.one_call.Tie as tie
 returns : tie.Need-returns
 returns c =
     let n = c .before .before .before .before .before in
-    told-node _ _ _ _ _ _ (savingAnswer (n .node-call .result)) _ (n .before .before .before .if1 .taken) (n .node-call .ensures) (c .saving-answer .ensures)
+    told-node _ _ _ _ _ _ _ (savingAnswer (n .node-call .result)) _ (n .before .before .before .if1 .taken) (n .node-call .ensures) (c .saving-answer .ensures)
 
 returns-2 : tie.Need-returns-2
 returns-2 c =
     let p = c .before .before .before .before .before in
-    told-pair _ _ _ _ _ _ (savingAnswer (p .pair-call .result)) _ (p .before .before .before .before .if1 .left) (p .before .before .before .if2 .taken) (p .pair-call .ensures) (c .saving-answer2 .ensures)
+    told-pair _ _ _ _ _ _ _ (savingAnswer (p .pair-call .result)) _ (p .before .before .before .before .if1 .left) (p .before .before .before .if2 .taken) (p .pair-call .ensures) (c .saving-answer2 .ensures)
 
 returns-3 : tie.Need-returns-3
 returns-3 c =
     let t = c .before .before .before .before .before .before .before in
-    told-tree _ _ _ _ _ _ (savingAnswer (t .tree-call .result)) _ (t .before .before .before .before .before .before .if1 .left) (t .before .before .before .before .before .if2 .left) (t .before .before .before .before .if3 .taken) (t .tree-call .ensures .0) (c .saving-answer3 .ensures)
+    told-tree _ _ _ _ _ _ _ (savingAnswer (t .tree-call .result)) _ (t .before .before .before .before .before .before .if1 .left) (t .before .before .before .before .before .if2 .left) (t .before .before .before .before .if3 .taken) (t .tree-call .ensures .0) (c .saving-answer3 .ensures)
 
 returns-4 : tie.Need-returns-4
 returns-4 c =
     let s = c .before .before .before .before .before .before .before in
-    told-settling _ _ _ _ _ _ (settledAnswer (s .settle .result)) _ (s .before .before .before .before .before .before .if1 .left) (s .before .before .before .before .before .if2 .left) (s .before .before .before .before .if3 .left) (s .settle .ensures .0) (c .settled-answer .ensures)
+    told-settling _ _ _ _ _ _ _ (settledAnswer (s .settle .result)) _ (s .before .before .before .before .before .before .if1 .left) (s .before .before .before .before .before .if2 .left) (s .before .before .before .before .if3 .left) (s .settle .ensures .0) (c .settled-answer .ensures)
 
 pub one-call-spec : {M : Type 1} → statement M
 one-call-spec =

@@ -1,6 +1,6 @@
 -- `put_report` meets its contract: a loaded graph is settled, a refusal is a line. From the laws on outcomes.
 use mathlib.Core.Path.{refl, sym, ap, _∙_}
-use Rattle.graph.specs.Answer.{Outcome}
+use Rattle.graph.specs.Answer.{LockedOutcome}
 use Rattle.report.specs.Report.{settledFile, printed}
 use Rattle.report.proofs.Outcomes.{loaded-graph, loaded-refused, loaded-then, refused-then, refused-printed}
 use borrow.Author.Needs.{needs}
@@ -10,17 +10,17 @@ use Rattle.report.proofs.whole.put_report.Tie as tie
 returns : tie.Need-returns
 unfolding settledFile
 returns c =
-    let a = c .before .before .before .before .before .before .before .before .before .before .before .before .before .before .before .before .before .before .before .before .before .before .before .before .before .before .before .before .args in
-    let l = loaded-graph _ _ _ _ _ _ _ (c .before .before .before .before .before .before .before .before .before .before .before .before .before .before .inputs .given .1) (c .before .before .before .before .before .before .before .before .before .before .before .before .before .before .before .before .before .before .before .before .load .ensures) in (
+    let a = c .before .before .before .before .before .before .before .before .before .before .before .before .before .before .before .before .before .before .before .before .before .before .before .before .before .before .before .before .before .before .before .before .before .args in
+    let l = loaded-graph _ _ _ _ _ _ _ _ (c .before .before .before .before .before .before .before .before .before .before .before .before .before .before .before .inputs .given .1) (c .before .before .before .before .before .before .before .before .before .before .before .before .before .before .before .before .before .before .before .before .before .before .before .load .ensures) in (
       c .before .before .before .before .before .before .before .before .put-settling .ensures
-          ∙ ap (λ (x : Outcome). printed x (a .buffer .now)) (loaded-then _ _ _ _ l),
-      λ n. absurd (n (sym (ap (λ (o : Outcome). o .answer .number) l))),
+          ∙ ap (λ (x : LockedOutcome). printed x (a .buffer .now)) (loaded-then _ _ _ _ _ l),
+      λ n. absurd (n (sym (ap (λ (o : LockedOutcome). o .answer .number) l))),
     )
 
 returns-2 : tie.Need-returns-2
 unfolding settledFile
 returns-2 c = (
-  refused-printed _ _ _ _ _ (c .before .before .before .before .before .refusal .given .0 .0) (refused-then _ (c .before .before .before .before .before .refusal .given .0 .0) _ _ (loaded-refused _ _ _ _ _ (c .before .before .before .before .before .refusal .given .1) (c .before .before .before .before .before .before .before .before .before .before .before .load .ensures)))
+  refused-printed _ _ _ _ _ _ (c .before .before .before .before .before .refusal .given .0 .0) (refused-then _ (c .before .before .before .before .before .refusal .given .0 .0) _ _ _ (loaded-refused _ _ _ _ _ _ (c .before .before .before .before .before .refusal .given .1) (c .before .before .before .before .before .before .before .before .before .before .before .before .before .load .ensures)))
       (c .before .before .put-refused .ensures),
   λ n. refl,
 )
@@ -38,7 +38,9 @@ put-report-spec =
     (λ c. search needs)
     (λ c. search needs)
     (λ c. search needs)
+    (λ c. search needs)
     returns
+    (λ c. search needs)
     (λ c. search needs)
     (λ c. search needs)
     (λ c. search needs)

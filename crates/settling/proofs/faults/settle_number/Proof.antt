@@ -15,7 +15,7 @@ graph-of s = graphOf (s .args .inputs) (s .args .nodes) (s .args .outputs) (s .a
 
 returns : tie.Need-returns
 unfolding settleNumber scratchFault
-returns c = let e = c .before .admission-number .ensures in (fault _ _ e (λ z. c .if1 .taken (e ∙ z)), omega (arith, e, admission-le (graph-of (c .before .before .before .before))))
+returns c = let e = c .before .admission-number .ensures in (fault _ _ e (λ z. c .if1 .taken (e ∙ z)), omega (arith, e, admission-le (graph-of (c .before .before .before .before .before)) (c .before .before .before .before .before .args .locks .now)))
 
 returns-2 : tie.Need-returns-2
 unfolding settleNumber scratchFault

@@ -9,16 +9,16 @@ abbrev graph-of : tie.Start → Graph
 graph-of s = graphOf (s .args .inputs) (s .args .nodes) (s .args .outputs) (s .args .node-table .now) (s .args .output-table .now)
 
 pair-step-requires : tie.Need-pair-step-requires
-pair-step-requires c κs = let s = c .before .before .before .before .before in (s .pre .0, s .pre .1, s .pre .2, s .pre .3)
+pair-step-requires c κs = let s = c .before .before .before .before .before .before in (s .pre .0, s .pre .1, s .pre .2, s .pre .3, s .pre .5 .enough)
 
 with-step-requires : tie.Need-with-step-requires
-with-step-requires c κs = c .before .before .before .before .before .before .before .before .before .before .pre .4
+with-step-requires c κs = c .before .before .before .before .before .before .before .before .before .before .before .pre .4
 
 returns : tie.Need-returns
 returns c =
     let t = c .before .before .before .before .before in
-    let s = t .before .before .before .before .before .before in
-    pair-phase (graph-of s) (s .args .scratch .now) (s .pre .0) (s .args .v) (s .args .k) (s .pre .1) (s .pre .2) _ _ _ _ _ (t .pair-step .ensures) (c .with-step .ensures)
+    let s = t .before .before .before .before .before .before .before in
+    pair-phase (graph-of s) (s .args .scratch .now) (s .pre .0) (s .args .locks .now) (s .pre .5) (s .args .v) (s .args .k) (s .pre .1) (s .pre .2) _ _ _ _ _ (t .pair-step .ensures) (c .with-step .ensures)
 
 pub pair-call-at-spec : {M : Type 1} → statement M
 pair-call-at-spec =

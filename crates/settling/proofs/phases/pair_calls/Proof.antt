@@ -11,29 +11,29 @@ use Rattle.settling.proofs.phases.pair_calls.Statement.{statement}
 use Rattle.settling.proofs.phases.pair_calls.Tie as tie
 
 abbrev Inv-loop : tie.InvT-loop
-Inv-loop inputs nodes outputs node-table₀ output-table scratch₀ end t₀ v₀ node-table scratch t v =
+Inv-loop inputs nodes outputs node-table₀ output-table locks scratch₀ end t₀ v₀ node-table scratch t v =
     (v ≤ nodes) × (end ≡ nodes) × (length node-table ≡ length node-table₀)
-    × Phase (each pairsAt v) (3 * v) (graphOf inputs nodes outputs node-table₀ output-table) scratch₀ t₀ (graphOf inputs nodes outputs node-table output-table) scratch t
+    × Phase (each (pairsAt locks) v) (3 * v) (graphOf inputs nodes outputs node-table₀ output-table) scratch₀ t₀ (graphOf inputs nodes outputs node-table output-table) scratch t
 
 abbrev μ-loop : tie.MeasureT-loop
-μ-loop inputs nodes outputs node-table₀ output-table scratch₀ end t₀ v₀ node-table scratch t v = end - v
+μ-loop inputs nodes outputs node-table₀ output-table locks scratch₀ end t₀ v₀ node-table scratch t v = end - v
 
 loop-holds : tie.Need-loop-holds Inv-loop μ-loop
-loop-holds c = let s = c .before .before .before in (omega arith, refl, refl, each-none pairsAt _ _ _ (s .pre .0) (s .pre .1))
+loop-holds c = let s = c .before .before .before .before in (omega arith, refl, refl, each-none (pairsAt _) _ _ _ (s .pre .0) (s .pre .1))
 
 pair-calls-at-requires : tie.Need-pair-calls-at-requires Inv-loop μ-loop
 pair-calls-at-requires c κs =
     let l = c .before .before .before in
-    let s = l .before .before .before .before in
+    let s = l .before .before .before .before .before in
     let i = l .loop .inv .3 in
     let n = s .pre .0 .admitted .few-nodes in
-    (i .ordered, omega arith, i .count, record { low = omega (arith, i .few, s .pre .2 .low, n); low-after = omega (arith, i .few-after, s .pre .2 .low-after, n) })
+    (i .ordered, omega arith, i .count, record { low = omega (arith, i .few, s .pre .2 .low, n); low-after = omega (arith, i .few-after, s .pre .2 .low-after, n) }, s .pre .3)
 
 loop-again : tie.Need-loop-again Inv-loop μ-loop
 loop-again c =
     let t = c .before .before .before .before in
     let l = t .before .before .before .before in
-    (omega arith, refl, t .pair-calls-at .kept .1 .1 .1 .0 ∙ l .loop .inv .2, let e : 3 * (l .loop .v + 1) ≡ 3 * l .loop .v + 3 = omega arith in rw e (each-more pairsAt _ _ (l .loop .v) (3 * l .loop .v) 3 _ _ _ _ _ _ _ (l .loop .inv .3) (t .pair-calls-at .ensures)))
+    (omega arith, refl, t .pair-calls-at .kept .1 .1 .1 .0 ∙ l .loop .inv .2, let e : 3 * (l .loop .v + 1) ≡ 3 * l .loop .v + 3 = omega arith in rw e (each-more (pairsAt _) _ _ (l .loop .v) (3 * l .loop .v) 3 _ _ _ _ _ _ _ (l .loop .inv .3) (t .pair-calls-at .ensures)))
 
 same-length : tie.Need-same-length Inv-loop μ-loop
 same-length c = c .before .loop .inv .2
@@ -44,7 +44,7 @@ same-length-2 c = c .before .loop .inv .3 .long
 returns : tie.Need-returns Inv-loop μ-loop
 returns c =
     let l = c .before in
-    let e : l .loop .v ≡ l .before .before .before .before .args .nodes = omega arith in
+    let e : l .loop .v ≡ l .before .before .before .before .before .args .nodes = omega arith in
     rw e at (l .loop .inv .3)
 
 pub pair-calls-spec : {M : Type 1} → statement M

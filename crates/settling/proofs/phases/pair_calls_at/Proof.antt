@@ -12,27 +12,27 @@ graph-of s = graphOf (s .args .inputs) (s .args .nodes) (s .args .outputs) (s .a
 
 pair-call-at-requires : tie.Need-pair-call-at-requires
 pair-call-at-requires c κs =
-    let s = c .before .before .before .before .before in
+    let s = c .before .before .before .before .before .before in
     let r = s .pre .3 in
-    (s .pre .0, s .pre .1, first-words (graph-of s) (s .args .v) 1 (omega arith) (omega arith), s .pre .2, record { low = omega (arith, r .low); low-after = omega (arith, r .low-after) })
+    (s .pre .0, s .pre .1, first-words (graph-of s) (s .args .v) 1 (omega arith) (omega arith), s .pre .2, record { low = omega (arith, r .low); low-after = omega (arith, r .low-after) }, s .pre .4)
 
 pair-call-at-requires-2 : tie.Need-pair-call-at-requires-2
 pair-call-at-requires-2 c κs =
     let t₁ = c .before .before .before .before .before .before in
-    let s = t₁ .before .before .before .before .before .before in
+    let s = t₁ .before .before .before .before .before .before .before in
     let r = s .pre .3 in
     let x₁ = t₁ .pair-call-at .ensures in
-    (x₁ .ordered, s .pre .1, first-words _ (s .args .v) 2 (omega arith) (omega arith), x₁ .count, record { low = omega (arith, r .low, x₁ .few); low-after = omega (arith, r .low-after, x₁ .few-after) })
+    (x₁ .ordered, s .pre .1, first-words _ (s .args .v) 2 (omega arith) (omega arith), x₁ .count, record { low = omega (arith, r .low, x₁ .few); low-after = omega (arith, r .low-after, x₁ .few-after) }, s .pre .4)
 
 returns : tie.Need-returns
 returns c =
     let x = c .before .is-xor in
     let t₂ = c .before .before .before .before .before .before .before in
     let t₁ = t₂ .before .before .before .before .before .before .before in
-    let s = t₁ .before .before .before .before .before .before in
+    let s = t₁ .before .before .before .before .before .before .before in
     let x₁ = t₁ .pair-call-at .ensures in
     let x₂ = t₂ .pair-call-at2 .ensures in
-    pairs-phase (s .args .v) _ _ _ _ _ _ _ _ _ _ _ _ x₁ x₂ (pair-idle _ _ (x₂ .ordered) (s .args .v) 3 _ (no-third-word _ (s .args .v) (sym (x .ensures (s .args .inputs) (s .args .nodes) (s .args .outputs) (s .args .output-table .now)) ∙ c .if1 .taken)) (x₂ .count))
+    pairs-phase (s .args .locks .now) (s .args .v) _ _ _ _ _ _ _ _ _ _ _ _ x₁ x₂ (pair-idle _ _ (x₂ .ordered) _ (s .pre .4) (s .args .v) 3 _ (no-third-word _ (s .args .v) (sym (x .ensures (s .args .inputs) (s .args .nodes) (s .args .outputs) (s .args .output-table .now)) ∙ c .if1 .taken)) (x₂ .count))
 
 pair-call-at-requires-3 : tie.Need-pair-call-at-requires-3
 pair-call-at-requires-3 c κs =
@@ -40,7 +40,7 @@ pair-call-at-requires-3 c κs =
     let x = l .before .is-xor in
     let t₂ = l .before .before .before .before .before .before .before in
     let t₁ = t₂ .before .before .before .before .before .before .before in
-    let s = t₁ .before .before .before .before .before .before in
+    let s = t₁ .before .before .before .before .before .before .before in
     let r = s .pre .3 in
     let x₁ = t₁ .pair-call-at .ensures in
     let x₂ = t₂ .pair-call-at2 .ensures in (
@@ -49,6 +49,7 @@ pair-call-at-requires-3 c κs =
       third-word _ (s .args .v) (sym (x .ensures (s .args .inputs) (s .args .nodes) (s .args .outputs) (s .args .output-table .now)) ∙ l .if1 .left),
       x₂ .count,
       record { low = omega (arith, r .low, x₁ .few, x₂ .few); low-after = omega (arith, r .low-after, x₁ .few-after, x₂ .few-after) },
+      s .pre .4,
     )
 
 returns-2 : tie.Need-returns-2
@@ -57,8 +58,8 @@ returns-2 c =
     let l = t₃ .before .before .before in
     let t₂ = l .before .before .before .before .before .before .before in
     let t₁ = t₂ .before .before .before .before .before .before .before in
-    let s = t₁ .before .before .before .before .before .before in
-    pairs-phase (s .args .v) _ _ _ _ _ _ _ _ _ _ _ _ (t₁ .pair-call-at .ensures) (t₂ .pair-call-at2 .ensures) (t₃ .pair-call-at3 .ensures)
+    let s = t₁ .before .before .before .before .before .before .before in
+    pairs-phase (s .args .locks .now) (s .args .v) _ _ _ _ _ _ _ _ _ _ _ _ (t₁ .pair-call-at .ensures) (t₂ .pair-call-at2 .ensures) (t₃ .pair-call-at3 .ensures)
 
 pub pair-calls-at-spec : {M : Type 1} → statement M
 pair-calls-at-spec =

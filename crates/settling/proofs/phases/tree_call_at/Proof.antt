@@ -10,25 +10,25 @@ graph-of s = graphOf (s .args .inputs) (s .args .nodes) (s .args .outputs) (s .a
 
 returns : tie.Need-returns
 returns c =
-    let s = c .before .before .before .before .before in
-    tree-idle (graph-of s) (s .args .scratch .now) (s .pre .0) (s .args .v) (s .pre .1) (s .args .tally) (s .pre .2)
+    let s = c .before .before .before .before .before .before in
+    tree-idle (graph-of s) (s .args .scratch .now) (s .pre .0) (s .args .v) (s .pre .1) (s .args .locks .now) (s .pre .4) (s .args .tally) (s .pre .2)
     (unmarked-inner (graph-of s) (s .args .scratch .now) (s .pre .0) (s .args .v) (s .pre .1) (c .if1 .taken))
 
 tree-step-requires : tie.Need-tree-step-requires
 tree-step-requires c κs =
     let l = c .before .before in
-    let s = l .before .before .before .before .before in
-    (s .pre .0, s .pre .1, marked-root (graph-of s) (s .args .scratch .now) (s .pre .0) (s .args .v) (s .pre .1) (l .if1 .left), s .pre .2)
+    let s = l .before .before .before .before .before .before in
+    (s .pre .0, s .pre .1, marked-root (graph-of s) (s .args .scratch .now) (s .pre .0) (s .args .v) (s .pre .1) (l .if1 .left), s .pre .2, s .pre .4 .enough)
 
 with-step-requires : tie.Need-with-step-requires
-with-step-requires c κs = c .before .before .before .before .before .before .before .before .before .before .before .before .pre .3
+with-step-requires c κs = c .before .before .before .before .before .before .before .before .before .before .before .before .before .pre .3
 
 returns-2 : tie.Need-returns-2
 returns-2 c =
     let t = c .before .before .before .before .before in
     let l = t .before .before .before in
-    let s = l .before .before .before .before .before in
-    tree-phase (graph-of s) (s .args .scratch .now) (s .pre .0) (s .args .v) (s .pre .1)
+    let s = l .before .before .before .before .before .before in
+    tree-phase (graph-of s) (s .args .scratch .now) (s .pre .0) (s .args .v) (s .pre .1) (s .args .locks .now) (s .pre .4)
     (marked-root (graph-of s) (s .args .scratch .now) (s .pre .0) (s .args .v) (s .pre .1) (l .if1 .left)) _ _ _ _ _ (t .tree-step .ensures) (c .with-step .ensures)
 
 pub tree-call-at-spec : {M : Type 1} → statement M

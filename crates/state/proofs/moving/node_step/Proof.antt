@@ -12,25 +12,26 @@ graph-of s = graphOf (s .args .inputs) (s .args .nodes) (s .args .outputs) (s .a
 first-least-requires : tie.Need-first-least-requires
 first-least-requires c κs =
     let n = c .before in
-    let s = n .before .before .before .before .before .before in
-    let k = counted-now (graph-of s) (s .args .scratch .now) (s .pre .0) (s .args .v) (s .pre .1) (n .numbers-now .result) (n .numbers-now .ensures) in
+    let s = n .before .before .before .before .before .before .before in
+    let k = counted-now (graph-of s) (s .args .locks .now) (s .args .scratch .now) (s .pre .0) (s .args .v) (s .pre .1) (n .numbers-now .result) (n .numbers-now .ensures) in
     (k .numbers, k .has)
 
 node-odds-requires : tie.Need-node-odds-requires
 node-odds-requires c κs =
     let n = c .before .before in
-    let s = n .before .before .before .before .before .before in
-    (counted-now (graph-of s) (s .args .scratch .now) (s .pre .0) (s .args .v) (s .pre .1) (n .numbers-now .result) (n .numbers-now .ensures), c .first-least .ensures .below)
+    let s = n .before .before .before .before .before .before .before in
+    (counted-now (graph-of s) (s .args .locks .now) (s .args .scratch .now) (s .pre .0) (s .args .v) (s .pre .1) (n .numbers-now .result) (n .numbers-now .ensures), c .first-least .ensures .below)
 
 make-move-requires : tie.Need-make-move-requires
 make-move-requires c κs =
     let f = c .before .before .before in
     let n = f .before .before in
-    let s = n .before .before .before .before .before .before in (
+    let s = n .before .before .before .before .before .before .before in (
       s .pre .0,
       s .pre .1,
-      first-fits (graph-of s) (s .args .scratch .now) (s .pre .0) (s .args .v) (s .pre .1) (n .numbers-now .result) (n .numbers-now .ensures) (f .first-least .result) (f .first-least .ensures),
+      first-fits (graph-of s) (s .args .locks .now) (s .args .scratch .now) (s .pre .0) (s .args .v) (s .pre .1) (n .numbers-now .result) (n .numbers-now .ensures) (f .first-least .result) (f .first-least .ensures),
       s .pre .2,
+      s .pre .3,
     )
 
 returns : tie.Need-returns
@@ -39,12 +40,12 @@ returns c =
     let d = t .before .before .before in
     let f = d .before in
     let n = f .before .before in
-    let s = n .before .before .before .before .before .before in
+    let s = n .before .before .before .before .before .before .before in
     let a = s .args in
     let r = t .make-move .last in (
-      node-made (graph-of s) (a .scratch .now) (s .pre .0) (a .v) (s .pre .1) (n .numbers-now .result) (n .numbers-now .ensures) (f .first-least .result) (f .first-least .ensures)
-          (graphOf (a .inputs) (a .nodes) (a .outputs) (r .1 .1 .1 .0) (a .output-table .now)) (r .1 .1 .1 .1 .1 .1 .1 .1 .0) (t .make-move .result) (t .make-move .ensures),
-      node-parted (graph-of s) (a .scratch .now) (s .pre .0) (a .v) (s .pre .1) (n .numbers-now .result) (n .numbers-now .ensures) (f .first-least .result) (f .first-least .ensures)
+      node-made (graph-of s) (a .locks .now) (a .scratch .now) (s .pre .0) (a .v) (s .pre .1) (n .numbers-now .result) (n .numbers-now .ensures) (f .first-least .result) (f .first-least .ensures)
+          (graphOf (a .inputs) (a .nodes) (a .outputs) (r .1 .1 .1 .0) (a .output-table .now)) (r .1 .1 .1 .1 .1 .1 .1 .1 .1 .0) (t .make-move .result) (t .make-move .ensures),
+      node-parted (graph-of s) (a .locks .now) (a .scratch .now) (s .pre .0) (a .v) (s .pre .1) (n .numbers-now .result) (n .numbers-now .ensures) (f .first-least .result) (f .first-least .ensures)
           (d .node-odds .result) (d .node-odds .ensures) (t .make-move .result),
     )
 

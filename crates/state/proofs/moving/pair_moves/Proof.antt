@@ -16,18 +16,18 @@ use Rattle.state.proofs.moving.pair_moves.Tie as tie
 abbrev graph-of : tie.Start → Graph
 graph-of s = graphOf (s .args .inputs) (s .args .nodes) (s .args .outputs) (s .args .node-table .now) (s .args .output-table .now)
 
-which-are : (c : tie.After-which-name) → c .which-name .result ≡ naming (graph-of (c .before .before .before .before .before .before)) (c .before .before .before .before .before .before .args .v) (node (graph-of (c .before .before .before .before .before .before)) (c .before .before .before .before .before .before .args .p))
-which-are c = let a = c .before .before .before .before .before .before .args in c .which-name .ensures (a .inputs) (a .nodes) (a .outputs) (a .output-table .now)
+which-are : (c : tie.After-which-name) → c .which-name .result ≡ naming (graph-of (c .before .before .before .before .before .before .before)) (c .before .before .before .before .before .before .before .args .v) (node (graph-of (c .before .before .before .before .before .before .before)) (c .before .before .before .before .before .before .before .args .p))
+which-are c = let a = c .before .before .before .before .before .before .before .args in c .which-name .ensures (a .inputs) (a .nodes) (a .outputs) (a .output-table .now)
 
 first-pair-requires : tie.Need-first-pair-requires
 first-pair-requires c κs =
     let m = c .before in
     let n = m .before in
-    let s = n .before .before .before .before in
+    let s = n .before .before .before .before .before in
     let a = s .args in
     let g = graph-of s in (
-      counted-now g (a .scratch .now) (s .pre .0) (a .p) (omega (arith, s .pre .1, s .pre .2)) (n .numbers-now .result) (n .numbers-now .ensures),
-      counted-now g (a .scratch .now) (s .pre .0) (a .v) (s .pre .2) (m .numbers-now2 .result) (m .numbers-now2 .ensures),
+      counted-now g (a .locks .now) (a .scratch .now) (s .pre .0) (a .p) (omega (arith, s .pre .1, s .pre .2)) (n .numbers-now .result) (n .numbers-now .ensures),
+      counted-now g (a .locks .now) (a .scratch .now) (s .pre .0) (a .v) (s .pre .2) (m .numbers-now2 .result) (m .numbers-now2 .ensures),
       λ i. subst (λ w. getD w i 0 ≤ 1) (sym (which-are c)) (naming-le g (a .v) (node g (a .p)) i),
     )
 
@@ -35,11 +35,11 @@ pair-odds-requires : tie.Need-pair-odds-requires
 pair-odds-requires c κs =
     let m = c .before .before in
     let n = m .before in
-    let s = n .before .before .before .before in
+    let s = n .before .before .before .before .before in
     let a = s .args in
     let g = graph-of s in (
-      counted-now g (a .scratch .now) (s .pre .0) (a .p) (omega (arith, s .pre .1, s .pre .2)) (n .numbers-now .result) (n .numbers-now .ensures),
-      counted-now g (a .scratch .now) (s .pre .0) (a .v) (s .pre .2) (m .numbers-now2 .result) (m .numbers-now2 .ensures),
+      counted-now g (a .locks .now) (a .scratch .now) (s .pre .0) (a .p) (omega (arith, s .pre .1, s .pre .2)) (n .numbers-now .result) (n .numbers-now .ensures),
+      counted-now g (a .locks .now) (a .scratch .now) (s .pre .0) (a .v) (s .pre .2) (m .numbers-now2 .result) (m .numbers-now2 .ensures),
       c .first-pair .ensures .below,
       c .first-pair .ensures .fits,
     )
@@ -50,19 +50,19 @@ returns c =
     let w = f .before in
     let m = w .before in
     let n = m .before in
-    let s = n .before .before .before .before in
+    let s = n .before .before .before .before .before in
     let a = s .args in
     let k = f .first-pair .result in
     let fits =
-    pair-fits (graph-of s) (a .scratch .now) (s .pre .0) (a .p) (a .v) (s .pre .1) (s .pre .2) (n .numbers-now .result) (m .numbers-now2 .result) (w .which-name .result)
+    pair-fits (graph-of s) (a .locks .now) (a .scratch .now) (s .pre .0) (a .p) (a .v) (s .pre .1) (s .pre .2) (n .numbers-now .result) (m .numbers-now2 .result) (w .which-name .result)
     (n .numbers-now .ensures) (m .numbers-now2 .ensures) (which-are w) (k .named) (k .node) (f .first-pair .ensures) in
     let best =
-    best-pair (graph-of s) (a .scratch .now) (s .pre .0) (a .p) (a .v) (s .pre .1) (s .pre .2) (n .numbers-now .result) (m .numbers-now2 .result) (w .which-name .result)
+    best-pair (graph-of s) (a .locks .now) (a .scratch .now) (s .pre .0) (a .p) (a .v) (s .pre .1) (s .pre .2) (n .numbers-now .result) (m .numbers-now2 .result) (w .which-name .result)
     (n .numbers-now .ensures) (m .numbers-now2 .ensures) (which-are w) (k .named) (k .node) (f .first-pair .ensures) in (
       fits .0,
       fits .1,
       best,
-      pair-parted (graph-of s) (a .scratch .now) (s .pre .0) (a .p) (a .v) (s .pre .1) (s .pre .2) (n .numbers-now .result) (m .numbers-now2 .result) (w .which-name .result)
+      pair-parted (graph-of s) (a .locks .now) (a .scratch .now) (s .pre .0) (a .p) (a .v) (s .pre .1) (s .pre .2) (n .numbers-now .result) (m .numbers-now2 .result) (w .which-name .result)
           (n .numbers-now .ensures) (m .numbers-now2 .ensures) (which-are w) (k .named) (k .node) best (c .pair-odds .result) (c .pair-odds .ensures) 0,
     )
 

@@ -13,10 +13,10 @@ returns c =
     let k = c .before .before in
     let n = k .before in
     let x = n .before in
-    let s = x .before .before .before .before in
+    let s = x .before .before .before .before .before in
     let a = s .args in
-    numbers-are (graphOf (a .inputs) (a .nodes) (a .outputs) (a .node-table .now) (a .output-table .now)) (a .scratch .now) (s .pre .0) (a .v) (s .pre .1) _ _ _ _ _
-    (x .is-xor .ensures (a .inputs) (a .nodes) (a .outputs) (a .output-table .now)) (n .moves-at .ensures (a .inputs) (a .nodes) (a .outputs) (a .output-table .now)) (k .own-costs .ensures) (ap (λ i. getD (a .scratch .now) i 0) (omega arith)) refl
+    numbers-are (graphOf (a .inputs) (a .nodes) (a .outputs) (a .node-table .now) (a .output-table .now)) (a .locks .now) (a .scratch .now) (s .pre .0) (a .v) (s .pre .1) _ _ _ _ _
+    (x .is-xor .ensures (a .inputs) (a .nodes) (a .outputs) (a .output-table .now)) (n .moves-at .ensures (a .inputs) (a .nodes) (a .outputs) (a .output-table .now) (s .pre .1)) (k .own-costs .ensures) (ap (λ i. getD (a .scratch .now) i 0) (omega arith)) refl
 
 pub numbers-now-spec : {M : Type 1} → statement M
 numbers-now-spec =

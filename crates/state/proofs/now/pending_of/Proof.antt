@@ -1,7 +1,7 @@
 -- `pending_of` reads field 2 of a node, and 0 at an index that is none. From the cases of `pendingAt`.
 use mathlib.Core.Logic.{⊎-elim}
 use mathlib.Core.Path.{sym, ap, _∙_}
-use Prim.Native.Nat.{ℕ, _+_, _-_, _*_, _≤_}
+use Prim.Native.Nat.{ℕ, _+_, _*_, _≤_}
 use native.Mathlib.Omega.{arith}
 use lib.ListN.{getD}
 use borrow.Author.Needs.{needs}
@@ -12,12 +12,13 @@ use Rattle.state.proofs.now.pending_of.Tie as tie
 
 returns : tie.Need-returns
 returns c =
-    let a = c .before .before .before .args in
-    (⊎-elim
-    (λ (l : a .u ≤ a .inputs). sym (pending-low (a .inputs) (a .nodes) (a .scratch .now) (a .u) l))
-    (λ (l : a .inputs + 1 + a .nodes ≤ a .u). sym (pending-high (a .inputs) (a .nodes) (a .scratch .now) (a .u) (omega arith)))
-    (node-missed (a .inputs) (a .nodes) (a .u) (c .before .node-of .result) (c .before .node-of .ensures) (omega arith)),
-    omega arith)
+    let a = c .before .before .before .args in (
+      ⊎-elim
+          (λ (l : a .u ≤ a .inputs). sym (pending-low (a .inputs) (a .nodes) (a .scratch .now) (a .u) l))
+          (λ (l : a .inputs + 1 + a .nodes ≤ a .u). sym (pending-high (a .inputs) (a .nodes) (a .scratch .now) (a .u) (omega arith)))
+          (node-missed (a .inputs) (a .nodes) (a .u) (c .before .node-of .result) (c .before .node-of .ensures) (omega arith)),
+      omega arith,
+    )
 
 returns-2 : tie.Need-returns-2
 returns-2 c =

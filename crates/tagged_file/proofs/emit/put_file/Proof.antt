@@ -1,47 +1,68 @@
 -- `put_file` stores the file's parts one after another. From the laws on the whole of writing.
 use native.Mathlib.Omega.{arith}
-use Rattle.graph.specs.Graph.{Graph, graphOf}
+use mathlib.Core.Path.{_≡_}
+use Prim.Native.Nat.{_+_, _*_}
+use lib.ListN.{length}
+use Rattle.graph.specs.Graph.{graphOf}
+use Rattle.tagged_file.specs.Write.{nodeFieldAt, lockFieldAt, inOrder, fileOf}
 use Rattle.tagged_file.proofs.WholeWrite.{length-file, length-outputs, file-stored}
 use borrow.Author.Needs.{needs}
 use Rattle.tagged_file.proofs.emit.put_file.Statement.{statement}
 use Rattle.tagged_file.proofs.emit.put_file.Tie as tie
 
+-- the file's length by its parts
+long : (s : tie.Start) → let a = s .args in length (fileOf (graphOf (a .inputs) (a .nodes) (a .outputs) (a .node-table .now) (a .output-table .now)) (a .locks .now))
+    ≡ 18 + length (inOrder (nodeFieldAt (a .node-table .now)) 0 (a .nodes)) + 7 * a .outputs + length (inOrder (lockFieldAt (a .inputs + 1) (a .locks .now)) 0 (a .nodes))
+long s = let a = s .args in length-file (graphOf (a .inputs) (a .nodes) (a .outputs) (a .node-table .now) (a .output-table .now)) (a .locks .now)
+
 put-three-requires : tie.Need-put-three-requires
-put-three-requires c κs =
-    let a = c .before .before .before .before .args in
-    let g : Graph = graphOf (a .inputs) (a .nodes) (a .outputs) (a .node-table .now) (a .output-table .now) in
-    omega (arith, length-file g)
+put-three-requires c κs = omega (arith, long (c .before .before .before .before .before))
 
 put-nodes-requires : tie.Need-put-nodes-requires
 put-nodes-requires c κs =
-    let a = c .before .before .before .before .before .before .before .before .args in
-    let g : Graph = graphOf (a .inputs) (a .nodes) (a .outputs) (a .node-table .now) (a .output-table .now) in
-    (c .before .before .before .before .before .before .before .before .pre .0, omega (arith, length-file g))
+    let s = c .before .before .before .before .before .before .before .before .before in
+    (s .pre .0 .0 .long-nodes, omega (arith, long s))
 
 put-outputs-requires : tie.Need-put-outputs-requires
 put-outputs-requires c κs =
-    let a = c .before .before .before .before .before .before .before .before .before .before .before .before .args in
-    let g : Graph = graphOf (a .inputs) (a .nodes) (a .outputs) (a .node-table .now) (a .output-table .now) in
-    (c .before .before .before .before .before .before .before .before .before .before .before .before .pre .1 .0, omega (arith, length-file g, length-outputs (g .outputs) 0 (g .O)))
+    let n = c .before .before .before in
+    let s = n .before .before .before .before .before .before .before .before .before .before in
+    (s .pre .0 .0 .long-outputs, omega (arith, long s, length-outputs (s .args .output-table .now) 0 (s .args .outputs)))
+
+put-locks-requires : tie.Need-put-locks-requires
+put-locks-requires c κs =
+    let o = c .before .before .before in
+    let n = o .before .before .before .before in
+    let s = n .before .before .before .before .before .before .before .before .before .before in
+    ((s .pre .0 .1, omega (arith, s .pre .0 .0 .few-inputs, s .pre .0 .0 .few-nodes)), omega (arith, long s, length-outputs (s .args .output-table .now) 0 (s .args .outputs)))
 
 put-head-requires : tie.Need-put-head-requires
 put-head-requires c κs =
-    let a = c .before .before .before .before .before .before .before .before .before .before .before .before .before .before .before .before .args in
-    let g : Graph = graphOf (a .inputs) (a .nodes) (a .outputs) (a .node-table .now) (a .output-table .now) in
-    omega (arith, length-file g, length-outputs (g .outputs) 0 (g .O))
-
-add-result : tie.Need-add-result
-add-result c =
-    let a = c .before .before .before .before .before .before .before .before .before .before .before .before .before .before .before .before .before .before .before .args in
-    let g : Graph = graphOf (a .inputs) (a .nodes) (a .outputs) (a .node-table .now) (a .output-table .now) in
-    omega (arith, length-file g, length-outputs (g .outputs) 0 (g .O))
+    let l = c .before .before .before in
+    let o = l .before .before .before .before in
+    let n = o .before .before .before .before in
+    let s = n .before .before .before .before .before .before .before .before .before .before in
+    omega (arith, long s, length-outputs (s .args .output-table .now) 0 (s .args .outputs))
 
 returns : tie.Need-returns
 returns c =
-    let a = c .before .before .before .before .before .before .before .before .before .before .before .before .before .before .before .before .before .before .before .args in
-    let g : Graph = graphOf (a .inputs) (a .nodes) (a .outputs) (a .node-table .now) (a .output-table .now) in
-    file-stored g _ _ _ _ _ _ _ (c .before .before .before .before .before .before .before .before .before .before .before .before .before .before .put-three .ensures) (c .before .before .before .before .before .before .before .before .before .before .put-nodes .ensures .1)
-    (c .before .before .before .before .before .before .put-outputs .ensures .1) (c .before .before .put-head .ensures) (c .before .before .before .before .before .before .before .before .before .before .put-nodes .ensures .0) (c .before .before .before .before .before .before .put-outputs .ensures .0)
+    let h = c .before .before in
+    let l = h .before .before .before .before in
+    let o = l .before .before .before .before in
+    let n = o .before .before .before .before in
+    let t = n .before .before .before .before in
+    let a = t .before .before .before .before .before .before .args in
+    file-stored (graphOf (a .inputs) (a .nodes) (a .outputs) (a .node-table .now) (a .output-table .now)) (a .locks .now) _ _ _ _ _ _ _ _ _
+    (t .put-three .ensures) (n .put-nodes .ensures) (o .put-outputs .ensures) (l .put-locks .ensures) (h .put-head .ensures)
+
+-- the length of the buffer, the last of what is lent, fits
+add-result : tie.Need-add-result
+add-result c =
+    let l = c .before .before .before .before .before .before in
+    let o = l .before .before .before .before in
+    let n = o .before .before .before .before in
+    let s = n .before .before .before .before .before .before .before .before .before .before in
+    omega (arith, s .good .1 .1 .1 .1 .1 .1 .0, long s, length-outputs (s .args .output-table .now) 0 (s .args .outputs))
 
 pub put-file-spec : {M : Type 1} → statement M
 put-file-spec =
@@ -50,6 +71,8 @@ put-file-spec =
     put-three-requires
     put-nodes-requires
     put-outputs-requires
+    (λ c. search needs)
+    put-locks-requires
     put-head-requires
     add-result
     (λ c. search needs)

@@ -4,7 +4,7 @@ use mathlib.Core.Path.{refl, ap, _∙_}
 use Prim.Native.Nat.{ℕ}
 use lib.Seq.{sets}
 use Rattle.tagged_file.proofs.Emitted.{Left, left-room, left-more, left-none}
-use Rattle.tagged_file.specs.Write.{outputField, outputFieldAt}
+use Rattle.tagged_file.specs.Write.{big, fieldOf, outputField, outputFieldAt}
 use Rattle.tagged_file.proofs.FieldBytes.{length-output-at}
 use Rattle.tagged_file.proofs.emit.put_outputs.Statement.{statement}
 use Rattle.tagged_file.proofs.emit.put_outputs.Tie as tie
@@ -18,16 +18,16 @@ abbrev μ-loop : tie.MeasureT-loop
 loop-holds : tie.Need-loop-holds Inv-loop μ-loop
 loop-holds c = record { counted = omega arith; fits = refl; same = refl; bytes = refl }
 
-put-output-requires : tie.Need-put-output-requires Inv-loop μ-loop
-unfolding outputFieldAt
-put-output-requires c κs = let l = c .before .before .before .loop in let r = left-room _ _ _ _ (l .buffer) (l .at) (l .v) (l .left) (l .inv) (omega arith) (c .before .before .before .before .before .before .pre .1) in omega (arith, length-output-at (c .before .before .before .before .before .before .args .output-table .now) (l .v))
+put-single-requires : tie.Need-put-single-requires Inv-loop μ-loop
+unfolding outputFieldAt outputField
+put-single-requires c κs = let l = c .before .before .before .loop in let r = left-room _ _ _ _ (l .buffer) (l .at) (l .v) (l .left) (l .inv) (omega arith) (c .before .before .before .before .before .before .pre .1) in omega (arith, length-output-at (c .before .before .before .before .before .before .args .output-table .now) (l .v))
 
 add-at : tie.Need-add-at Inv-loop μ-loop
 add-at c = let l = c .before .before .before .before .before .before .loop in let r = left-room _ _ _ _ (l .buffer) (l .at) (l .v) (l .left) (l .inv) (omega arith) (c .before .before .before .before .before .before .before .before .before .pre .1) in omega (arith, length-output-at (c .before .before .before .before .before .before .before .before .before .args .output-table .now) (l .v))
 
 loop-again : tie.Need-loop-again Inv-loop μ-loop
-unfolding outputFieldAt
-loop-again c = let l = c .before .before .before .before .before .before .loop in left-more _ _ _ _ (l .buffer) (l .at) (l .v) (l .left) (l .inv) (omega arith) _ _ (c .before .before .put-output .ensures ∙ ap (λ (x : ℕ). sets (l .buffer) (l .at) (outputField x)) (c .before .before .before .word-at .ensures)) (omega (arith, length-output-at (c .before .before .before .before .before .before .before .before .before .args .output-table .now) (l .v)))
+unfolding outputFieldAt outputField
+loop-again c = let l = c .before .before .before .before .before .before .loop in left-more _ _ _ _ (l .buffer) (l .at) (l .v) (l .left) (l .inv) (omega arith) _ _ (c .before .before .put-single .ensures ∙ ap (λ (x : ℕ). sets (l .buffer) (l .at) (fieldOf 4 (big 4 x))) (c .before .before .before .word-at .ensures)) (omega (arith, length-output-at (c .before .before .before .before .before .before .before .before .before .args .output-table .now) (l .v)))
 
 same-length : tie.Need-same-length Inv-loop μ-loop
 same-length c = c .before .loop .inv .same
@@ -43,7 +43,7 @@ put-outputs-spec =
     μ-loop
     loop-holds
     (λ c κs. omega arith)
-    put-output-requires
+    put-single-requires
     add-at
     (λ c. omega arith)
     (λ c. omega arith)

@@ -1,4 +1,4 @@
--- `fill_outputs` stores what `outputWords` says. From the laws of the fill pass.
+-- `fill_outputs` stores what `singleWords` says. From the laws of the fill pass.
 use native.Mathlib.Omega.{arith}
 use mathlib.Core.Path.{refl}
 use denote.Ref.{now}
@@ -14,7 +14,7 @@ abbrev μ-loop : tie.MeasureT-loop
 μ-loop bytes o outputs₀ s₀ at₀ left₀ outputs s at left = left
 
 loop-holds : tie.Need-loop-holds Inv-loop μ-loop
-loop-holds c = record { room = c .before .before .pre .0; fits = omega arith; same = refl; words = refl }
+loop-holds c = record { room = c .before .before .pre .0; fits = omega arith; same = refl; words = refl; after = refl }
 
 four-requires : tie.Need-four-requires Inv-loop μ-loop
 four-requires c κs = let l = c .before .before .loop in omega (arith, outputs-left-room _ _ _ (l .output-table) (now (l .s)) (l .at) (l .left) (omega arith) (l .inv))

@@ -9,11 +9,11 @@ use Rattle.tree_call.proofs.rewrite.rewrite_tree.Tie as tie
 tree-step-requires : tie.Need-tree-step-requires
 tree-step-requires c κs =
     let f = c .before .before .before .before .before .before .fill-scratch .ensures in
-    let n = root-node _ _ _ (c .before .before .before .before .before .before .before .before .before .before .before .before .before .before .before .before .pre .1) (c .before .before .before .wide .ensures) in
-    (f .0, n .0, n .1, c .before .before .before .before .before .before .before .before .before .before .complemented .ensures .0 ∙ ap C (sym (f .1)))
+    let n = root-node _ _ _ (c .before .before .before .before .before .before .before .before .before .before .before .before .before .before .before .before .before .pre .1) (c .before .before .before .wide .ensures) in
+    (f .0, n .0, n .1, c .before .before .before .before .before .before .before .before .before .before .complemented .ensures .0 ∙ ap C (sym (f .1)), c .before .before .before .before .before .before .before .before .before .before .before .before .before .before .before .before .before .pre .3)
 
 returns : tie.Need-returns
-returns c = rewrite-is _ _ _ _ _ _ _ _ _ _ (c .before .before .before .before .before .before .before .before .before .before .before .before .before .before .before .before .before .before .before .before .before .before .before .before .before .before .before .before .before .before .pre .1) (c .before .before .before .before .before .before .before .before .before .before .before .before .before .before .before .before .before .wide .ensures) (c .before .before .before .before .before .before .before .before .before .before .before .before .before .before .before .before .before .before .before .before .fill-scratch .ensures .1) (c .before .before .before .before .before .before .before .before .before .before .before .before .before .tree-step .ensures) (c .before .before .before .before .before .write-out .ensures) (c .before .before .before .before .before .before .before .before .before .before .before .before .before .before .before .before .before .before .before .before .before .before .before .before .complemented .ensures .0) (c .saved-by .ensures)
+returns c = rewrite-is _ _ _ _ _ _ _ _ _ _ _ (c .before .before .before .before .before .before .before .before .before .before .before .before .before .before .before .before .before .before .before .before .before .before .before .before .before .before .before .before .before .before .before .pre .1) (c .before .before .before .before .before .before .before .before .before .before .before .before .before .before .before .before .before .wide .ensures) (c .before .before .before .before .before .before .before .before .before .before .before .before .before .before .before .before .before .before .before .before .fill-scratch .ensures .1) (c .before .before .before .before .before .before .before .before .before .before .before .before .before .tree-step .ensures) (c .before .before .before .before .before .write-out .ensures) (c .before .before .before .before .before .before .before .before .before .before .before .before .before .before .before .before .before .before .before .before .before .before .before .before .complemented .ensures .0) (c .saved-by .ensures)
 
 pub rewrite-tree-spec : {M : Type 1} → statement M
 rewrite-tree-spec =

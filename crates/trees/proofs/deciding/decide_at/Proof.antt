@@ -7,15 +7,17 @@ use Rattle.trees.proofs.deciding.decide_at.Tie as tie
 
 first-least-requires : tie.Need-first-least-requires
 first-least-requires c κs =
-    let s = c .before .before .before .before .before .before .before .before in
+    let s = c .before .before .before .before .before .before .before .before .before in
     let p = s .pre in
     let a = s .args in (
       numbers-decided _ _ (p .0) _ (p .1) _ _ _ (c .before .before .before .before .tree-numbers .ensures) (c .before .before .before .read .ensures) (c .before .before .odd-at .ensures),
-      moves-read _ _ _ _ (c .before .is-xor .ensures (a .inputs) (a .nodes) (a .outputs) (a .output-table .now)) (c .moves-at .ensures (a .inputs) (a .nodes) (a .outputs) (a .output-table .now)),
+      moves-read _ _ _ _ _ (c .before .is-xor .ensures (a .inputs) (a .nodes) (a .outputs) (a .output-table .now)) (c .moves-at .ensures (a .inputs) (a .nodes) (a .outputs) (a .output-table .now) (p .1)),
     )
 
 returns : tie.Need-returns
-returns c = decided-by _ _ _ _ _ _ _ _ _ _ _ (c .before .before .is-xor .ensures _ _ _ _) (c .before .moves-at .ensures _ _ _ _) (c .before .before .before .before .before .tree-numbers .ensures) (c .before .before .before .before .read .ensures) (c .before .before .before .odd-at .ensures) (c .first-least .ensures)
+returns c =
+    let s = c .before .before .before .before .before .before .before .before .before .before in
+    decided-by _ _ _ _ _ _ _ _ _ _ _ (c .before .before .is-xor .ensures _ _ _ _) (c .before .moves-at .ensures _ _ _ _ (s .pre .1)) (c .before .before .before .before .before .tree-numbers .ensures) (c .before .before .before .before .read .ensures) (c .before .before .before .odd-at .ensures) (c .first-least .ensures)
 
 pub decide-at-spec : {M : Type 1} → statement M
 decide-at-spec =

@@ -26,11 +26,11 @@ use borrow.Author.Needs.{needs}
 use Rattle.trees.proofs.deciding.fill_moves.Statement.{statement}
 use Rattle.trees.proofs.deciding.fill_moves.Tie as tie
 
-record Inv (g : Graph) (sc₁ : List ℕ) (r : ℕ) (sc : List ℕ) (v : ℕ) : Type 0 where
-  mf : MovesFrom (stands g sc₁) sc₁ r (boundOf v) sc
+record Inv (g : Graph) (ls sc₁ : List ℕ) (r : ℕ) (sc : List ℕ) (v : ℕ) : Type 0 where
+  mf : MovesFrom (stands g sc₁) ls sc₁ r (boundOf v) sc
   here : v ≢ mark → (v ≤ r) × (rootOf (stands g sc₁) (node (stands g sc₁) v) ≡ node (stands g sc₁) r)
 
-module _ (g : Graph) (sc₁ : List ℕ) (o : Ordered g sc₁) (r : ℕ) (h : r < g .N) (t : isRoot g (node g r) ≡ true) where
+module _ (g : Graph) (ls sc₁ : List ℕ) (o : Ordered g sc₁) (r : ℕ) (h : r < g .N) (t : isRoot g (node g r) ≡ true) where
   abbrev k : Graph
   k = stands g sc₁
 
@@ -45,87 +45,87 @@ module _ (g : Graph) (sc₁ : List ℕ) (o : Ordered g sc₁) (r : ℕ) (h : r <
   unfolding stands turnedBy
   within = h
 
-  begin : (v : ℕ) → v ≡ r → Inv g sc₁ r sc₁ v
+  begin : (v : ℕ) → v ≡ r → Inv g ls sc₁ r sc₁ v
   begin v e =
       let d : v ≢ mark = λ z. omega (arith, o .admitted .few-nodes) in
       record {
-        mf = rw (bound-node v d, e) (moves-begin k sc₁ ready r within root-now);
+        mf = rw (bound-node v d, e) (moves-begin k ls sc₁ ready r within root-now);
         here = λ z. rw e (omega arith, rootOf-root k (ready .admitted) (node k r) root-now);
       }
 
-  module _ (cd : CostedBelow k sc₁ (node g r) r) (sc : List ℕ) (v : ℕ) (iv : Inv g sc₁ r sc v) (d : v ≢ mark) (w : ℕ) (e : w ≡ v) where
+  module _ (cd : CostedBelow k ls sc₁ (node g r) r) (sc : List ℕ) (v : ℕ) (iv : Inv g ls sc₁ r sc v) (d : v ≢ mark) (w : ℕ) (e : w ≡ v) where
     low : w ≤ r
     low = rw e (iv .here d .0)
 
     in-tree : rootOf k (node k w) ≡ node k r
     in-tree = rw e (iv .here d .1)
 
-    passed : MovesFrom k sc₁ r (suc w) sc
+    passed : MovesFrom k ls sc₁ r (suc w) sc
     passed = rw (e, ← bound-node v d) (iv .mf)
 
     decided-above : ReaderDecided g sc w
     unfolding stands turnedBy
-    decided-above = reader-decided k sc₁ ready r within root-now g o refl cd w low in-tree sc passed
+    decided-above = reader-decided k ls sc₁ ready r within root-now g o refl cd w low in-tree sc passed
 
-    again : (m x : ℕ) (sc′ : List ℕ) → FirstBelow (costWith (isXor g w) (wordCosts (stands g sc) (innerAt (g .I) sc) (costAt (g .I) sc) w) (field sc w 0) (oddAt g sc w)) (movesAt g (node g w)) m
-        → Stored w 4 m sc sc′ → x ≡ field sc′ w 5 → Inv g sc₁ r sc′ x × (boundOf x < boundOf v)
+    again : (m x : ℕ) (sc′ : List ℕ) → FirstBelow (costWith (isXor g w) (wordCosts (stands g sc) (innerAt (g .I) sc) (costAt (g .I) sc) w) (field sc w 0) (oddAt g sc w)) (movesAt g ls (node g w)) m
+        → Stored w 4 m sc sc′ → x ≡ field sc′ w 5 → Inv g ls sc₁ r sc′ x × (boundOf x < boundOf v)
     unfolding stands turnedBy
     again m x sc′ fb st q =
-        let ms = moves-step k sc₁ ready r within root-now g o refl cd w low in-tree sc passed m (g .I) (isXor g w) (movesAt g (node g w)) refl refl refl fb sc′ st in
+        let ms = moves-step k ls sc₁ ready r within root-now g o refl cd w low in-tree sc passed m (g .I) (isXor g w) (movesAt g ls (node g w)) refl refl refl fb sc′ st in
         let b : w < k .N = omega (arith, low, within) in
         let n = next-lower k sc₁ ready r w x b in-tree (q ∙ ms .only .kept _ (λ z. omega arith)) in (
           record {
-            mf = moves-down k sc₁ ready r within root-now w (boundOf x) sc′ (n .bound) (n .free) ms;
+            mf = moves-down k ls sc₁ ready r within root-now w (boundOf x) sc′ (n .bound) (n .free) ms;
             here = λ z. (omega (arith, n .lower z, low), n .here z);
           },
           omega (arith, n .bound, bound-node v d),
         )
 
-  last : (sc : List ℕ) (v : ℕ) → Inv g sc₁ r sc v → v ≡ mark → TreeDecided k (node g r) sc × CostsOnly sc₁ sc
+  last : (sc : List ℕ) (v : ℕ) → Inv g ls sc₁ r sc v → v ≡ mark → TreeDecided k ls (node g r) sc × CostsOnly sc₁ sc
   unfolding stands turnedBy
   last sc v iv e =
-      let mf : MovesFrom k sc₁ r 0 sc = rw (bound-mark v e) at (iv .mf) in
-      (moves-all k sc₁ ready r within root-now sc mf, mf .only)
+      let mf : MovesFrom k ls sc₁ r 0 sc = rw (bound-mark v e) at (iv .mf) in
+      (moves-all k ls sc₁ ready r within root-now sc mf, mf .only)
 
 abbrev Inv-loop : tie.InvT-loop
-Inv-loop inputs nodes outputs node-table output-table root scratch₀ v₀ scratch v = Inv (graphOf inputs nodes outputs node-table output-table) scratch₀ root scratch v
+Inv-loop inputs nodes outputs node-table output-table locks root scratch₀ v₀ scratch v = Inv (graphOf inputs nodes outputs node-table output-table) locks scratch₀ root scratch v
 
 abbrev μ-loop : tie.MeasureT-loop
-μ-loop inputs nodes outputs node-table output-table root scratch₀ v₀ scratch v = boundOf v
+μ-loop inputs nodes outputs node-table output-table locks root scratch₀ v₀ scratch v = boundOf v
 
 narrow-requires : tie.Need-narrow-requires Inv-loop μ-loop
-narrow-requires c κs = omega (arith, c .before .before .before .pre .0 .admitted .few-nodes, c .before .before .before .pre .1)
+narrow-requires c κs = omega (arith, c .before .before .before .before .pre .0 .admitted .few-nodes, c .before .before .before .before .pre .1)
 
 loop-holds : tie.Need-loop-holds Inv-loop μ-loop
-loop-holds c = let p = c .before .before .before .before .pre in begin _ _ (p .0) _ (p .1) (p .2) _ (c .narrow .ensures)
+loop-holds c = let p = c .before .before .before .before .before .pre in begin _ _ _ (p .0) _ (p .1) (p .2) _ (c .narrow .ensures)
 
 decide-at-requires : tie.Need-decide-at-requires Inv-loop μ-loop
 decide-at-requires c κs =
-    let p = c .before .before .before .before .before .before .before .before .pre in
+    let p = c .before .before .before .before .before .before .before .before .before .pre in
     let iv = c .before .before .before .loop .inv in
-    (ordered-costs _ _ _ (iv .mf .only) (p .0), omega (arith, iv .here (λ e. omega arith) .0, c .before .wide .ensures, p .1), decided-above _ _ (p .0) _ (p .1) (p .2) (p .3) _ _ iv (λ e. omega arith) _ (c .before .wide .ensures))
+    (ordered-costs _ _ _ (iv .mf .only) (p .0), omega (arith, iv .here (λ e. omega arith) .0, c .before .wide .ensures, p .1), decided-above _ _ _ (p .0) _ (p .1) (p .2) (p .3) _ _ iv (λ e. omega arith) _ (c .before .wide .ensures), p .4)
 
 store-requires : tie.Need-store-requires Inv-loop μ-loop
-store-requires c κs = omega (arith, c .before .before .before .before .before .loop .inv .here (λ e. omega arith) .0, c .before .before .before .before .before .loop .inv .mf .only .same, c .before .before .before .wide .ensures, c .before .before .before .before .before .before .before .before .before .before .pre .1, c .before .before .before .before .before .before .before .before .before .before .pre .0 .long, c .before .before .before .before .before .before .before .before .before .before .pre .0 .admitted .few-nodes)
+store-requires c κs = omega (arith, c .before .before .before .before .before .loop .inv .here (λ e. omega arith) .0, c .before .before .before .before .before .loop .inv .mf .only .same, c .before .before .before .wide .ensures, c .before .before .before .before .before .before .before .before .before .before .before .pre .1, c .before .before .before .before .before .before .before .before .before .before .before .pre .0 .long, c .before .before .before .before .before .before .before .before .before .before .before .pre .0 .admitted .few-nodes)
 
 read-requires : tie.Need-read-requires Inv-loop μ-loop
-read-requires c κs = omega (arith, c .before .before .before .before .before .before .before .before .before .loop .inv .here (λ e. omega arith) .0, c .before .before .before .before .before .before .before .before .before .loop .inv .mf .only .same, c .before .before .before .store .ensures .same, c .before .before .before .before .before .before .before .wide .ensures, c .before .before .before .before .before .before .before .before .before .before .before .before .before .before .pre .1, c .before .before .before .before .before .before .before .before .before .before .before .before .before .before .pre .0 .long, c .before .before .before .before .before .before .before .before .before .before .before .before .before .before .pre .0 .admitted .few-nodes)
+read-requires c κs = omega (arith, c .before .before .before .before .before .before .before .before .before .loop .inv .here (λ e. omega arith) .0, c .before .before .before .before .before .before .before .before .before .loop .inv .mf .only .same, c .before .before .before .store .ensures .same, c .before .before .before .before .before .before .before .wide .ensures, c .before .before .before .before .before .before .before .before .before .before .before .before .before .before .before .pre .1, c .before .before .before .before .before .before .before .before .before .before .before .before .before .before .before .pre .0 .long, c .before .before .before .before .before .before .before .before .before .before .before .before .before .before .before .pre .0 .admitted .few-nodes)
 
 loop-less : tie.Need-loop-less Inv-loop μ-loop
 loop-less c =
-    let p = c .before .before .before .before .before .before .before .before .before .before .before .before .before .before .before .pre in
-    again _ _ (p .0) _ (p .1) (p .2) (p .3) _ _ (c .before .before .before .before .before .before .before .before .before .before .loop .inv) (λ e. omega arith) _ (c .before .before .before .before .before .before .before .before .wide .ensures) _ _ _ (c .before .before .before .before .before .before .decide-at .ensures) (c .before .before .before .before .store .ensures) (c .read .ensures) .1
+    let p = c .before .before .before .before .before .before .before .before .before .before .before .before .before .before .before .before .pre in
+    again _ _ _ (p .0) _ (p .1) (p .2) (p .3) _ _ (c .before .before .before .before .before .before .before .before .before .before .loop .inv) (λ e. omega arith) _ (c .before .before .before .before .before .before .before .before .wide .ensures) _ _ _ (c .before .before .before .before .before .before .decide-at .ensures) (c .before .before .before .before .store .ensures) (c .read .ensures) .1
 
 loop-again : tie.Need-loop-again Inv-loop μ-loop
 loop-again c =
-    let p = c .before .before .before .before .before .before .before .before .before .before .before .before .before .before .before .pre in
-    again _ _ (p .0) _ (p .1) (p .2) (p .3) _ _ (c .before .before .before .before .before .before .before .before .before .before .loop .inv) (λ e. omega arith) _ (c .before .before .before .before .before .before .before .before .wide .ensures) _ _ _ (c .before .before .before .before .before .before .decide-at .ensures) (c .before .before .before .before .store .ensures) (c .read .ensures) .0
+    let p = c .before .before .before .before .before .before .before .before .before .before .before .before .before .before .before .before .pre in
+    again _ _ _ (p .0) _ (p .1) (p .2) (p .3) _ _ (c .before .before .before .before .before .before .before .before .before .before .loop .inv) (λ e. omega arith) _ (c .before .before .before .before .before .before .before .before .wide .ensures) _ _ _ (c .before .before .before .before .before .before .decide-at .ensures) (c .before .before .before .before .store .ensures) (c .read .ensures) .0
 
 same-length : tie.Need-same-length Inv-loop μ-loop
 same-length c = c .before .loop .inv .mf .only .same
 
 returns : tie.Need-returns Inv-loop μ-loop
-returns c = let p = c .before .before .before .before .before .before .pre in last _ _ (p .0) _ (p .1) (p .2) _ _ (c .before .loop .inv) (omega arith)
+returns c = let p = c .before .before .before .before .before .before .before .pre in last _ _ _ (p .0) _ (p .1) (p .2) _ _ (c .before .loop .inv) (omega arith)
 
 pub fill-moves-spec : {M : Type 1} → statement M
 fill-moves-spec =
