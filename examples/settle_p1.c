@@ -14,10 +14,11 @@ int main(void)
 {
     uint32_t nodes[3] = {3, 5, 7};
     uint32_t outputs[1] = {9};
+    uint8_t locks[1] = {0}; /* the node is free */
     uint32_t scratch[REDUCER_SETTLE_SCRATCH(1)];
     uint32_t figures[3];
     int64_t savings[2];
-    uint32_t number = reducer_settle(3, 1, 1, nodes, 3, outputs, 1, scratch, REDUCER_SETTLE_SCRATCH(1), figures, savings);
+    uint32_t number = reducer_settle(3, 1, 1, nodes, 3, outputs, 1, locks, 1, scratch, REDUCER_SETTLE_SCRATCH(1), figures, savings);
     if (number != REDUCER_OK) {
         fprintf(stderr, "refused %" PRIu32 "\n", number);
         return 1;

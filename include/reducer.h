@@ -3,8 +3,9 @@
  *
  * Link the static library that `rt staticlib reducer` writes, target/staticlib/libreducer.a. It needs no other library,
  * keeps no state, allocates nothing and may be called from several threads on tables of their own. Proved, for all bytes, words
- * and numbers, is what is said here of answers: the number returned, and what then stands in the tables, results, moves, buffer
- * and answers, at the last pointer or pointers and, after a refusal, in scratch. The rest of this page is not part of the proof.
+ * and numbers, is what is said here of answers: the number returned, and what then stands in the tables, locks, results, moves,
+ * buffer and answers, at the last pointer or pointers and, after a refusal, in scratch. The rest of this page is not part of the
+ * proof.
  *
  * The graph
  *
@@ -13,15 +14,23 @@
  *   output. A node whose third word is REDUCER_MARK is an XOR of the first two; any other is a majority of the three. A node's
  *   literals name indices below its own; an output may name any.
  *
- *   A table may be longer than the graph: only its first 3 * N, or O, words are looked at or changed.
+ *   The locks are a byte a node in index order, byte v for node I + 1 + v: 1 for a locked node, which must not turn, and 0 for a
+ *   free one. Every function that takes a graph takes its locks after its tables and tests them, also where nothing turns. A
+ *   locked node has only move 0 in every call, and the best moves are the best of those that leave locked nodes at move 0; its
+ *   own words may still turn, by moves of the nodes that they name. A call may name a locked node, and a tree call a locked root.
+ *   Only reducer_load, reducer_import and reducer_replay change locks: they fill them.
+ *
+ *   Tables and locks may be longer than the graph: only the first 3 * N words of the node table, the first O of the output table
+ *   and the first N locks are looked at or changed.
  *
  * What a call answers
  *
  *   Every function returns 0 or the number of a refusal, below. What it answers beside that goes through its last pointer, and
- *   settling's figures and savings through its last two. A refused call has changed nothing: tables, scratch, results, moves,
- *   buffer, answers and that last number or those arrays are as they were. The first fault is returned, in the order of the
- *   numbers 3, 4, 5, 7, 8, 9; loading meets its file from front to back, importing its text line by line, each line being tested
- *   for 10, 11, 12, 3, 4, 5 in that order, and a replay its calls and answers before its file.
+ *   settling's figures and savings through its last two. A refused call has changed nothing: tables, locks, scratch, results,
+ *   moves, buffer, answers and that last number or those arrays are as they were. The first fault is returned, in the order of
+ *   the numbers 3, 4, 5, 13, 7, 8, 9, all literals being tested before any lock; loading meets its file from front to back,
+ *   importing its text line by line, each line being tested for 10, 11, 12, 3, 4, 5 in that order, and a replay its calls and
+ *   answers before its file.
  *   Scratch holds nothing of use before or after a call.
  *
  *   A saving is two numbers, of which either may be below 0: how many complemented edges fewer there are, first among the words
@@ -59,8 +68,8 @@ extern "C" {
 #define REDUCER_EVALUATE_SCRATCH(n) ((size_t)(n))
 #define REDUCER_EXPORT_SCRATCH(n) ((size_t)(n))
 
-/* Bytes that are enough for the file of a graph with n nodes and o outputs. */
-#define REDUCER_FILE_BYTES(n, o) (18 + 15 * (size_t)(n) + 7 * (size_t)(o))
+/* Bytes that are enough for the file of a graph with n nodes, all of them locked, and o outputs. */
+#define REDUCER_FILE_BYTES(n, o) (18 + 22 * (size_t)(n) + 7 * (size_t)(o))
 
 /* Bytes that are enough for the AIGER text of a graph with i inputs, n nodes and o outputs. */
 #define REDUCER_TEXT_BYTES(i, n, o) (30 + 5 * (size_t)(i) + 84 * (size_t)(n) + 7 * (size_t)(o))
@@ -78,7 +87,7 @@ enum reducer_kind {
 };
 
 /*
- * What is returned. 1 to 9 are the refusals of document 01, 10 to 12 those that document 02 adds; 101 and 102 are a replay's own
+ * What is returned. 1 to 9 are the refusals of document 01, 10 to 13 those that document 02 adds; 101 and 102 are a replay's own
  * and of neither document.
  */
 enum reducer_number {
@@ -89,7 +98,7 @@ enum reducer_number {
     REDUCER_WRONG_FIELD = 2,
     /* I, N or O above its limit */
     REDUCER_OVER_LIMIT = 3,
-    /* a lent table, input or result slice too short */
+    /* a lent table, slice of locks, input or result slice too short */
     REDUCER_SHORT_SLICE = 4,
     /* a literal naming an index not allowed there */
     REDUCER_BAD_LITERAL = 5,
@@ -107,6 +116,8 @@ enum reducer_number {
     REDUCER_HAS_LATCHES = 11,
     /* M other than I + A, or inputs or gate numbers not rising by 2 from literal 2 */
     REDUCER_WRONG_NUMBERING = 12,
+    /* a lock byte above 1, or in a file a field 06 whose index is no node's or not above the one before */
+    REDUCER_BAD_LOCK = 13,
     /* words of the list are left over: their number is not a multiple of 3 */
     REDUCER_LEFT_OVER = 101,
     /* a call of the list has a kind above 3 */
@@ -120,114 +131,126 @@ enum reducer_number {
 uint32_t reducer_field(const uint8_t *bytes, size_t bytes_length, size_t payload[2]);
 
 /*
- * Loads a tagged file: fills the first 3 * N words of the node table and the first O of the output table. numbers are I, N
- * and O. Refusals: 1, 2, 3, 4, 5, 6.
+ * Loads a tagged file: fills the first 3 * N words of the node table, the first O of the output table and the first N locks, with
+ * 1 for each node that a field 06 names and 0 for every other. numbers are I, N and O. Refusals: 1, 2, 3, 4, 5, 6, 13.
  */
 uint32_t reducer_load(const uint8_t *file, size_t file_length,
                       uint32_t *node_table, size_t node_table_length,
                       uint32_t *output_table, size_t output_table_length,
+                      uint8_t *locks, size_t locks_length,
                       uint32_t numbers[3]);
 
 /*
- * Writes the graph's tagged file to the front of the buffer. length is the file's length, at most
- * REDUCER_FILE_BYTES(nodes, outputs). Refusals: 3, 4, 5, 9.
+ * Writes the graph's tagged file to the front of the buffer, with a field 06 for each locked node. length is the file's length, at
+ * most REDUCER_FILE_BYTES(nodes, outputs). Refusals: 3, 4, 5, 13, 9.
  */
 uint32_t reducer_write(uint32_t inputs, uint32_t nodes, uint32_t outputs,
                        const uint32_t *node_table, size_t node_table_length,
                        const uint32_t *output_table, size_t output_table_length,
+                       const uint8_t *locks, size_t locks_length,
                        uint8_t *buffer, size_t buffer_length,
                        size_t *length);
 
 /*
- * Imports an ASCII AIGER text: fills both tables as reducer_load does. numbers are I, N and O, N being the header's A. The text
- * is a header "aag M I L O A", a line an input with its literal, a line an output with its own, and a line a gate with the
- * gate's literal and two that name lower indices. Numbers are decimal, below 2 to the 32nd, without leading zeros; one space
- * parts them and a newline ends each line. An AND becomes a majority with word 1 equal to 0 and words 2 and 3 in the line's
- * order. What follows the last gate is not read. Refusals: 10, 11, 12, 3, 4, 5.
+ * Imports an ASCII AIGER text: fills tables and locks as reducer_load does, every node being free. numbers are I, N and O, N
+ * being the header's A. The text is a header "aag M I L O A", a line an input with its literal, a line an output with its own,
+ * and a line a gate with the gate's literal and two that name lower indices. Numbers are decimal, below 2 to the 32nd, without
+ * leading zeros; one space parts them and a newline ends each line. An AND becomes a majority with word 1 equal to 0 and words 2
+ * and 3 in the line's order. What follows the last gate is not read. Refusals: 10, 11, 12, 3, 4, 5.
  */
 uint32_t reducer_import(const uint8_t *text, size_t text_length,
                         uint32_t *node_table, size_t node_table_length,
                         uint32_t *output_table, size_t output_table_length,
+                        uint8_t *locks, size_t locks_length,
                         uint32_t numbers[3]);
 
 /*
- * Writes the graph's ASCII AIGER text to the front of the buffer: a majority as four ANDs, an XOR as three, and no symbols or
- * comment. length is the text's length; REDUCER_TEXT_BYTES(inputs, nodes, outputs) are enough. reducer_import refuses the text by
- * 3 or 4 only, and else gives a graph with the same value at every output under every assignment. Refusals: 3, 4, 5, 8, 9.
+ * Writes the graph's ASCII AIGER text to the front of the buffer: a majority as four ANDs, an XOR as three, and no symbols,
+ * comment or locks. length is the text's length; REDUCER_TEXT_BYTES(inputs, nodes, outputs) are enough. reducer_import refuses
+ * the text by 3 or 4 only, and else gives a graph with the same value at every output under every assignment. Refusals: 3, 4, 5,
+ * 13, 8, 9.
  */
 uint32_t reducer_export(uint32_t inputs, uint32_t nodes, uint32_t outputs,
                         const uint32_t *node_table, size_t node_table_length,
                         const uint32_t *output_table, size_t output_table_length,
+                        const uint8_t *locks, size_t locks_length,
                         uint32_t *scratch, size_t scratch_length,
                         uint8_t *buffer, size_t buffer_length,
                         size_t *length);
 
 /*
  * Evaluates all outputs under 64 assignments: bit j of input word k is input k + 1 under assignment j, and bit j of result o
- * output o under it. Needs I input words and O results. Refusals: 3, 4, 5, 8.
+ * output o under it. Needs I input words and O results. Refusals: 3, 4, 5, 13, 8.
  */
 uint32_t reducer_evaluate(uint32_t inputs, uint32_t nodes, uint32_t outputs,
                           const uint32_t *node_table, size_t node_table_length,
                           const uint32_t *output_table, size_t output_table_length,
+                          const uint8_t *locks, size_t locks_length,
                           const uint64_t *input_words, size_t input_words_length,
                           uint64_t *scratch, size_t scratch_length,
                           uint64_t *results, size_t results_length);
 
-/* How many edges are complemented, those from the constant among them. Refusals: 3, 4, 5. */
+/* How many edges are complemented, those from the constant among them. Refusals: 3, 4, 5, 13. */
 uint32_t reducer_count(uint32_t inputs, uint32_t nodes, uint32_t outputs,
                        const uint32_t *node_table, size_t node_table_length,
                        const uint32_t *output_table, size_t output_table_length,
+                       const uint8_t *locks, size_t locks_length,
                        uint32_t *count);
 
-/* Makes the best move of one node, given by its index. Refusals: 3, 4, 5, 7. */
+/* Makes the best move of one node, given by its index. Refusals: 3, 4, 5, 13, 7. */
 uint32_t reducer_node(uint32_t inputs, uint32_t nodes, uint32_t outputs,
                       uint32_t *node_table, size_t node_table_length,
                       uint32_t *output_table, size_t output_table_length,
+                      const uint8_t *locks, size_t locks_length,
                       uint32_t node,
                       int64_t saving[2]);
 
 /*
  * Makes the best moves of a node and of the node that its word 1, 2 or 3 names; a word that names no node changes nothing and
- * saves nothing. Refusals: 3, 4, 5, 7.
+ * saves nothing. Refusals: 3, 4, 5, 13, 7.
  */
 uint32_t reducer_pair(uint32_t inputs, uint32_t nodes, uint32_t outputs,
                       uint32_t *node_table, size_t node_table_length,
                       uint32_t *output_table, size_t output_table_length,
+                      const uint8_t *locks, size_t locks_length,
                       uint32_t node, uint32_t word,
                       int64_t saving[2]);
 
 /*
  * What two moves would save, with nothing changed: named_move at the node that word 1, 2 or 3 of a node names, and node_move at
  * the node. gain is the number of complemented edges before less that after, below 0 where there would be more; 0 for a word that
- * names no node. A move that a node's kind lacks turns nothing. Refusals: 3, 4, 5, 7.
+ * names no node. A move that a node's kind lacks, or any at a locked node, turns nothing. Refusals: 3, 4, 5, 13, 7.
  */
 uint32_t reducer_trial(uint32_t inputs, uint32_t nodes, uint32_t outputs,
                        const uint32_t *node_table, size_t node_table_length,
                        const uint32_t *output_table, size_t output_table_length,
+                       const uint8_t *locks, size_t locks_length,
                        uint32_t node, uint32_t word,
                        uint32_t named_move, uint32_t node_move,
                        int64_t *gain);
 
 /*
  * Makes the best moves of the tree of a root: a node with other than one reader, or with one that is an output. Refusals: 3,
- * 4, 5, 7, 8.
+ * 4, 5, 13, 7, 8.
  */
 uint32_t reducer_tree(uint32_t inputs, uint32_t nodes, uint32_t outputs,
                       uint32_t *node_table, size_t node_table_length,
                       uint32_t *output_table, size_t output_table_length,
+                      const uint8_t *locks, size_t locks_length,
                       uint32_t root,
                       uint32_t *scratch, size_t scratch_length,
                       int64_t saving[2]);
 
 /*
  * Tells what reducer_tree would do at a root, and does none of it: both tables are only read. saving is what reducer_tree would
- * answer. moves has a byte a node: byte v becomes the move that node I + 1 + v has in that call, and 0 outside the root's tree;
- * later bytes are left. Needs REDUCER_TREE_SCRATCH(nodes) words of scratch. Refusals: 3, 4 (tables, or fewer bytes than nodes),
- * 5, 7, 8; a refused call has changed nothing, scratch included.
+ * answer. moves has a byte a node: byte v becomes the move that node I + 1 + v has in that call, and 0 outside the root's tree and
+ * at locked nodes; later bytes are left. Needs REDUCER_TREE_SCRATCH(nodes) words of scratch. Refusals: 3, 4 (tables, locks, or
+ * fewer bytes than nodes), 5, 13, 7, 8; a refused call has changed nothing, scratch included.
  */
 uint32_t reducer_preview(uint32_t inputs, uint32_t nodes, uint32_t outputs,
                          const uint32_t *node_table, size_t node_table_length,
                          const uint32_t *output_table, size_t output_table_length,
+                         const uint8_t *locks, size_t locks_length,
                          uint32_t root,
                          uint8_t *moves, size_t moves_length,
                          uint32_t *scratch, size_t scratch_length,
@@ -236,27 +259,29 @@ uint32_t reducer_preview(uint32_t inputs, uint32_t nodes, uint32_t outputs,
 /*
  * Makes rounds of all tree, node and pair calls until one saves nothing. figures are the rounds made, that last one included,
  * and the complemented edges before and after. savings are the sums over all calls of all rounds: of what each saved among the
- * words of the nodes that it names, and of what it saved among all other edges. Refusals: 3, 4, 5, 8.
+ * words of the nodes that it names, and of what it saved among all other edges. Refusals: 3, 4, 5, 13, 8.
  */
 uint32_t reducer_settle(uint32_t inputs, uint32_t nodes, uint32_t outputs,
                         uint32_t *node_table, size_t node_table_length,
                         uint32_t *output_table, size_t output_table_length,
+                        const uint8_t *locks, size_t locks_length,
                         uint32_t *scratch, size_t scratch_length,
                         uint32_t figures[3],
                         int64_t savings[2]);
 
 /*
- * Loads a tagged file and makes a list of calls on the loaded graph, each on what the one before left. A call is three words:
- * its kind, a node's index and a word, of which those that the kind does not want are not looked at. Its answer is three words
- * at the front of answers: the number that its own function would return, and both numbers of its saving, for settling those of
- * its savings; a refused call saves nothing, changes nothing, and the list goes on. All calls are lent the same scratch. numbers
- * are I, N and O. Refusals: 101, 102, 4 (fewer than three words of answers a call), then those of reducer_load; then no call is
- * made.
+ * Loads a tagged file and makes a list of calls on the loaded graph and locks, each on what the one before left. A call is three
+ * words: its kind, a node's index and a word, of which those that the kind does not want are not looked at. Its answer is three
+ * words at the front of answers: the number that its own function would return, and both numbers of its saving, for settling
+ * those of its savings; a refused call saves nothing, changes nothing, and the list goes on. All calls are lent the same scratch.
+ * numbers are I, N and O. Refusals: 101, 102, 4 (fewer than three words of answers a call), then those of reducer_load; then no
+ * call is made.
  */
 uint32_t reducer_replay(const uint8_t *file, size_t file_length,
                         const uint32_t *calls, size_t calls_length,
                         uint32_t *node_table, size_t node_table_length,
                         uint32_t *output_table, size_t output_table_length,
+                        uint8_t *locks, size_t locks_length,
                         uint32_t *scratch, size_t scratch_length,
                         int64_t *answers, size_t answers_length,
                         uint32_t numbers[3]);

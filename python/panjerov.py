@@ -6,7 +6,8 @@
     print(graph.settle())
     open("settled.bin", "wb").write(graph.write())
 
-import_aiger and Graph.export_aiger do the same for ASCII AIGER, the text of and-inverter tools.
+import_aiger and Graph.export_aiger do the same for ASCII AIGER, the text of and-inverter tools. Graph.lock locks a node that is laid
+out already: no call turns it, and its file says so.
 
 Every call is one of the proved library's. A call that cannot be made raises: Refused, with the number of the refusal, where
 the library refuses it; TypeError or ValueError where an argument is not of the kind that the library takes. Either way
@@ -42,7 +43,7 @@ _WHY = {
     1: "the bytes end within a field",
     2: "a field has not the tag or the length that is due",
     3: "there are too many inputs, nodes or outputs",
-    4: "a table, input or result slice is too short",
+    4: "a table, slice of locks, input or result slice is too short",
     5: "a literal names an index that is not allowed there",
     6: "there are bytes after the end field",
     7: "there is no such node, root or word",
@@ -51,12 +52,13 @@ _WHY = {
     10: "the header has no \"aag\", or a line lacks its decimal numbers",
     11: "there are latches",
     12: "M is not I + A, or inputs or gate numbers do not rise by 2 from literal 2",
+    13: "a lock byte is above 1, or a lock of a file is at no node or not above the one before",
     102: "a call of the list has a kind that is none",
 }
 
 
 class Refused(Exception):
-    """A call that the library refuses. `number` is 1 to 12, or 102 of a replay; nothing has changed."""
+    """A call that the library refuses. `number` is 1 to 13, or 102 of a replay; nothing has changed."""
 
     def __init__(self, number: int) -> None:
         super().__init__(f"refused {number}: {_WHY.get(number, 'for no known cause')}")
@@ -88,7 +90,7 @@ class Settled(NamedTuple):
 
 
 class Preview(NamedTuple):
-    """What a tree call would save, and a byte a node by rising index: its move there, and 0 outside the tree."""
+    """What a tree call would save, and a byte a node by rising index: its move there, and 0 outside the tree and at locked nodes."""
 
     saving: Saving
     moves: bytes
@@ -132,7 +134,7 @@ _U64 = ctypes.c_uint64
 _I64 = ctypes.c_int64
 _SIZE = ctypes.c_size_t
 _WORDS = [ctypes.c_void_p, _SIZE]
-_GRAPH = [_U32, _U32, _U32] + _WORDS + _WORDS
+_GRAPH = [_U32, _U32, _U32] + _WORDS * 3
 
 
 def _function(name: str, arguments: list):
@@ -143,9 +145,9 @@ def _function(name: str, arguments: list):
 
 
 _field = _function("reducer_field", _WORDS + [ctypes.c_void_p])
-_load = _function("reducer_load", _WORDS * 3 + [ctypes.c_void_p])
+_load = _function("reducer_load", _WORDS * 4 + [ctypes.c_void_p])
 _write = _function("reducer_write", _GRAPH + _WORDS + [ctypes.c_void_p])
-_import = _function("reducer_import", _WORDS * 3 + [ctypes.c_void_p])
+_import = _function("reducer_import", _WORDS * 4 + [ctypes.c_void_p])
 _export = _function("reducer_export", _GRAPH + _WORDS * 2 + [ctypes.c_void_p])
 _evaluate = _function("reducer_evaluate", _GRAPH + _WORDS * 3)
 _count = _function("reducer_count", _GRAPH + [ctypes.c_void_p])
@@ -155,7 +157,7 @@ _trial = _function("reducer_trial", _GRAPH + [_U32] * 4 + [ctypes.c_void_p])
 _tree = _function("reducer_tree", _GRAPH + [_U32] + _WORDS + [ctypes.c_void_p])
 _preview = _function("reducer_preview", _GRAPH + [_U32] + _WORDS * 2 + [ctypes.c_void_p])
 _settle = _function("reducer_settle", _GRAPH + _WORDS + [ctypes.c_void_p] * 2)
-_replay = _function("reducer_replay", _WORDS * 6 + [ctypes.c_void_p])
+_replay = _function("reducer_replay", _WORDS * 7 + [ctypes.c_void_p])
 
 
 def _number(value: int, bits: int, what: str) -> int:
@@ -207,19 +209,27 @@ def _said(file: bytes, at: int) -> int:
     return int.from_bytes(file[at : at + 4], "big") if len(file) >= at + 4 else 0
 
 
-def _tables(nodes: int, outputs: int):
-    """Tables with room for so many nodes and outputs, at most the limits, and their lengths."""
-    node_words, output_words = 3 * min(nodes, MOST_NODES), min(outputs, MOST_OUTPUTS)
-    return _array(_U32, node_words), node_words, _array(_U32, output_words), output_words
+def _tables(nodes: int, outputs: int) -> list:
+    """Tables and locks with room for so many nodes and outputs, at most the limits, each before its length."""
+    count, output_words = min(nodes, MOST_NODES), min(outputs, MOST_OUTPUTS)
+    tables = [_array(_U32, 3 * count), 3 * count, _array(_U32, output_words), output_words]
+    return tables + [_array(ctypes.c_uint8, count), count]
 
 
-def _room(file: bytes):
-    """Tables with room for what the head says."""
+def _graph(inputs: int, tables: list) -> "Graph":
+    """The graph that an accepted call has left in tables and locks."""
+    nodes, node_words, outputs, output_words, locks, count = tables
+    locked = [inputs + 1 + at for at, byte in enumerate(locks[:count]) if byte]
+    return Graph(inputs, nodes[:node_words], outputs[:output_words], locked)
+
+
+def _room(file: bytes) -> list:
+    """Tables and locks with room for what the head says."""
     return _tables(_said(file, 7), _said(file, 11))
 
 
-def _text_room(text: bytes):
-    """Tables with room for what the header says. A line that is longer is no header that is accepted."""
+def _text_room(text: bytes) -> list:
+    """Tables and locks with room for what the header says. A line that is longer is no header that is accepted."""
     words = text[:64].split(b"\n")[0].split(b" ")
     said = [int(word) if word.isdigit() else 0 for word in words]
     return _tables(said[5], said[4]) if len(said) == 6 else _tables(0, 0)
@@ -234,25 +244,23 @@ def field(data: bytes) -> bytes:
 
 
 def load(file: bytes) -> "Graph":
-    """The graph that a tagged file holds."""
+    """The graph that a tagged file holds, with its locks."""
     array, length = _bytes(file, "file")
-    nodes, node_words, outputs, output_words = _room(bytes(file))
-    numbers = (_U32 * 3)()
-    _accept(_load(array, length, nodes, node_words, outputs, output_words, numbers))
-    return Graph(numbers[0], nodes[:node_words], outputs[:output_words])
+    tables, numbers = _room(bytes(file)), (_U32 * 3)()
+    _accept(_load(array, length, *tables, numbers))
+    return _graph(numbers[0], tables)
 
 
 def import_aiger(text: bytes) -> "Graph":
-    """The graph that an ASCII AIGER text says: a majority of the constant and two literals for each AND."""
+    """The graph that an ASCII AIGER text says: a majority of the constant and two literals for each AND, every node free."""
     array, length = _bytes(text, "text")
-    nodes, node_words, outputs, output_words = _text_room(bytes(text))
-    numbers = (_U32 * 3)()
-    _accept(_import(array, length, nodes, node_words, outputs, output_words, numbers))
-    return Graph(numbers[0], nodes[:node_words], outputs[:output_words])
+    tables, numbers = _text_room(bytes(text)), (_U32 * 3)()
+    _accept(_import(array, length, *tables, numbers))
+    return _graph(numbers[0], tables)
 
 
 def replay(file: bytes, calls: Iterable[Sequence[int]]) -> Tuple["Graph", List[Told]]:
-    """The graph that a tagged file holds after a list of calls, and what each call answers.
+    """The graph that a tagged file holds after a list of calls, each of which gets its locks, and what each call answers.
 
     A call is its kind (NODE, PAIR, TREE or SETTLE), a node and a word; those that a kind does not want are not looked at. A
     call that is refused changes nothing, and the list goes on.
@@ -262,66 +270,113 @@ def replay(file: bytes, calls: Iterable[Sequence[int]]) -> Tuple["Graph", List[T
     if any(len(call) != 3 for call in listed):
         raise ValueError("each of calls must be a kind, a node and a word")
     words, count = _numbers([word for call in listed for word in call], _U32, "calls")
-    nodes, node_words, outputs, output_words = _room(bytes(file))
-    scratch_words, answer_words = 8 * (node_words // 3), 3 * len(listed)
+    tables = _room(bytes(file))
+    scratch_words, answer_words = 8 * tables[5], 3 * len(listed)
     scratch, answers, numbers = _array(_U32, scratch_words), _array(_I64, answer_words), (_U32 * 3)()
-    tables = [nodes, node_words, outputs, output_words]
     _accept(_replay(array, length, words, count, *tables, scratch, scratch_words, answers, answer_words, numbers))
     told = [Told(answers[at], Saving(answers[at + 1], answers[at + 2])) for at in range(0, answer_words, 3)]
-    return Graph(numbers[0], nodes[:node_words], outputs[:output_words]), told
+    return _graph(numbers[0], tables), told
 
 
 class Graph:
     """A graph of majorities and XORs.
 
     `nodes` has three words a node, a third word MARK making it an XOR; `outputs` has one literal an output. A literal is
-    2 * index, plus 1 if complemented; index 0 is the constant false, inputs follow, then nodes.
+    2 * index, plus 1 if complemented; index 0 is the constant false, inputs follow, then nodes. `locked` are the indices of nodes
+    that no call may turn; the others are free.
     """
 
     inputs: int
     nodes: List[int]
     outputs: List[int]
 
-    def __init__(self, inputs: int, nodes: Sequence[int], outputs: Sequence[int]) -> None:
+    def __init__(self, inputs: int, nodes: Sequence[int], outputs: Sequence[int], locked: Iterable[int] = ()) -> None:
         self.inputs = _number(inputs, 32, "inputs")
         self.nodes = [_number(word, 32, "each of nodes") for word in nodes]
         self.outputs = [_number(word, 32, "each of outputs") for word in outputs]
         if len(self.nodes) % 3 != 0:
             raise ValueError("nodes must have three words a node")
+        self._locked = {self._node(index) for index in locked}
 
     def __repr__(self) -> str:
-        return f"Graph({self.inputs}, {self.nodes}, {self.outputs})"
+        locked = f", {self.locked}" if self._locked else ""
+        return f"Graph({self.inputs}, {self.nodes}, {self.outputs}{locked})"
 
     def __eq__(self, other: object) -> bool:
         if not isinstance(other, Graph):
             return NotImplemented
-        return (self.inputs, self.nodes, self.outputs) == (other.inputs, other.nodes, other.outputs)
+        mine = (self.inputs, self.nodes, self.outputs, self._locked)
+        return mine == (other.inputs, other.nodes, other.outputs, other._locked)
+
+    def _has(self, index: int) -> bool:
+        """Whether this is the index of a node."""
+        return self.inputs < index <= self.inputs + len(self.nodes) // 3
+
+    def _node(self, index: int) -> int:
+        """The index as an int, if it is that of a node."""
+        number = _number(index, 32, "each of locked")
+        if not self._has(number):
+            raise ValueError(f"each of locked must be the index of a node, and is {number}")
+        return number
+
+    def _locks(self) -> list:
+        """The locks as bytes, and how many there are."""
+        count = len(self.nodes) // 3
+        locks = _array(ctypes.c_uint8, count)
+        for index in self._locked:
+            locks[self._node(index) - self.inputs - 1] = 1
+        return [locks, count]
 
     def _lent(self) -> list:
-        """I, N, O and both tables, as every call takes them. What was set since is checked again."""
+        """I, N, O, both tables and the locks, as every call takes them. What was set since is checked again."""
         nodes, node_words = _numbers(self.nodes, _U32, "nodes")
         outputs, output_words = _numbers(self.outputs, _U32, "outputs")
         if node_words % 3 != 0:
             raise ValueError("nodes must have three words a node")
         inputs = _number(self.inputs, 32, "inputs")
         count = _number(node_words // 3, 32, "the number of nodes")
-        return [inputs, count, _number(output_words, 32, "the number of outputs"), nodes, node_words, outputs, output_words]
+        sizes = [inputs, count, _number(output_words, 32, "the number of outputs")]
+        return sizes + [nodes, node_words, outputs, output_words] + self._locks()
 
     def _take(self, lent: list) -> None:
         """Keeps the tables as an accepted call left them."""
-        _, _, _, nodes, node_words, outputs, output_words = lent
+        nodes, node_words, outputs, output_words = lent[3:7]
         self.nodes, self.outputs = nodes[:node_words], outputs[:output_words]
 
+    def _named(self, index: int) -> int:
+        """The index as an int; what is no node's is refused as a node call refuses it."""
+        number = _number(index, 32, "index")
+        if not self._has(number):
+            raise Refused(7)
+        return number
+
+    @property
+    def locked(self) -> List[int]:
+        """The indices of the locked nodes, rising."""
+        return sorted(self._locked)
+
+    def lock(self, index: int) -> None:
+        """Locks the node of this index, locked or not: no call turns it from then on."""
+        self._locked.add(self._named(index))
+
+    def unlock(self, index: int) -> None:
+        """Frees the node of this index, locked or not."""
+        self._locked.discard(self._named(index))
+
+    def is_locked(self, index: int) -> bool:
+        """Whether the node of this index is locked."""
+        return self._named(index) in self._locked
+
     def write(self) -> bytes:
-        """The graph's tagged file."""
+        """The graph's tagged file, which has its locks."""
         lent = self._lent()
-        room = 18 + 5 * lent[4] + 7 * lent[6]
+        room = 18 + 22 * lent[1] + 7 * lent[6]
         buffer, length = _array(ctypes.c_uint8, room), _SIZE()
         _accept(_write(*lent, buffer, room, ctypes.byref(length)))
         return bytes(buffer[: length.value])
 
     def export_aiger(self) -> bytes:
-        """The graph's ASCII AIGER text: four ANDs for each majority, three for each XOR."""
+        """The graph's ASCII AIGER text: four ANDs for each majority, three for each XOR. It says nothing of locks."""
         # A graph over the limits is refused before room is looked at, and gets none.
         self.complemented_edges()
         lent = self._lent()
@@ -360,7 +415,8 @@ class Graph:
         return Saving(*saving)
 
     def trial(self, node: int, word: int, named_move: int, node_move: int) -> int:
-        """What a move at the node that a word (1 to 3) names and one at the node would save; less than 0 where they lose."""
+        """What a move at the node that a word (1 to 3) names and one at the node would save; less than 0 where they lose. A move that a
+        node's kind lacks, or any at a locked node, turns nothing."""
         numbers = [("node", node), ("word", word), ("named_move", named_move), ("node_move", node_move)]
         gain = _I64()
         _accept(_trial(*self._lent(), *(_number(value, 32, what) for what, value in numbers), ctypes.byref(gain)))

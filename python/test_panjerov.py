@@ -44,7 +44,14 @@ def random_graph(generator: random.Random) -> Graph:
         nodes += [generator.randrange(2 * index) for _ in range(2)]
         nodes.append(MARK if generator.random() < 0.4 else generator.randrange(2 * index))
     end = 2 * (inputs + 1 + len(nodes) // 3)
-    return Graph(inputs, nodes, [generator.randrange(end) for _ in range(generator.randrange(5))])
+    # No node is locked, or some, or all.
+    chance = generator.choice([0, 0, 0.2, 0.5, 1])
+    locked = [index for index in range(inputs + 1, end // 2) if generator.random() < chance]
+    return Graph(inputs, nodes, [generator.randrange(end) for _ in range(generator.randrange(5))], locked)
+
+
+def copied(graph: Graph) -> Graph:
+    return Graph(graph.inputs, graph.nodes, graph.outputs, graph.locked)
 
 
 MAJORITY_ROWS = [(0, 0, 0, 0), (1, 1, 1, 1)]
@@ -60,7 +67,7 @@ def made(graph: Graph, moves: bytes) -> Graph:
         return word if word == MARK else word ^ readers[word // 2]
 
     nodes = [turned(word) ^ rows[at // 3][at % 3] for at, word in enumerate(graph.nodes)]
-    return Graph(graph.inputs, nodes, [turned(word) for word in graph.outputs])
+    return Graph(graph.inputs, nodes, [turned(word) for word in graph.outputs], graph.locked)
 
 
 def one_round(graph: Graph) -> list:
@@ -134,7 +141,7 @@ class Good(unittest.TestCase):
         for _ in range(1000):
             graph = random_graph(generator)
             root = generator.randrange(graph.inputs + 1, graph.inputs + 2 + len(graph.nodes) // 3)
-            before, after = repr(graph), Graph(graph.inputs, graph.nodes, graph.outputs)
+            before, after = repr(graph), copied(graph)
             try:
                 told = graph.preview(root)
             except Refused as refused:
@@ -145,8 +152,83 @@ class Good(unittest.TestCase):
             self.assertEqual(repr(graph), before)
             self.assertEqual(after.tree_call(root), told.saving)
             self.assertEqual(made(graph, told.moves), after)
+            self.assertTrue(all(told.moves[index - graph.inputs - 1] == 0 for index in graph.locked))
             accepted += 1
         self.assertGreater(accepted, 500)
+
+    def test_locks(self) -> None:
+        graph = Graph(5, [3, 5, 6, 13, 8, 11], [14])
+        self.assertEqual((graph.locked, graph.is_locked(7)), ([], False))
+        graph.lock(7)
+        graph.lock(6)
+        graph.lock(7)
+        self.assertEqual((graph.locked, graph.is_locked(7)), ([6, 7], True))
+        graph.unlock(6)
+        graph.unlock(6)
+        self.assertEqual(graph, Graph(5, [3, 5, 6, 13, 8, 11], [14], [7]))
+        self.assertNotEqual(graph, Graph(5, [3, 5, 6, 13, 8, 11], [14]))
+        self.assertEqual(eval(repr(graph)), graph)
+        self.assertEqual(Graph(5, graph.nodes, [14], (7, 6, 7)).locked, [6, 7])
+        # What it gives is a list of its own.
+        graph.locked.append(6)
+        self.assertEqual(graph.locked, [7])
+        # A node more is free.
+        graph.nodes += [2, 4, 6]
+        self.assertEqual((graph.complemented_edges(), graph.locked), (4, [7]))
+
+    def test_calls_with_locks(self) -> None:
+        """P2 with node 6 locked stays; with node 7 locked its first word turns; P3 with either saves nothing."""
+        p2, p3 = [3, 5, 6, 13, 8, 11], [3, 5, 6, 12, 9, 10]
+        for locked in [[6], [6, 7]]:
+            graph = Graph(5, p2, [14], locked)
+            self.assertEqual([graph.tree_call(7), graph.pair_call(7, 1), graph.node_call(6)], [(0, 0)] * 3)
+            self.assertEqual(graph, Graph(5, p2, [14], locked))
+        graph = Graph(5, p2, [14], [7])
+        self.assertEqual(graph.preview(7), ((2, 0), bytes([1, 0])))
+        self.assertEqual((graph.tree_call(7), graph), ((2, 0), Graph(5, [2, 4, 7, 12, 8, 11], [14], [7])))
+        for locked in [[6], [7], [6, 7]]:
+            graph = Graph(5, p3, [15], locked)
+            self.assertEqual([graph.pair_call(7, 1), graph.tree_call(7)], [(0, 0)] * 2)
+            self.assertEqual(graph.settle(), (1, 4, 4, 0, 0))
+            self.assertEqual(graph, Graph(5, p3, [15], locked))
+        twice = Graph(2, [3, 5, 0, 7, 7, 3], [9], [3])
+        moves = [(0, 0), (0, 1), (1, 0), (1, 1)]
+        self.assertEqual([twice.trial(4, 1, *both) for both in moves], [0, 4, 0, 4])
+        graph = Graph(3, [3, 4, 6, 3, 5, 8], [9, 9, 11], [4])
+        self.assertEqual(graph.settle(), (2, 6, 4, 1, 1))
+        self.assertEqual(graph, Graph(3, [3, 4, 6, 2, 4, 9], [9, 9, 10], [4]))
+
+    def test_files_with_locks(self) -> None:
+        graph = Graph(5, [3, 5, 6, 13, 8, 11], [14])
+        free = graph.write()
+        graph.lock(7)
+        file = graph.write()
+        self.assertEqual(file, free[:52] + bytes([6, 0, 4, 0, 0, 0, 7]) + free[52:])
+        self.assertEqual(panjerov.load(file), graph)
+        self.assertEqual(panjerov.field(file[52:]), bytes([0, 0, 0, 7]))
+        # Each call of a replay gets the locks of the file.
+        after, told = panjerov.replay(file, [(panjerov.NODE, 7, 0), (panjerov.TREE, 7, 0)])
+        self.assertEqual((after.locked, told), ([7], [(0, (0, 0)), (0, (2, 0))]))
+        graph.lock(6)
+        self.assertEqual(panjerov.replay(graph.write(), [(panjerov.SETTLE, 0, 0)]), (graph, [(0, (0, 0))]))
+        # A text has no locks.
+        self.assertEqual(panjerov.import_aiger(graph.export_aiger()).locked, [])
+        generator = random.Random(8)
+        for _ in range(500):
+            graph = random_graph(generator)
+            self.assertEqual(panjerov.load(graph.write()), graph)
+
+    def test_all_locked(self) -> None:
+        generator = random.Random(9)
+        for _ in range(300):
+            graph = random_graph(generator)
+            for index in range(graph.inputs + 1, graph.inputs + 1 + len(graph.nodes) // 3):
+                graph.lock(index)
+            before = copied(graph)
+            self.assertTrue(all(saving == (0, 0) for saving in one_round(graph)))
+            edges = graph.complemented_edges()
+            self.assertEqual(graph.settle(), (1, edges, edges, 0, 0))
+            self.assertEqual(graph, before)
 
     def test_trials(self) -> None:
         graph = Graph(5, [3, 5, 6, 12, 9, 10], [15])
@@ -174,9 +256,9 @@ class Good(unittest.TestCase):
     def test_settling_call_by_call(self) -> None:
         generator = random.Random(6)
         lost = 0
-        for _ in range(300):
+        for _ in range(600):
             graph = random_graph(generator)
-            settled, single = Graph(graph.inputs, graph.nodes, graph.outputs), Graph(graph.inputs, graph.nodes, graph.outputs)
+            settled, single = copied(graph), copied(graph)
             told, sums = settled.settle(), [0, 0]
             for _ in range(told.rounds):
                 for saving in one_round(single):
@@ -204,7 +286,8 @@ class Good(unittest.TestCase):
             for index in range(4, 4 + generator.randrange(9)):
                 nodes += [generator.randrange(2 * index) for _ in range(3)]
             end = 2 * (4 + len(nodes) // 3)
-            graph = Graph(3, nodes, [generator.randrange(end) for _ in range(2)])
+            locked = [index for index in range(4, end // 2) if generator.random() < 0.2]
+            graph = Graph(3, nodes, [generator.randrange(end) for _ in range(2)], locked)
             calls = [(generator.randrange(4), generator.randrange(3, end // 2), generator.randrange(4)) for _ in range(6)]
             after, told = panjerov.replay(graph.write(), calls)
             for (kind, node, word), answer in zip(calls, told):
@@ -276,6 +359,10 @@ class Good(unittest.TestCase):
         self.assertEqual(graph.complemented_edges(), settled.after)
         self.assertEqual(graph.evaluate(words), before)
         self.assertEqual(panjerov.load(graph.write()), graph)
+        for index in range(4097, 104097):
+            graph.lock(index)
+        self.assertEqual(graph.settle(), (1, settled.after, settled.after, 0, 0))
+        self.assertEqual(panjerov.load(graph.write()).locked, list(range(4097, 104097)))
         text = graph.export_aiger()
         xors = graph.nodes[2::3].count(MARK)
         gates = 400000 - xors
@@ -329,10 +416,59 @@ class Bad(unittest.TestCase):
             with self.assertRaises(Refused) as caught:
                 panjerov.load(bad)
             self.assertEqual(caught.exception.number, number)
-        for number, bad in [(1, b"\1\0"), (2, b"\6\0\0"), (1, b"\1\0\x0c")]:
+        for number, bad in [(1, b"\1\0"), (2, b"\6\0\0"), (2, b"\7\0\4\0\0\0\0"), (1, b"\6\0\4"), (1, b"\1\0\x0c")]:
             with self.assertRaises(Refused) as caught:
                 panjerov.field(bad)
             self.assertEqual(caught.exception.number, number)
+
+    def test_locks_of_files(self) -> None:
+        """Document 01's P2: nodes 6 and 7. Fields 06 stand before the end, which is at byte 52."""
+        free = Graph(5, [3, 5, 6, 13, 8, 11], [14]).write()
+
+        def lock(index: int) -> bytes:
+            return b"\6\0\4" + index.to_bytes(4, "big")
+
+        for number, fields in [
+            (13, [lock(5)]),
+            (13, [lock(8)]),
+            (13, [lock(2**32 - 1)]),
+            (13, [lock(6), lock(6)]),
+            (13, [lock(7), lock(6)]),
+            (2, [b"\6\0\3\0\0\6"]),
+            (2, [b"\7\0\4\0\0\0\6"]),
+            (2, [lock(6), b"\4\0\4\0\0\0\16"]),
+        ]:
+            with self.assertRaises(Refused) as caught:
+                panjerov.load(free[:52] + b"".join(fields) + free[52:])
+            self.assertEqual(caught.exception.number, number, fields)
+        for number, bad in [
+            (1, free[:52] + lock(6)[:6]),
+            (1, free[:52] + lock(6)),
+            (2, free[:45] + lock(6) + free[45:]),
+            (6, free + lock(6)),
+        ]:
+            with self.assertRaises(Refused) as caught:
+                panjerov.load(bad)
+            self.assertEqual(caught.exception.number, number)
+
+    def test_locks(self) -> None:
+        for call in ["lock", "unlock", "is_locked"]:
+            for index in [0, 5, 8, 2**32 - 1]:
+                self.refused(7, Graph(5, [3, 5, 6, 13, 8, 11], [14], [7]), call, index)
+            with self.assertRaises(TypeError):
+                getattr(p1(), call)("4")
+            with self.assertRaises(ValueError):
+                getattr(p1(), call)(-1)
+        for error, locked in [(ValueError, [3]), (ValueError, [4, 5]), (ValueError, [-1]), (TypeError, ["4"]), (TypeError, 4)]:
+            with self.assertRaises(error):
+                Graph(3, [3, 5, 7], [9], locked)
+        with self.assertRaises(AttributeError):
+            p1().locked = [4]
+        # A locked node that is no more.
+        graph = Graph(5, [3, 5, 6, 13, 8, 11], [14], [7])
+        graph.nodes, graph.outputs = graph.nodes[:3], [12]
+        with self.assertRaises(ValueError):
+            graph.settle()
 
     def test_texts(self) -> None:
         for number, bad in [
@@ -382,7 +518,7 @@ class Bad(unittest.TestCase):
 
     def test_any_bytes(self) -> None:
         generator = random.Random(1)
-        file = bytearray(Graph(3, [3, 5, 7, 8, 2, MARK], [9, 11]).write())
+        file = bytearray(Graph(3, [3, 5, 7, 8, 2, MARK], [9, 11], [4, 5]).write())
         for _ in range(5000):
             bad = bytearray(file[: generator.randrange(len(file) + 1)] if generator.random() < 0.3 else file)
             for _ in range(generator.randrange(4)):
@@ -391,7 +527,7 @@ class Bad(unittest.TestCase):
             try:
                 self.assertEqual(panjerov.load(bad).write(), bytes(bad))
             except Refused as refused:
-                self.assertIn(refused.number, range(1, 7))
+                self.assertIn(refused.number, (1, 2, 3, 4, 5, 6, 13))
 
     def test_any_text(self) -> None:
         """Whatever is changed, a text is refused by a number that it may have, or gives a graph that comes back."""

@@ -2,8 +2,8 @@
 
 use crate::shrink::Shrink;
 use reference::calls::Call;
-use reference::generate::{graph, with_tails, SHAPES};
-use reference::graph::{Graph, MARK};
+use reference::generate::{graph, with_locks, with_tails, SHAPES};
+use reference::graph::{check_room, Graph, Room, MARK};
 use reference::random::Random;
 
 /// A call, and by how many words its scratch is longer than it needs to be; by how many shorter, if less than 0.
@@ -39,14 +39,26 @@ pub struct Case {
     pub seed: u64,
 }
 
-/// A graph of a random shape, tails behind its tables.
+/// A graph of a random shape with no, some or all nodes locked, tails behind its tables and locks.
 pub fn random_graph(random: &mut Random, most_inputs: u32, most_nodes: u32, most_outputs: u32) -> Graph {
     let shape = SHAPES[random.below(SHAPES.len() as u32) as usize];
     let inputs = random.between(0, most_inputs);
     let nodes = random.between(0, most_nodes);
     let outputs = random.between(0, most_outputs);
     let g = graph(random, shape, inputs, nodes, outputs);
+    let g = with_locks(random, g);
     with_tails(random, g, 3)
+}
+
+/// Room for so many nodes and outputs; with a chance of three in so many a word or a byte too little, and else some more.
+pub fn room_near(random: &mut Random, nodes: usize, outputs: usize, many: u32) -> Room {
+    let enough = Room::of(nodes, outputs);
+    match random.below(many) {
+        0 => Room { node_words: enough.node_words.saturating_sub(1), ..enough },
+        1 => Room { output_words: outputs.saturating_sub(1), ..enough },
+        2 => Room { lock_bytes: nodes.saturating_sub(1), ..enough },
+        _ => Room { node_words: enough.node_words + 5, output_words: outputs + 2, lock_bytes: nodes + 3 },
+    }
 }
 
 /// A literal once index `gone` is no more: what named it names `instead`, indices above are one less.
@@ -72,6 +84,7 @@ fn without_node(g: &Graph, v: u32) -> Graph {
     let first = g.node_table[at];
     let mut next = rename_all(g, g.inputs + 1 + v, first);
     next.node_table.drain(at..at + 3);
+    next.locks.remove(v as usize);
     next.nodes -= 1;
     next
 }
@@ -89,9 +102,9 @@ fn without_output(g: &Graph, output: usize) -> Graph {
     next
 }
 
-/// Whether the tables are long enough to be taken apart.
+/// Whether tables and locks are long enough to be taken apart.
 fn whole(g: &Graph) -> bool {
-    g.node_table.len() >= 3 * g.nodes as usize && g.output_table.len() >= g.outputs as usize
+    check_room(g.nodes, g.outputs, g.room()).is_ok()
 }
 
 /// Smaller graphs, with the index that is no more, if one is.
@@ -113,14 +126,20 @@ fn smaller_graphs(g: &Graph) -> Vec<(Graph, Option<u32>)> {
     all
 }
 
-/// Graphs with fewer words in the tables' tails, and with lower words.
+/// Graphs with no tails, with fewer locks, and with lower words.
 fn simpler_graphs(g: &Graph) -> Vec<Graph> {
     let mut all = Vec::new();
     let ends = (3 * g.nodes as usize, g.outputs as usize);
-    if g.node_table.len() > ends.0 || g.output_table.len() > ends.1 {
+    if g.room() != Room::of(g.nodes as usize, ends.1) {
         let mut next = g.clone();
         next.node_table.truncate(ends.0);
         next.output_table.truncate(ends.1);
+        next.locks.truncate(g.nodes as usize);
+        all.push(next);
+    }
+    for v in (0..g.nodes as usize).filter(|&v| g.locks[v] != 0) {
+        let mut next = g.clone();
+        next.locks[v] = 0;
         all.push(next);
     }
     for place in 0..ends.0 + ends.1 {
@@ -146,7 +165,7 @@ pub fn show_graph(g: &Graph) -> String {
             words.iter().map(|&word| if word == MARK { "mark".into() } else { word.to_string() }).collect();
         text += &format!(" {tail}{};", shown.join(" "));
     }
-    format!("{text} -> {:?}", g.output_table)
+    format!("{text} -> {:?}, locks {:?}", g.output_table, g.locks)
 }
 
 impl Shrink for Case {

@@ -5,7 +5,7 @@ use crate::lists::{differ, tables};
 use crate::plain;
 use crate::raw;
 use reference::generate::{graph, Shape};
-use reference::graph::{Graph, MARK, MOST_INPUTS, MOST_NODES, MOST_OUTPUTS};
+use reference::graph::{Graph, Room, MARK, MOST_INPUTS, MOST_NODES, MOST_OUTPUTS};
 use reference::random::Random;
 use reference::{aiger, evaluation};
 
@@ -39,22 +39,22 @@ fn check_room(g: &Graph, scratch: usize, room: usize) -> Result<Result<usize, u3
 
 pub fn owned(g: &Graph) -> reducer::Graph {
     let size = reducer::Size { inputs: g.inputs, nodes: g.nodes, outputs: g.outputs };
-    reducer::Graph { size, node_table: g.node_table.clone(), output_table: g.output_table.clone() }
+    let Graph { node_table, output_table, locks, .. } = g.clone();
+    reducer::Graph { size, node_table, output_table, locks }
 }
 
-/// The import of a text into tables of just its size.
+/// The import of a text where just enough is lent.
 fn imported(text: &[u8], gates: usize, outputs: usize) -> Result<Graph, String> {
-    let (mut node_table, mut output_table) = (vec![0xcafe_0001; 3 * gates], vec![0xcafe_0002; outputs]);
-    let told = raw::import(text, &mut node_table, &mut output_table)?;
-    let (inputs, nodes, outputs) = told.map_err(|number| format!("an export is refused by {number}"))?;
-    Ok(Graph { inputs, nodes, outputs, node_table, output_table })
+    let mut lent = raw::Tables::of(Room::of(gates, outputs));
+    let told = raw::import(text, &mut lent)?;
+    Ok(lent.graph(told.map_err(|number| format!("an export is refused by {number}"))?))
 }
 
 /// That an export imports again, is what the reference reads from it, and has the outputs' values.
 fn check_import(g: &Graph, text: &[u8], words: &[u64]) -> Result<(), String> {
     let gates: usize = g.node_indices().map(|node| 1 + g.words_of(node)).sum();
     let again = imported(text, gates, g.outputs as usize)?;
-    if aiger::parse(text, 3 * gates, g.outputs as usize).as_ref() != Ok(&again) {
+    if aiger::parse(text, Room::of(gates, g.outputs as usize)).as_ref() != Ok(&again) {
         return Err("the import of an export differs".into());
     }
     let values = [g, &again].map(|g| {
@@ -129,6 +129,7 @@ pub fn at_limits() -> Vec<Graph> {
             .flat_map(|v| [word(v), word(v), third.max(word(v))])
             .collect(),
         output_table: vec![2 * (MOST_INPUTS + nodes) + 1; MOST_OUTPUTS as usize],
+        locks: (0..nodes).map(|v| (v % 3 == 0) as u8).collect(),
     };
     vec![
         of(MOST_NODES, 0, &|v| 2 * v - 1),

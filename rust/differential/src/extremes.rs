@@ -1,11 +1,11 @@
-//! Graphs at the limits, each by its name: settled, and held to the other implementations.
+//! Graphs at the limits, each by its name: settled with no, some and all nodes locked, and held to the other implementations.
 
 use crate::lists::{differ, plain_step};
 use crate::raw;
 use reference::calls::{Answer, Call};
 use reference::evaluation;
 use reference::fast::Fast;
-use reference::generate::{graph, Shape};
+use reference::generate::{graph, locked_one_in, Shape};
 use reference::graph::{Graph, MARK, MOST_INPUTS, MOST_NODES, MOST_OUTPUTS};
 use reference::random::Random;
 
@@ -50,7 +50,8 @@ fn outputs_on(random: &mut Random, index: u32) -> Vec<u32> {
 fn graph_of(nodes: u32, words: impl FnMut(u32) -> [u32; 3], output_table: Vec<u32>) -> Graph {
     let indices = MOST_INPUTS + 1..=MOST_INPUTS + nodes;
     let node_table = indices.flat_map(words).collect();
-    Graph { inputs: MOST_INPUTS, nodes, outputs: output_table.len() as u32, node_table, output_table }
+    let locks = vec![0; nodes as usize];
+    Graph { inputs: MOST_INPUTS, nodes, outputs: output_table.len() as u32, node_table, output_table, locks }
 }
 
 /// Each majority names the one before it, and inputs or the constant: one tree, as high as a tree can be.
@@ -139,13 +140,28 @@ fn check_meaning(before: &Graph, (answer, after): &Outcome) -> Result<(), String
 }
 
 impl Extreme {
-    pub fn graph(&self, seed: u64) -> Graph {
-        (self.build)(&mut Random::new(seed))
+    /// With one in so many nodes locked, and none if that is 0.
+    pub fn graph(&self, seed: u64, locked: u32) -> Graph {
+        let mut random = Random::new(seed);
+        let g = (self.build)(&mut random);
+        match locked {
+            0 => g,
+            many => locked_one_in(&mut random, g, many),
+        }
     }
 }
 
-pub fn check(extreme: &Extreme, seed: u64) -> Result<(), String> {
-    let start = extreme.graph(seed);
+/// How often nodes are locked: never, one in ten, each.
+pub const LOCKED: [u32; 3] = [0, 10, 1];
+
+pub fn check(extreme: &Extreme, seed: u64) -> Result<u64, String> {
+    for locked in LOCKED {
+        check_one(extreme, extreme.graph(seed, locked)).map_err(|wrong| format!("locked one in {locked}: {wrong}"))?;
+    }
+    Ok(LOCKED.len() as u64)
+}
+
+fn check_one(extreme: &Extreme, start: Graph) -> Result<(), String> {
     let scratch = 8 * start.nodes as usize;
     let mut g = start.clone();
     let got = (raw::step(&mut g, Call::Settle, scratch)?, g);

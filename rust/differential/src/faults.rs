@@ -4,6 +4,7 @@
 use crate::lists::differ;
 use crate::texts::{check_text, TextCase};
 use reference::aiger;
+use reference::graph::Room;
 
 const TEXT: [&[&str]; 7] =
     [&["aag", "4", "2", "0", "2", "2"], &["2"], &["4"], &["6"], &["9"], &["6", "4", "3"], &["8", "7", "2"]];
@@ -20,15 +21,16 @@ const fn fault(number: u32, line: usize, word: usize, instead: &'static str) -> 
     Fault { number, line, word, instead }
 }
 
-static FAULTS: [Fault; 28] = [
+static FAULTS: [Fault; 29] = [
     fault(10, 0, 0, "aig"),
     fault(10, 0, 5, "2\r"),
     fault(11, 0, 3, "1"),
     fault(12, 0, 1, "5"),
     fault(12, 0, 2, "7"),
     fault(3, 0, 4, "4097"),
-    // There is no such word: a table is a word too short instead.
+    // There are no such words: the node table is a word too short instead, or the locks a byte.
     fault(4, 0, 6, ""),
+    fault(4, 0, 7, ""),
     fault(10, 1, 0, "02"),
     fault(12, 1, 0, "4"),
     fault(10, 2, 0, "4 "),
@@ -55,7 +57,7 @@ static FAULTS: [Fault; 28] = [
 /// The text with these faults; none where two of them change one word.
 fn case(faults: &[&Fault]) -> Option<TextCase> {
     let mut lines: Vec<Vec<&str>> = TEXT.iter().map(|words| words.to_vec()).collect();
-    let (mut node_words, mut changed) = (6, Vec::new());
+    let (mut room, mut changed) = (Room::of(2, 2), Vec::new());
     for fault in faults {
         let place = (fault.line, fault.word);
         if changed.contains(&place) {
@@ -64,11 +66,12 @@ fn case(faults: &[&Fault]) -> Option<TextCase> {
         changed.push(place);
         match lines[fault.line].get_mut(fault.word) {
             Some(word) => *word = fault.instead,
-            None => node_words = 5,
+            None if fault.word == 6 => room.node_words = 5,
+            None => room.lock_bytes = 1,
         }
     }
     let text = lines.iter().flat_map(|words| (words.join(" ") + "\n").into_bytes()).collect();
-    Some(TextCase { text, node_words, output_words: 2 })
+    Some(TextCase { text, room })
 }
 
 fn due(faults: &[&Fault]) -> u32 {
@@ -79,7 +82,7 @@ fn due(faults: &[&Fault]) -> u32 {
 
 fn check(faults: &[&Fault]) -> Result<u64, String> {
     let Some(case) = case(faults) else { return Ok(0) };
-    let told = aiger::parse(&case.text, case.node_words, case.output_words).map_or_else(|number| number, |_| 0);
+    let told = aiger::parse(&case.text, case.room).map_or_else(|number| number, |_| 0);
     let what = format!("\"{}\"", case.text.escape_ascii());
     differ(&format!("the reference's number of {what}"), &told, &due(faults))?;
     check_text(&case).map_err(|wrong| format!("{what}: {wrong}"))?;

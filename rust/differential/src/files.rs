@@ -1,19 +1,18 @@
 //! Files, whole and damaged, and fields.
 
-use crate::cases::random_graph;
+use crate::cases::{random_graph, room_near};
 use crate::plain;
-use crate::raw;
+use crate::raw::{self, Tables};
 use crate::shrink::Shrink;
 use reference::file;
-use reference::graph::Graph;
+use reference::graph::{Graph, Room};
 use reference::random::Random;
 
-/// A file, and how many words the lent tables have.
+/// A file, and how much is lent for it.
 #[derive(Clone, Debug)]
 pub struct FileCase {
     pub bytes: Vec<u8>,
-    pub node_words: usize,
-    pub output_words: usize,
+    pub room: Room,
 }
 
 impl Shrink for FileCase {
@@ -40,13 +39,7 @@ impl Shrink for FileCase {
 
     fn show(&self) -> String {
         let hex: Vec<String> = self.bytes.iter().map(|byte| format!("{byte:02x}")).collect();
-        format!(
-            "tables of {} and {} words; {} bytes: {}\n",
-            self.node_words,
-            self.output_words,
-            self.bytes.len(),
-            hex.join(" ")
-        )
+        format!("{:?}; {} bytes: {}\n", self.room, self.bytes.len(), hex.join(" "))
     }
 }
 
@@ -83,7 +76,7 @@ fn swap_fields(random: &mut Random, bytes: &[u8]) -> Vec<u8> {
 
 fn damage(random: &mut Random, bytes: &mut Vec<u8>) {
     let length = bytes.len() as u32;
-    match random.below(10) {
+    match random.below(12) {
         0 => bytes.truncate(random.below(length + 1) as usize),
         1 => {
             let more = random.between(1, 20);
@@ -136,6 +129,13 @@ fn damage(random: &mut Random, bytes: &mut Vec<u8>) {
                 bytes[at..at + 4].copy_from_slice(&random.below(40).to_be_bytes());
             }
         }
+        9 | 10 if length > 3 => {
+            // A lock before some field, mostly the end, at some index.
+            let all = starts(bytes);
+            let which = if random.one_in(3) { random.below(all.len() as u32) as usize } else { all.len() - 1 };
+            let lock = [&[6, 0, 4], &random.below(14).to_be_bytes()[..]].concat();
+            bytes.splice(all[which]..all[which], lock);
+        }
         _ => {}
     }
 }
@@ -147,18 +147,13 @@ pub fn random_file(seed: u64) -> FileCase {
     damaged_file(&mut random, &g)
 }
 
-/// The graph's file, mostly damaged once or twice, and tables that may be a word too short for it.
+/// The graph's file, mostly damaged once or twice, and tables and locks that may be a word or a byte too short for it.
 pub fn damaged_file(random: &mut Random, g: &Graph) -> FileCase {
     let mut bytes = file::file_of(g);
     for _ in 0..random.below(4) {
         damage(random, &mut bytes);
     }
-    let (node_words, output_words) = match random.below(4) {
-        0 => ((3 * g.nodes).saturating_sub(1) as usize, g.outputs as usize),
-        1 => (3 * g.nodes as usize, g.outputs.saturating_sub(1) as usize),
-        _ => (3 * g.nodes as usize + 5, g.outputs as usize + 2),
-    };
-    FileCase { bytes, node_words, output_words }
+    FileCase { bytes, room: room_near(random, g.nodes as usize, g.outputs as usize, 7) }
 }
 
 fn same<T: PartialEq + std::fmt::Debug>(what: &str, got: &T, due: &T) -> Result<(), String> {
@@ -171,14 +166,15 @@ fn same<T: PartialEq + std::fmt::Debug>(what: &str, got: &T, due: &T) -> Result<
 
 /// Loading, and the field call on every end of the file.
 pub fn check_file(case: &FileCase) -> Result<(), String> {
-    let mut due = (vec![0xcafe_0001; case.node_words], vec![0xcafe_0002; case.output_words]);
+    let mut due = Tables::of(case.room);
     let mut got = due.clone();
     let mut plainly = due.clone();
-    let number = file::load(&case.bytes, &mut due.0, &mut due.1);
-    same("loading", &raw::load(&case.bytes, &mut got.0, &mut got.1)?, &number)?;
-    same("the tables", &got, &due)?;
-    same("plain: loading", &plain::file::load(&case.bytes, &mut plainly.0, &mut plainly.1), &number)?;
-    same("plain: the tables", &plainly, &due)?;
+    let number = file::load(&case.bytes, &mut due.node_table, &mut due.output_table, &mut due.locks);
+    same("loading", &raw::load(&case.bytes, &mut got)?, &number)?;
+    same("the tables and locks", &got, &due)?;
+    let Tables { node_table, output_table, locks } = &mut plainly;
+    same("plain: loading", &plain::file::load(&case.bytes, node_table, output_table, locks), &number)?;
+    same("plain: the tables and locks", &plainly, &due)?;
     for at in 0..=case.bytes.len() {
         check_field(&case.bytes[at..])?;
     }
@@ -200,8 +196,8 @@ fn check_field(bytes: &[u8]) -> Result<(), String> {
 
 /// The owned graph of the Rust crate: it finds the room by itself, so that 4 is never met.
 fn check_owned(bytes: &[u8]) -> Result<(), String> {
-    let mut tables = (vec![0; 300_000.min(bytes.len() * 3)], vec![0; 4_096]);
-    let due = file::load(bytes, &mut tables.0, &mut tables.1);
+    let mut tables = Tables::of(Room::of(100_000.min(bytes.len()), 4_096));
+    let due = file::load(bytes, &mut tables.node_table, &mut tables.output_table, &mut tables.locks);
     match (reducer::Graph::load(bytes), due) {
         (Ok(g), Ok((inputs, nodes, outputs))) => {
             same("an owned graph", &(g.size.inputs, g.size.nodes, g.size.outputs), &(inputs, nodes, outputs))?;
@@ -219,17 +215,17 @@ pub fn check_every_byte(seed: u64) -> Result<u64, String> {
     let mut random = Random::new(seed);
     let g = random_graph(&mut random, 3, 3, 2);
     let bytes = file::file_of(&g);
-    let (node_words, output_words) = (3 * g.nodes as usize + 2, g.outputs as usize + 2);
+    let room = Room { node_words: 3 * g.nodes as usize + 2, ..Room::of(g.nodes as usize + 2, g.outputs as usize + 2) };
     let mut done = 0;
     let mut check = |bytes: Vec<u8>| {
         done += 1;
-        crate::shrink::hold(seed, FileCase { bytes, node_words, output_words }, &check_file)
+        crate::shrink::hold(seed, FileCase { bytes, room }, &check_file)
     };
     for end in 0..=bytes.len() {
         check(bytes[..end].to_vec())?;
     }
     for at in 0..bytes.len() {
-        for byte in [0, 1, 2, 3, 4, 5, 8, 12, 0x7f, 0xff] {
+        for byte in [0, 1, 2, 3, 4, 5, 6, 7, 8, 12, 0x7f, 0xff] {
             let mut changed = bytes.clone();
             changed[at] = byte;
             check(changed)?;

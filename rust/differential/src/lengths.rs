@@ -3,9 +3,9 @@
 
 use crate::cases::Case;
 use crate::previews;
-use crate::raw;
+use crate::raw::{self, Tables};
 use reference::calls::{self, Call};
-use reference::graph::{complemented_edges, Graph};
+use reference::graph::{complemented_edges, Graph, Room};
 use reference::moves::Saving;
 use reference::random::Random;
 use reference::{aiger, evaluation, file};
@@ -30,19 +30,30 @@ fn same<T: PartialEq + std::fmt::Debug>(what: &str, got: &T, due: &T) -> Result<
     }
 }
 
-/// The graph with tables of all lengths around.
-fn with_tables(g: &Graph) -> Vec<Graph> {
+/// Room for so many nodes and outputs, and all around it.
+fn rooms(nodes: usize, outputs: usize) -> Vec<Room> {
     let mut all = Vec::new();
-    for node_words in around(3 * g.nodes as usize) {
-        for output_words in around(g.outputs as usize) {
-            all.push(Graph {
-                node_table: resized(&g.node_table, node_words, 0xcafe_0001),
-                output_table: resized(&g.output_table, output_words, 0xcafe_0002),
-                ..g.clone()
-            });
+    for node_words in around(3 * nodes) {
+        for output_words in around(outputs) {
+            all.push(Room { node_words, output_words, lock_bytes: nodes });
         }
     }
+    for lock_bytes in around(nodes) {
+        all.push(Room { lock_bytes, ..Room::of(nodes, outputs) });
+        all.push(Room { lock_bytes, node_words: 3 * nodes + 1, output_words: outputs.saturating_sub(1) });
+    }
     all
+}
+
+/// The graph with tables and locks of all lengths around.
+fn with_tables(g: &Graph) -> Vec<Graph> {
+    let resize = |room: Room| Graph {
+        node_table: resized(&g.node_table, room.node_words, 0xcafe_0001),
+        output_table: resized(&g.output_table, room.output_words, 0xcafe_0002),
+        locks: resized(&g.locks, room.lock_bytes, 200),
+        ..g.clone()
+    };
+    rooms(g.nodes as usize, g.outputs as usize).into_iter().map(resize).collect()
 }
 
 fn check_calls(g: &Graph, call: Call) -> Result<u64, String> {
@@ -55,13 +66,9 @@ fn check_calls(g: &Graph, call: Call) -> Result<u64, String> {
         let mut due = g.clone();
         let mut got = g.clone();
         let answer = raw::step(&mut got, call, scratch)?;
-        let what = format!(
-            "{call:?} with {} node words, {} output words, scratch {scratch}",
-            g.node_table.len(),
-            g.output_table.len()
-        );
+        let what = format!("{call:?} with {:?}, scratch {scratch}", g.room());
         same(&what, &answer, &calls::step(&mut due, call, scratch))?;
-        same(&format!("the tables after {what}"), &got, &due)?;
+        same(&format!("tables and locks after {what}"), &got, &due)?;
         done += 1;
     }
     match call {
@@ -106,7 +113,7 @@ fn check_evaluation(g: &Graph, random: &mut Random) -> Result<u64, String> {
 
 fn check_writing(g: &Graph) -> Result<u64, String> {
     let mut done = 0;
-    for room in around(18 + 15 * g.nodes as usize + 7 * g.outputs as usize).chain(around(file::file_of(g).len())) {
+    for room in around(18 + 22 * g.nodes as usize + 7 * g.outputs as usize).chain(around(file::file_of(g).len())) {
         let mut due = vec![0xee; room];
         let mut got = due.clone();
         same(&format!("writing to {room} bytes"), &raw::write(g, &mut got)?, &file::write(g, &mut due))?;
@@ -119,15 +126,13 @@ fn check_writing(g: &Graph) -> Result<u64, String> {
 fn check_loading(g: &Graph) -> Result<u64, String> {
     let mut done = 0;
     let bytes = file::file_of(g);
-    for node_words in around(3 * g.nodes as usize) {
-        for output_words in around(g.outputs as usize) {
-            let mut due = (vec![0xcafe_0001; node_words], vec![0xcafe_0002; output_words]);
-            let mut got = due.clone();
-            let what = format!("loading into {node_words} and {output_words} words");
-            same(&what, &raw::load(&bytes, &mut got.0, &mut got.1)?, &file::load(&bytes, &mut due.0, &mut due.1))?;
-            same(&format!("the tables after {what}"), &got, &due)?;
-            done += 1;
-        }
+    for room in rooms(g.nodes as usize, g.outputs as usize) {
+        let mut due = Tables::of(room);
+        let mut got = due.clone();
+        let answer = file::load(&bytes, &mut due.node_table, &mut due.output_table, &mut due.locks);
+        same(&format!("loading into {room:?}"), &raw::load(&bytes, &mut got)?, &answer)?;
+        same(&format!("tables and locks after loading into {room:?}"), &got, &due)?;
+        done += 1;
     }
     Ok(done)
 }
@@ -136,16 +141,13 @@ fn check_importing(g: &Graph) -> Result<u64, String> {
     let mut done = 0;
     let text = aiger::text_of(g);
     let gates: usize = g.node_indices().map(|node| 1 + g.words_of(node)).sum();
-    for node_words in around(3 * gates) {
-        for output_words in around(g.outputs as usize) {
-            let mut due = (vec![0xcafe_0001; node_words], vec![0xcafe_0002; output_words]);
-            let mut got = due.clone();
-            let what = format!("importing into {node_words} and {output_words} words");
-            let answer = raw::import(text.as_bytes(), &mut got.0, &mut got.1)?;
-            same(&what, &answer, &aiger::import(text.as_bytes(), &mut due.0, &mut due.1))?;
-            same(&format!("the tables after {what}"), &got, &due)?;
-            done += 1;
-        }
+    for room in rooms(gates, g.outputs as usize) {
+        let mut due = Tables::of(room);
+        let mut got = due.clone();
+        let answer = aiger::import(text.as_bytes(), &mut due.node_table, &mut due.output_table, &mut due.locks);
+        same(&format!("importing into {room:?}"), &raw::import(text.as_bytes(), &mut got)?, &answer)?;
+        same(&format!("tables and locks after importing into {room:?}"), &got, &due)?;
+        done += 1;
     }
     Ok(done)
 }
@@ -172,7 +174,7 @@ pub fn check_lengths(case: &Case) -> Result<u64, String> {
     done += check_importing(g)?;
     for g in with_tables(g) {
         same("the count", &raw::count(&g)?, &complemented_edges(&g))?;
-        let mut due = vec![0xee; 18 + 15 * g.nodes as usize + 7 * g.outputs as usize];
+        let mut due = vec![0xee; 18 + 22 * g.nodes as usize + 7 * g.outputs as usize];
         let mut got = due.clone();
         same("writing", &raw::write(&g, &mut got)?, &file::write(&g, &mut due))?;
         same("the file", &got, &due)?;
@@ -190,20 +192,26 @@ pub fn check_lengths(case: &Case) -> Result<u64, String> {
     Ok(done)
 }
 
-/// Numbers at and past each limit, with tables that are long enough and ones that are not; and a literal out of bounds in
-/// each place.
+/// Numbers at and past each limit, with tables and locks that are long enough and ones that are not.
 pub fn check_limits() -> Result<u64, String> {
     let mut done = 0;
     for inputs in [0, 4_096, 4_097, u32::MAX] {
         for nodes in [0, 100_000, 100_001, u32::MAX] {
             for outputs in [0, 4_096, 4_097, u32::MAX] {
-                for (node_words, output_words) in [(300_000, 4_096), (299_999, 4_096), (300_003, 4_095), (0, 0)] {
+                for (node_words, output_words, lock_bytes) in [
+                    (300_000, 4_096, 100_000),
+                    (299_999, 4_096, 100_000),
+                    (300_003, 4_095, 100_001),
+                    (300_003, 4_096, 99_999),
+                    (0, 0, 0),
+                ] {
                     let g = Graph {
                         inputs,
                         nodes,
                         outputs,
                         node_table: vec![0; node_words],
                         output_table: vec![1; output_words],
+                        locks: vec![1; lock_bytes],
                     };
                     done += check_limit(&g)?;
                 }
@@ -214,14 +222,7 @@ pub fn check_limits() -> Result<u64, String> {
 }
 
 fn check_limit(g: &Graph) -> Result<u64, String> {
-    let what = format!(
-        "I={} N={} O={} in {} and {} words",
-        g.inputs,
-        g.nodes,
-        g.outputs,
-        g.node_table.len(),
-        g.output_table.len()
-    );
+    let what = format!("I={} N={} O={} in {:?}", g.inputs, g.nodes, g.outputs, g.room());
     let due = complemented_edges(g);
     same(&what, &raw::count(g)?, &due)?;
     let admitted = due.map(|_| ());
@@ -229,7 +230,7 @@ fn check_limit(g: &Graph) -> Result<u64, String> {
     let mut results = vec![0; 4_096];
     let number = raw::evaluate(g, &words, &mut vec![0; 100_000], &mut results)?;
     same(&format!("evaluation of {what}"), &number, &admitted)?;
-    let mut buffer = vec![0; 18 + 1_500_000 + 7 * 4_096];
+    let mut buffer = vec![0; 18 + 2_200_000 + 7 * 4_096];
     same(&format!("writing {what}"), &raw::write(g, &mut buffer)?.map(|_| ()), &admitted)?;
     let mut text = vec![0; 30 + 5 * 4_096 + 84 * 100_000 + 7 * 4_096];
     same(&format!("exporting {what}"), &raw::export(g, 100_000, &mut text)?.map(|_| ()), &admitted)?;
@@ -251,7 +252,7 @@ fn check_previews_at_limits(what: &str, g: &Graph, admitted: Result<(), u32>) ->
         same(&what, &raw::preview(&mut lent, last, &mut moves, 800_000)?, &due)?;
         let told = if due.is_ok() { g.nodes as usize } else { 0 };
         let kept = moves[..told].iter().all(|&byte| byte == 0) && moves[told..].iter().all(|&byte| byte == 0xee);
-        same(&format!("the bytes and tables after {what}"), &(kept && lent == *g), &true)?;
+        same(&format!("bytes, tables and locks after {what}"), &(kept && lent == *g), &true)?;
     }
     Ok(2)
 }
@@ -271,19 +272,47 @@ pub fn check_literals(case: &Case) -> Result<u64, String> {
                 bad.output_table[place - node_words] = word;
             }
             same(&format!("the count with {word} at place {place}"), &raw::count(&bad)?, &complemented_edges(&bad))?;
-            let mut buffers = (vec![0xee; 18 + 5 * node_words + 7 * g.outputs as usize], Vec::new());
-            buffers.1 = buffers.0.clone();
-            same(
-                &format!("writing with {word} at place {place}"),
-                &raw::write(&bad, &mut buffers.0)?,
-                &file::write(&bad, &mut buffers.1),
-            )?;
-            same("the buffer", &buffers.0, &buffers.1)?;
-            done += check_exporting(&format!("with {word} at place {place}"), &bad)?;
-            for step in &case.steps {
-                check_calls(&bad, step.call)?;
+            done += check_bad(case, &bad, &format!("with {word} at place {place}"))?;
+            // 5 comes before 13, wherever both are.
+            if let Some(byte) = bad.locks[..g.nodes as usize].last_mut() {
+                *byte = 2;
+                same("the count", &raw::count(&bad)?, &complemented_edges(&bad))?;
+                done += 1;
             }
-            done += 2 + case.steps.len() as u64;
+        }
+    }
+    Ok(done)
+}
+
+/// Writing, exporting and the calls of a case on what may be no graph.
+fn check_bad(case: &Case, bad: &Graph, what: &str) -> Result<u64, String> {
+    let mut due = vec![0xee; 18 + 22 * bad.nodes as usize + 7 * bad.outputs as usize];
+    let mut got = due.clone();
+    same(&format!("writing {what}"), &raw::write(bad, &mut got)?, &file::write(bad, &mut due))?;
+    same(&format!("the buffer after writing {what}"), &got, &due)?;
+    let mut done = 2 + check_exporting(what, bad)?;
+    for step in &case.steps {
+        done += check_calls(bad, step.call)?;
+    }
+    Ok(done)
+}
+
+/// Each lock byte of the graph, and each past it, set to what a lock may be and to what it may not.
+pub fn check_locks(case: &Case) -> Result<u64, String> {
+    let mut done = 0;
+    for place in 0..case.graph.locks.len() {
+        for byte in [0, 1, 2, 3, 128, 255] {
+            let mut bad = case.graph.clone();
+            bad.locks[place] = byte;
+            let what = format!("with lock byte {byte} at place {place}");
+            same(&format!("the count {what}"), &raw::count(&bad)?, &complemented_edges(&bad))?;
+            let words = vec![0x5555; bad.inputs as usize];
+            let (mut due, mut got) = (vec![1; bad.outputs as usize], vec![1; bad.outputs as usize]);
+            let number = evaluation::evaluate(&bad, &words, bad.nodes as usize, &mut due);
+            let answer = raw::evaluate(&bad, &words, &mut vec![2; bad.nodes as usize], &mut got)?;
+            same(&format!("evaluation {what}"), &answer, &number)?;
+            same(&format!("results {what}"), &got, &due)?;
+            done += 2 + check_bad(case, &bad, &what)?;
         }
     }
     Ok(done)

@@ -3,6 +3,7 @@
 //! `plain` is a reducer in ordinary Rust by the same algorithms as the proved one: what the benchmark times it against, and
 //! a fast second opinion on graphs that are too large for the crate `reference`, to which it is itself held on small ones.
 
+pub mod call_faults;
 pub mod cases;
 pub mod exports;
 pub mod extremes;
@@ -10,6 +11,7 @@ pub mod faults;
 pub mod files;
 pub mod lengths;
 pub mod lists;
+pub mod lock_fields;
 pub mod plain;
 pub mod preview_faults;
 pub mod previews;

@@ -91,19 +91,21 @@ fn check_reading(g: &Graph, words: &[u64]) -> Result<Vec<u64>, String> {
 }
 
 fn check_round_trip(g: &Graph) -> Result<(), String> {
-    let mut due = vec![0xee; 18 + 15 * g.nodes as usize + 7 * g.outputs as usize + 3];
+    let mut due = vec![0xee; 18 + 22 * g.nodes as usize + 7 * g.outputs as usize + 3];
     let mut buffer = due.clone();
     let length = file::write(g, &mut due);
     differ("writing", &raw::write(g, &mut buffer)?, &length)?;
     differ("the file", &buffer, &due)?;
     let length = length.expect("an admitted graph and a long buffer");
-    let mut node_table = g.node_table.clone();
-    let mut output_table = g.output_table.clone();
-    node_table[..3 * g.nodes as usize].fill(77);
-    output_table[..g.outputs as usize].fill(77);
-    let loaded = raw::load(&buffer[..length], &mut node_table, &mut output_table)?;
+    let due =
+        raw::Tables { node_table: g.node_table.clone(), output_table: g.output_table.clone(), locks: g.locks.clone() };
+    let mut lent = due.clone();
+    lent.node_table[..3 * g.nodes as usize].fill(77);
+    lent.output_table[..g.outputs as usize].fill(77);
+    lent.locks[..g.nodes as usize].fill(77);
+    let loaded = raw::load(&buffer[..length], &mut lent)?;
     differ("loading what was written", &loaded, &Ok((g.inputs, g.nodes, g.outputs)))?;
-    differ("the tables loaded", &(node_table, output_table), &(g.node_table.clone(), g.output_table.clone()))
+    differ("the tables and locks loaded", &lent, &due)
 }
 
 /// The graph as the plain implementation is lent it.
@@ -114,6 +116,7 @@ pub fn tables(g: &mut Graph) -> Tables<'_> {
         outputs: g.outputs,
         node_table: &mut g.node_table,
         output_table: &mut g.output_table,
+        locks: &g.locks,
     }
 }
 
@@ -169,6 +172,7 @@ pub fn check_large(case: &Case) -> Result<(), String> {
         outputs: got.outputs,
         node_table: &got.node_table,
         output_table: &got.output_table,
+        locks: &got.locks,
     };
     differ(
         "evaluation",

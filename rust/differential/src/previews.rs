@@ -1,5 +1,7 @@
 //! Previews, held to the other implementations, and to the tree call on a copy of the graph.
 
+use std::sync::atomic::{AtomicU64, Ordering};
+
 use crate::cases::{random_graph, Case, Step};
 use crate::exports::owned;
 use crate::lists::{differ, tables};
@@ -8,7 +10,7 @@ use crate::raw;
 use crate::savings;
 use reference::calls::{Answer, Call};
 use reference::fast::Fast;
-use reference::generate::{graph, Shape};
+use reference::generate::{graph, with_locks, Shape};
 use reference::graph::{Graph, MARK};
 use reference::moves::{self, Saving};
 use reference::preview;
@@ -16,6 +18,9 @@ use reference::random::Random;
 
 /// What the bytes hold before a preview.
 const CANARY: u8 = 0xee;
+
+/// Previews that move a node of a graph with locks.
+static BESIDE_LOCKS: AtomicU64 = AtomicU64::new(0);
 
 /// A tree call at each node and at two indices that are none, the scratch a word too short at times.
 pub fn random_case(seed: u64) -> Case {
@@ -44,11 +49,32 @@ pub fn check_one(g: &Graph, root: u32, bytes: usize, scratch: usize) -> Result<T
     let answer = preview::preview(g, root, scratch, &mut due);
     differ(&what, &raw::preview(&mut lent, root, &mut got, scratch)?, &answer)?;
     differ(&format!("the bytes after {what}"), &got, &due)?;
-    differ(&format!("the tables after {what}"), &lent, g)?;
+    differ(&format!("the tables and locks after {what}"), &lent, g)?;
     let plain = plain::preview::preview(&tables(&mut lent).view(), root, &mut plainly, scratch).map(savings::of);
     differ(&format!("plain: {what}"), &plain, &answer)?;
     differ(&format!("plain: the bytes after {what}"), &plainly, &due)?;
     Ok(Told { answer, bytes: got })
+}
+
+/// That no locked node has a move. Where a node is locked and another moves, that is counted.
+fn check_locked(g: &Graph, told: &[u8]) -> Result<(), String> {
+    let locked = |v: &usize| g.locks[*v] == 1;
+    if let Some(v) = (0..told.len()).filter(locked).find(|&v| told[v] != 0) {
+        return Err(format!("node {} is locked, and yet has move {}", g.inputs + 1 + v as u32, told[v]));
+    }
+    let beside = (0..told.len()).any(|v| locked(&v)) && told.iter().any(|&number| number != 0);
+    BESIDE_LOCKS.fetch_add(u64::from(beside), Ordering::Relaxed);
+    Ok(())
+}
+
+/// Whether trees with a locked node moved at others.
+pub fn all_met() -> Result<(), String> {
+    let beside = BESIDE_LOCKS.load(Ordering::Relaxed);
+    println!("previews that move a node of a graph with locks: {beside}");
+    match beside {
+        0 => Err("FAILED: no preview moved a node of a graph with locks".into()),
+        _ => Ok(()),
+    }
 }
 
 /// That the tree call on a copy answers the same, and ends where the moves lead, made one by one.
@@ -58,6 +84,7 @@ fn check_call(g: &Graph, root: u32, scratch: usize, answer: Result<Saving, u32>,
     differ(&format!("the preview at {root}"), &answer.map_or_else(Answer::Refused, Answer::Saving), &due)?;
     let mut moved = g.clone();
     if answer.is_ok() {
+        check_locked(g, told)?;
         for (node, &number) in g.node_indices().zip(told) {
             moves::make(&mut moved, node, number as usize);
         }
@@ -110,16 +137,21 @@ fn chain(random: &mut Random, nodes: u32) -> Graph {
         node_table.extend(words);
     }
     let output_table = vec![2 * (inputs + nodes) + random.bit()];
-    Graph { inputs, nodes, outputs: 1, node_table, output_table }
+    Graph { inputs, nodes, outputs: 1, node_table, output_table, locks: vec![0; nodes as usize] }
 }
 
-/// A graph of hundreds of nodes, its last node the root of a large tree.
+/// A graph of hundreds of nodes, its last node the root of a large tree; in two of three some or all are locked.
 pub fn deep(seed: u64) -> Graph {
     let mut random = Random::new(seed);
     let nodes = random.between(100, 500);
-    match seed % 2 {
+    let g = match seed % 2 {
         0 => chain(&mut random, nodes),
         _ => graph(&mut random, Shape::Tree, 12, nodes, 3),
+    };
+    if seed % 3 == 0 {
+        g
+    } else {
+        with_locks(&mut random, g)
     }
 }
 
@@ -160,6 +192,7 @@ fn check_by_fast(g: &Graph, fast: &mut Fast, root: u32) -> Result<(), String> {
     if got.bytes[..told.len()] != told {
         return Err(format!("the moves previewed at {root}"));
     }
+    check_locked(g, &told)?;
     check_plain(g, root, &got)?;
     let make = |fast: &mut Fast| g.node_indices().zip(&told).for_each(|(node, &number)| fast.make(node, number.into()));
     make(fast);

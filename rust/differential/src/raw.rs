@@ -4,7 +4,7 @@ use std::sync::atomic::{AtomicU64, Ordering};
 
 use reducer::raw;
 use reference::calls::{Answer, Call};
-use reference::graph::Graph;
+use reference::graph::{Graph, Room};
 use reference::moves::Saving;
 use reference::settling::Settled;
 
@@ -15,10 +15,10 @@ const LONG_CANARY: usize = 0xa5a5_a5a5_a5a5;
 const SIGNED_CANARY: i64 = -0x5a5a_5a5a_5a5a;
 
 /// The numbers that a call can return, 0 for an accepted one.
-pub const NUMBERS: [u32; 15] = [0, 1, 2, 3, 4, 5, 6, 7, 8, 9, 10, 11, 12, 101, 102];
+pub const NUMBERS: [u32; 16] = [0, 1, 2, 3, 4, 5, 6, 7, 8, 9, 10, 11, 12, 13, 101, 102];
 
 /// How often each of them was returned.
-pub static MET: [AtomicU64; 15] = [const { AtomicU64::new(0) }; 15];
+pub static MET: [AtomicU64; 16] = [const { AtomicU64::new(0) }; 16];
 
 /// What a call answered, or what was wrong with how it answered.
 pub type Answered<T> = Result<Result<T, u32>, String>;
@@ -49,17 +49,44 @@ pub fn field(bytes: &[u8]) -> Answered<&[u8]> {
     }
 }
 
-pub fn load(file: &[u8], node_table: &mut [u32], output_table: &mut [u32]) -> Answered<(u32, u32, u32)> {
+/// What loading and importing are lent and fill.
+#[derive(Clone, Debug, PartialEq, Eq)]
+pub struct Tables {
+    pub node_table: Vec<u32>,
+    pub output_table: Vec<u32>,
+    pub locks: Vec<u8>,
+}
+
+impl Tables {
+    /// As long as the room, canaries everywhere.
+    pub fn of(room: Room) -> Tables {
+        Tables {
+            node_table: vec![0xcafe_0001; room.node_words],
+            output_table: vec![0xcafe_0002; room.output_words],
+            locks: vec![0xca; room.lock_bytes],
+        }
+    }
+
+    /// The graph of so many inputs, nodes and outputs in them.
+    pub fn graph(self, (inputs, nodes, outputs): (u32, u32, u32)) -> Graph {
+        let Tables { node_table, output_table, locks } = self;
+        Graph { inputs, nodes, outputs, node_table, output_table, locks }
+    }
+}
+
+pub fn load(file: &[u8], lent: &mut Tables) -> Answered<(u32, u32, u32)> {
     let canary = [CANARY; 3];
     let mut numbers = canary;
     let number = unsafe {
         raw::reducer_load(
             file.as_ptr(),
             file.len(),
-            node_table.as_mut_ptr(),
-            node_table.len(),
-            output_table.as_mut_ptr(),
-            output_table.len(),
+            lent.node_table.as_mut_ptr(),
+            lent.node_table.len(),
+            lent.output_table.as_mut_ptr(),
+            lent.output_table.len(),
+            lent.locks.as_mut_ptr(),
+            lent.locks.len(),
             &mut numbers,
         )
     };
@@ -77,6 +104,8 @@ pub fn write(g: &Graph, buffer: &mut [u8]) -> Answered<usize> {
             g.node_table.len(),
             g.output_table.as_ptr(),
             g.output_table.len(),
+            g.locks.as_ptr(),
+            g.locks.len(),
             buffer.as_mut_ptr(),
             buffer.len(),
             &mut length,
@@ -85,17 +114,19 @@ pub fn write(g: &Graph, buffer: &mut [u8]) -> Answered<usize> {
     answered(number, length, LONG_CANARY)
 }
 
-pub fn import(text: &[u8], node_table: &mut [u32], output_table: &mut [u32]) -> Answered<(u32, u32, u32)> {
+pub fn import(text: &[u8], lent: &mut Tables) -> Answered<(u32, u32, u32)> {
     let canary = [CANARY; 3];
     let mut numbers = canary;
     let number = unsafe {
         raw::reducer_import(
             text.as_ptr(),
             text.len(),
-            node_table.as_mut_ptr(),
-            node_table.len(),
-            output_table.as_mut_ptr(),
-            output_table.len(),
+            lent.node_table.as_mut_ptr(),
+            lent.node_table.len(),
+            lent.output_table.as_mut_ptr(),
+            lent.output_table.len(),
+            lent.locks.as_mut_ptr(),
+            lent.locks.len(),
             &mut numbers,
         )
     };
@@ -115,6 +146,8 @@ pub fn export(g: &Graph, scratch: usize, buffer: &mut [u8]) -> Answered<usize> {
             g.node_table.len(),
             g.output_table.as_ptr(),
             g.output_table.len(),
+            g.locks.as_ptr(),
+            g.locks.len(),
             lent.as_mut_ptr(),
             lent.len(),
             buffer.as_mut_ptr(),
@@ -140,6 +173,8 @@ pub fn evaluate(g: &Graph, input_words: &[u64], scratch: &mut [u64], results: &m
             g.node_table.len(),
             g.output_table.as_ptr(),
             g.output_table.len(),
+            g.locks.as_ptr(),
+            g.locks.len(),
             input_words.as_ptr(),
             input_words.len(),
             scratch.as_mut_ptr(),
@@ -162,6 +197,8 @@ pub fn count(g: &Graph) -> Answered<u32> {
             g.node_table.len(),
             g.output_table.as_ptr(),
             g.output_table.len(),
+            g.locks.as_ptr(),
+            g.locks.len(),
             &mut count,
         )
     };
@@ -186,6 +223,8 @@ pub fn node(g: &mut Graph, node: u32) -> Answered<Saving> {
             g.node_table.len(),
             g.output_table.as_mut_ptr(),
             g.output_table.len(),
+            g.locks.as_mut_ptr(),
+            g.locks.len(),
             node,
             &mut saving,
         )
@@ -204,6 +243,8 @@ pub fn pair(g: &mut Graph, node: u32, word: u32) -> Answered<Saving> {
             g.node_table.len(),
             g.output_table.as_mut_ptr(),
             g.output_table.len(),
+            g.locks.as_mut_ptr(),
+            g.locks.len(),
             node,
             word,
             &mut saving,
@@ -224,6 +265,8 @@ pub fn trial(g: &Graph, pair: (u32, u32), moves: (u32, u32)) -> Answered<i64> {
             g.node_table.len(),
             g.output_table.as_ptr(),
             g.output_table.len(),
+            g.locks.as_ptr(),
+            g.locks.len(),
             pair.0,
             pair.1,
             moves.0,
@@ -245,6 +288,8 @@ pub fn tree(g: &mut Graph, root: u32, scratch: &mut [u32]) -> Answered<Saving> {
             g.node_table.len(),
             g.output_table.as_mut_ptr(),
             g.output_table.len(),
+            g.locks.as_mut_ptr(),
+            g.locks.len(),
             root,
             scratch.as_mut_ptr(),
             scratch.len(),
@@ -254,8 +299,8 @@ pub fn tree(g: &mut Graph, root: u32, scratch: &mut [u32]) -> Answered<Saving> {
     saved(number, saving)
 }
 
-/// With so many words of scratch, which a refused call must leave. The tables are only read; the graph is one that may change, so that
-/// the caller can see whether it did.
+/// With so many words of scratch, which a refused call must leave. Tables and locks are only read; the graph is one that may change, so
+/// that the caller can see whether it did.
 pub fn preview(g: &mut Graph, root: u32, moves: &mut [u8], scratch: usize) -> Answered<Saving> {
     let mut saving = [SIGNED_CANARY; 2];
     let mut lent = vec![CANARY; scratch];
@@ -268,6 +313,8 @@ pub fn preview(g: &mut Graph, root: u32, moves: &mut [u8], scratch: usize) -> An
             g.node_table.len(),
             g.output_table.as_mut_ptr(),
             g.output_table.len(),
+            g.locks.as_mut_ptr(),
+            g.locks.len(),
             root,
             moves.as_mut_ptr(),
             moves.len(),
@@ -296,6 +343,8 @@ pub fn settle(g: &mut Graph, scratch: &mut [u32]) -> Answered<Settled> {
             g.node_table.len(),
             g.output_table.as_mut_ptr(),
             g.output_table.len(),
+            g.locks.as_mut_ptr(),
+            g.locks.len(),
             scratch.as_mut_ptr(),
             scratch.len(),
             &mut told.0,
@@ -309,8 +358,7 @@ pub fn settle(g: &mut Graph, scratch: &mut [u32]) -> Answered<Settled> {
 /// What a replay is lent beside the file and the calls.
 #[derive(Clone, Debug, PartialEq, Eq)]
 pub struct Lent {
-    pub node_table: Vec<u32>,
-    pub output_table: Vec<u32>,
+    pub tables: Tables,
     pub scratch: Vec<u32>,
     pub answers: Vec<i64>,
 }
@@ -324,10 +372,12 @@ pub fn replay(file: &[u8], calls: &[u32], lent: &mut Lent) -> Answered<(u32, u32
             file.len(),
             calls.as_ptr(),
             calls.len(),
-            lent.node_table.as_mut_ptr(),
-            lent.node_table.len(),
-            lent.output_table.as_mut_ptr(),
-            lent.output_table.len(),
+            lent.tables.node_table.as_mut_ptr(),
+            lent.tables.node_table.len(),
+            lent.tables.output_table.as_mut_ptr(),
+            lent.tables.output_table.len(),
+            lent.tables.locks.as_mut_ptr(),
+            lent.tables.locks.len(),
             lent.scratch.as_mut_ptr(),
             lent.scratch.len(),
             lent.answers.as_mut_ptr(),

@@ -3,7 +3,7 @@
 use crate::cases::random_graph;
 use crate::files::{damaged_file, FileCase};
 use crate::lists::{differ, random_call};
-use crate::raw::{self, Lent};
+use crate::raw::{self, Lent, Tables};
 use crate::shrink::Shrink;
 use reference::calls::{self, Call};
 use reference::file;
@@ -58,8 +58,7 @@ pub fn random_replay(seed: u64) -> ReplayCase {
     let file = if random.one_in(4) {
         damaged_file(&mut random, &g)
     } else {
-        let (node_words, output_words) = (g.node_table.len(), g.output_table.len());
-        FileCase { bytes: file::file_of(&g), node_words, output_words }
+        FileCase { bytes: file::file_of(&g), room: g.room() }
     };
     let count = random.below(9);
     let mut words = Vec::new();
@@ -102,22 +101,22 @@ fn one_by_one(case: &ReplayCase, lent: &mut Lent) -> Result<(u32, u32, u32), Num
     if lent.answers.len() < 3 * list.len() {
         return Err(4);
     }
-    let (inputs, nodes, outputs) = file::load(&case.file.bytes, &mut lent.node_table, &mut lent.output_table)?;
-    let (node_table, output_table) = (lent.node_table.clone(), lent.output_table.clone());
-    let mut g = Graph { inputs, nodes, outputs, node_table, output_table };
+    let Tables { node_table, output_table, locks } = &mut lent.tables;
+    let numbers = file::load(&case.file.bytes, node_table, output_table, locks)?;
+    let mut g = lent.tables.clone().graph(numbers);
     for (at, &call) in list.iter().enumerate() {
         let answer = calls::step(&mut g, call, case.scratch);
         lent.answers[3 * at..3 * at + 3].copy_from_slice(&told(answer));
     }
-    (lent.node_table, lent.output_table) = (g.node_table, g.output_table);
-    Ok((inputs, nodes, outputs))
+    let Graph { node_table, output_table, locks, .. } = g;
+    lent.tables = Tables { node_table, output_table, locks };
+    Ok(numbers)
 }
 
 /// What is answered, and every slice; scratch is free after an accepted replay.
 pub fn check_replay(case: &ReplayCase) -> Result<(), String> {
     let mut due = Lent {
-        node_table: vec![0xcafe_0001; case.file.node_words],
-        output_table: vec![0xcafe_0002; case.file.output_words],
+        tables: Tables::of(case.file.room),
         scratch: vec![0xcafe_0003; case.scratch],
         answers: vec![-0xcafe_0004; case.answers],
     };

@@ -1,6 +1,7 @@
 //! Texts at the limits: as many inputs, outputs and gates as there may be, and one more.
 
 use crate::texts::{check_text, TextCase};
+use reference::graph::Room;
 
 /// A text of so many inputs, outputs and gates, and a gate line that is not due after it.
 fn text(inputs: u32, outputs: u32, gates: u32) -> Vec<u8> {
@@ -17,21 +18,23 @@ fn due(text: &[u8]) -> usize {
     text[..text.len() - 1].iter().rposition(|&byte| byte == b'\n').map_or(0, |at| at + 1)
 }
 
-/// Whole, with tables that are a word too short, and cut within the last due line.
+/// Whole, with tables that are a word too short or locks a byte, and cut within the last due line.
 fn check_limit(inputs: u32, outputs: u32, gates: u32) -> Result<u64, String> {
     let text = text(inputs, outputs, gates);
     let due = due(&text);
-    let (node_words, output_words) = (3 * gates as usize, outputs as usize);
+    let (nodes, outs) = (gates as usize, outputs as usize);
+    let enough = Room::of(nodes, outs);
     let cases = [
-        (&text[..], node_words, output_words),
-        (&text, node_words + 1, output_words + 1),
-        (&text[..due], node_words, output_words),
-        (&text[..due - 1], node_words, output_words),
-        (&text, node_words.saturating_sub(1), output_words),
-        (&text, node_words, output_words.saturating_sub(1)),
+        (&text[..], enough),
+        (&text, Room { node_words: 3 * nodes + 1, output_words: outs + 1, lock_bytes: nodes + 1 }),
+        (&text[..due], enough),
+        (&text[..due - 1], enough),
+        (&text, Room { node_words: (3 * nodes).saturating_sub(1), ..enough }),
+        (&text, Room { output_words: outs.saturating_sub(1), ..enough }),
+        (&text, Room { lock_bytes: nodes.saturating_sub(1), ..enough }),
     ];
-    for (text, node_words, output_words) in cases {
-        check_text(&TextCase { text: text.to_vec(), node_words, output_words })
+    for (text, room) in cases {
+        check_text(&TextCase { text: text.to_vec(), room })
             .map_err(|wrong| format!("{inputs} inputs, {outputs} outputs, {gates} gates: {wrong}"))?;
     }
     Ok(cases.len() as u64)

@@ -1,20 +1,19 @@
 //! ASCII AIGER texts, whole and damaged, for importing.
 
-use crate::cases::random_graph;
+use crate::cases::{random_graph, room_near};
 use crate::lists::differ;
 use crate::plain;
-use crate::raw;
+use crate::raw::{self, Tables};
 use crate::shrink::{hold, Shrink};
 use reference::aiger;
-use reference::graph::Graph;
+use reference::graph::{Graph, Room};
 use reference::random::Random;
 
-/// A text, and how many words the lent tables have.
+/// A text, and how much is lent for it.
 #[derive(Clone, Debug)]
 pub struct TextCase {
     pub text: Vec<u8>,
-    pub node_words: usize,
-    pub output_words: usize,
+    pub room: Room,
 }
 
 impl TextCase {
@@ -43,7 +42,7 @@ impl Shrink for TextCase {
 
     fn show(&self) -> String {
         let text = self.text.escape_ascii();
-        format!("tables of {} and {} words; the text \"{text}\"\n", self.node_words, self.output_words)
+        format!("{:?}; the text \"{text}\"\n", self.room)
     }
 }
 
@@ -143,7 +142,7 @@ fn damage_bytes(random: &mut Random, text: &mut Vec<u8>) {
     }
 }
 
-/// A text, mostly damaged once or twice, and tables that may be a word too short for it.
+/// A text, mostly damaged once or twice, and tables and locks that may be a word or a byte too short for it.
 pub fn random_text(seed: u64) -> TextCase {
     let mut random = Random::new(seed);
     let g = random_graph(&mut random, 5, 5, 4);
@@ -158,12 +157,7 @@ pub fn random_text(seed: u64) -> TextCase {
     if random.one_in(3) {
         damage_bytes(&mut random, &mut text);
     }
-    let (node_words, output_words) = match random.below(12) {
-        0 => ((3 * gates).saturating_sub(1), g.outputs as usize),
-        1 => (3 * gates, (g.outputs as usize).saturating_sub(1)),
-        _ => (3 * gates + 5, g.outputs as usize + 2),
-    };
-    TextCase { text, node_words, output_words }
+    TextCase { text, room: room_near(&mut random, gates, g.outputs as usize, 18) }
 }
 
 /// Tables that are too large are not shown.
@@ -171,16 +165,17 @@ fn same<T: PartialEq + std::fmt::Debug>(what: &str, got: &T, due: &T) -> Result<
     differ(what, got, due).map_err(|wrong| if wrong.len() > 10_000 { format!("{what}: not those due") } else { wrong })
 }
 
-/// Importing, into lent tables and owned ones.
+/// Importing, into lent tables and locks and into owned ones.
 pub fn check_text(case: &TextCase) -> Result<(), String> {
-    let mut due = (vec![0xcafe_0001; case.node_words], vec![0xcafe_0002; case.output_words]);
+    let mut due = Tables::of(case.room);
     let mut got = due.clone();
     let mut plainly = due.clone();
-    let answer = aiger::import(&case.text, &mut due.0, &mut due.1);
-    same("importing", &raw::import(&case.text, &mut got.0, &mut got.1)?, &answer)?;
-    same("the tables", &got, &due)?;
-    same("plain: importing", &plain::aiger::import(&case.text, &mut plainly.0, &mut plainly.1), &answer)?;
-    same("plain: the tables", &plainly, &due)?;
+    let answer = aiger::import(&case.text, &mut due.node_table, &mut due.output_table, &mut due.locks);
+    same("importing", &raw::import(&case.text, &mut got)?, &answer)?;
+    same("the tables and locks", &got, &due)?;
+    let Tables { node_table, output_table, locks } = &mut plainly;
+    same("plain: importing", &plain::aiger::import(&case.text, node_table, output_table, locks), &answer)?;
+    same("plain: the tables and locks", &plainly, &due)?;
     check_owned(&case.text)
 }
 
@@ -192,8 +187,10 @@ fn check_owned(text: &[u8]) -> Result<(), String> {
         outputs: g.size.outputs,
         node_table: g.node_table,
         output_table: g.output_table,
+        locks: g.locks,
     });
-    let due = aiger::parse(text, usize::MAX, usize::MAX);
+    let most = usize::MAX;
+    let due = aiger::parse(text, Room { node_words: most, output_words: most, lock_bytes: most });
     same("an owned graph", &got.map_err(reducer::Refusal::number), &due)
 }
 
@@ -203,11 +200,11 @@ pub fn check_every_byte(seed: u64) -> Result<u64, String> {
     let g = random_graph(&mut random, 3, 2, 2);
     let mut text = joined(&whole(&mut random, &g));
     text.extend(b"c\nend\n");
-    let (node_words, output_words) = (3 * 8 + 2, g.outputs as usize + 2);
+    let room = Room { node_words: 3 * 8 + 2, ..Room::of(9, g.outputs as usize + 2) };
     let mut done = 0;
     let mut check = |parts: [&[u8]; 3]| {
         done += 1;
-        hold(seed, TextCase { text: parts.concat(), node_words, output_words }, &check_text)
+        hold(seed, TextCase { text: parts.concat(), room }, &check_text)
     };
     for at in 0..text.len() {
         let (before, after) = text.split_at(at);

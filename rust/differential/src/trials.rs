@@ -9,18 +9,21 @@ use reference::graph::{index_of, Graph};
 use reference::moves::{self, rows, Saving};
 use reference::random::Random;
 
-/// Trials that would save less than nothing, and those on a node that names the other more than once.
+/// Trials that would save less than nothing; pairs whose node names the other more than once, and those with just one node locked.
 static LOST: AtomicU64 = AtomicU64::new(0);
 static NAMED_TWICE: AtomicU64 = AtomicU64::new(0);
+static LOCKED: AtomicU64 = AtomicU64::new(0);
 
-/// A graph, at times one that is refused: a literal too large, a table too short or a number over its limit.
+/// A graph, at times one that is refused: a literal too large, a lock above 1, a table or the locks too short, a number over its limit.
 pub fn random_trials(seed: u64) -> Case {
     let mut case = random_case(seed, 8, 1);
     let g = &mut case.graph;
     let mut random = Random::new(seed);
-    match random.below(24) {
+    match random.below(28) {
         0 => g.node_table.truncate((3 * g.nodes as usize).saturating_sub(1)),
         1 => g.outputs = 4_097,
+        4 => g.locks.truncate((g.nodes as usize).saturating_sub(1)),
+        5 if g.nodes > 0 => g.locks[random.below(g.nodes) as usize] = random.between(2, 255) as u8,
         2 | 3 if g.nodes > 0 => g.node_table[random.below(3 * g.nodes) as usize] = 2 * (g.inputs + g.nodes) + 3,
         _ => {}
     }
@@ -38,10 +41,13 @@ fn same(g: &Graph, pair: (u32, u32), both: (u32, u32)) -> Result<Result<i64, u32
     Ok(got)
 }
 
-/// Every trial on a pair: the pair call saves the greatest, and leaves the graph of the first that does.
+/// Every trial on a pair: the pair call saves the greatest, and leaves the graph of the first that does. A locked node's moves are
+/// tried too: none turns anything, so that the first is move 0.
 fn check_pair(g: &Graph, node: u32, word: u32) -> Result<u64, String> {
     let named = index_of(g.word(node, word as usize - 1));
     let moves_at = |index: u32| if g.is_node(index) { rows(g, index).len() as u32 } else { 1 };
+    let locked = [named, node].map(|index| g.is_node(index) && g.is_locked(index));
+    LOCKED.fetch_add(u64::from(locked[0] != locked[1] && g.is_node(named)), Ordering::Relaxed);
     let mut best = (0, 0, 0);
     let mut done = 0;
     for a in 0..moves_at(named) {
@@ -96,13 +102,16 @@ pub fn check_trials(case: &Case) -> Result<u64, String> {
     Ok(done)
 }
 
-/// Whether trials that lose, and pairs with two edges between them, were among the cases.
+/// Whether trials that lose, pairs with two edges between them, and pairs with one lock were among the cases.
 pub fn all_met() -> Result<(), String> {
-    let (lost, twice) = (LOST.load(Ordering::Relaxed), NAMED_TWICE.load(Ordering::Relaxed));
-    println!("trials that lose: {lost}; pairs whose node names the other more than once: {twice}");
-    match (lost, twice) {
-        (0, _) => Err("FAILED: no trial lost anything".into()),
-        (_, 0) => Err("FAILED: no node named the other twice".into()),
+    let [lost, twice, locked] = [&LOST, &NAMED_TWICE, &LOCKED].map(|count| count.load(Ordering::Relaxed));
+    println!(
+        "trials that lose: {lost}; pairs whose node names the other more than once: {twice}; with one of both locked: {locked}"
+    );
+    match (lost, twice, locked) {
+        (0, _, _) => Err("FAILED: no trial lost anything".into()),
+        (_, 0, _) => Err("FAILED: no node named the other twice".into()),
+        (_, _, 0) => Err("FAILED: no pair had one node locked".into()),
         _ => Ok(()),
     }
 }

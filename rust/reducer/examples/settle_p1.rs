@@ -2,11 +2,10 @@
 //!
 //! Run it in the repository's root: `cargo run --release --manifest-path rust/reducer/Cargo.toml --example settle_p1`
 
-use reducer::{Graph, Refusal, Size};
+use reducer::{Graph, Refusal};
 
 fn main() -> Result<(), Refusal> {
-    let mut graph =
-        Graph { size: Size { inputs: 3, nodes: 1, outputs: 1 }, node_table: vec![3, 5, 7], output_table: vec![9] };
+    let mut graph = Graph::new(3, vec![3, 5, 7], vec![9]);
     let before = graph.evaluate(&[0xF0, 0xCC, 0xAA])?;
     let settled = graph.settle()?;
     println!("before {} after {} rounds {}", settled.before, settled.after, settled.rounds);

@@ -1,5 +1,5 @@
-//! The calls on slices that the caller lends. Only the graph's part of each table is looked at; what stands after it is
-//! left, and a refused call leaves everything.
+//! The calls on slices that the caller lends. Only the graph's part of the tables and of the locks is looked at; what stands after
+//! it is left, and a refused call leaves everything. The locks have a byte a node: 1 for locked, 0 for free.
 
 use crate::raw;
 use crate::{Refusal, ReplayRefusal, Saving, Settled, Size};
@@ -8,7 +8,7 @@ use crate::{Refusal, ReplayRefusal, Saving, Settled, Size};
 pub(crate) fn answer<T>(number: u32, value: T) -> Result<T, Refusal> {
     match number {
         0 => Ok(value),
-        refused => Err(Refusal::from_number(refused).expect("the library answers 0 to 12")),
+        refused => Err(Refusal::from_number(refused).expect("the library answers 0 to 13")),
     }
 }
 
@@ -24,8 +24,8 @@ pub fn field(bytes: &[u8]) -> Result<&[u8], Refusal> {
     Ok(&bytes[payload[0]..payload[0] + payload[1]])
 }
 
-/// Fills the front of both tables from a tagged file.
-pub fn load(file: &[u8], node_table: &mut [u32], output_table: &mut [u32]) -> Result<Size, Refusal> {
+/// Fills the front of both tables and of the locks from a tagged file.
+pub fn load(file: &[u8], node_table: &mut [u32], output_table: &mut [u32], locks: &mut [u8]) -> Result<Size, Refusal> {
     let mut numbers = [0u32; 3];
     let number = unsafe {
         raw::reducer_load(
@@ -35,6 +35,8 @@ pub fn load(file: &[u8], node_table: &mut [u32], output_table: &mut [u32]) -> Re
             node_table.len(),
             output_table.as_mut_ptr(),
             output_table.len(),
+            locks.as_mut_ptr(),
+            locks.len(),
             &mut numbers,
         )
     };
@@ -42,7 +44,13 @@ pub fn load(file: &[u8], node_table: &mut [u32], output_table: &mut [u32]) -> Re
 }
 
 /// Fills the front of the buffer with the graph's file; the file's length.
-pub fn write(size: Size, node_table: &[u32], output_table: &[u32], buffer: &mut [u8]) -> Result<usize, Refusal> {
+pub fn write(
+    size: Size,
+    node_table: &[u32],
+    output_table: &[u32],
+    locks: &[u8],
+    buffer: &mut [u8],
+) -> Result<usize, Refusal> {
     let mut length = 0usize;
     let number = unsafe {
         raw::reducer_write(
@@ -53,6 +61,8 @@ pub fn write(size: Size, node_table: &[u32], output_table: &[u32], buffer: &mut 
             node_table.len(),
             output_table.as_ptr(),
             output_table.len(),
+            locks.as_ptr(),
+            locks.len(),
             buffer.as_mut_ptr(),
             buffer.len(),
             &mut length,
@@ -61,8 +71,13 @@ pub fn write(size: Size, node_table: &[u32], output_table: &[u32], buffer: &mut 
     answer(number, length)
 }
 
-/// Fills the front of both tables from an ASCII AIGER text.
-pub fn import(text: &[u8], node_table: &mut [u32], output_table: &mut [u32]) -> Result<Size, Refusal> {
+/// Fills the front of both tables and of the locks from an ASCII AIGER text: every node is free.
+pub fn import(
+    text: &[u8],
+    node_table: &mut [u32],
+    output_table: &mut [u32],
+    locks: &mut [u8],
+) -> Result<Size, Refusal> {
     let mut numbers = [0u32; 3];
     let number = unsafe {
         raw::reducer_import(
@@ -72,6 +87,8 @@ pub fn import(text: &[u8], node_table: &mut [u32], output_table: &mut [u32]) -> 
             node_table.len(),
             output_table.as_mut_ptr(),
             output_table.len(),
+            locks.as_mut_ptr(),
+            locks.len(),
             &mut numbers,
         )
     };
@@ -83,6 +100,7 @@ pub fn export(
     size: Size,
     node_table: &[u32],
     output_table: &[u32],
+    locks: &[u8],
     scratch: &mut [u32],
     buffer: &mut [u8],
 ) -> Result<usize, Refusal> {
@@ -96,6 +114,8 @@ pub fn export(
             node_table.len(),
             output_table.as_ptr(),
             output_table.len(),
+            locks.as_ptr(),
+            locks.len(),
             scratch.as_mut_ptr(),
             scratch.len(),
             buffer.as_mut_ptr(),
@@ -111,6 +131,7 @@ pub fn evaluate(
     size: Size,
     node_table: &[u32],
     output_table: &[u32],
+    locks: &[u8],
     input_words: &[u64],
     scratch: &mut [u64],
     results: &mut [u64],
@@ -124,6 +145,8 @@ pub fn evaluate(
             node_table.len(),
             output_table.as_ptr(),
             output_table.len(),
+            locks.as_ptr(),
+            locks.len(),
             input_words.as_ptr(),
             input_words.len(),
             scratch.as_mut_ptr(),
@@ -136,7 +159,7 @@ pub fn evaluate(
 }
 
 /// How many edges are complemented.
-pub fn complemented_edges(size: Size, node_table: &[u32], output_table: &[u32]) -> Result<u32, Refusal> {
+pub fn complemented_edges(size: Size, node_table: &[u32], output_table: &[u32], locks: &[u8]) -> Result<u32, Refusal> {
     let mut count = 0u32;
     let number = unsafe {
         raw::reducer_count(
@@ -147,6 +170,8 @@ pub fn complemented_edges(size: Size, node_table: &[u32], output_table: &[u32]) 
             node_table.len(),
             output_table.as_ptr(),
             output_table.len(),
+            locks.as_ptr(),
+            locks.len(),
             &mut count,
         )
     };
@@ -154,7 +179,13 @@ pub fn complemented_edges(size: Size, node_table: &[u32], output_table: &[u32]) 
 }
 
 /// The best move of one node; what it saves.
-pub fn node_call(size: Size, node_table: &mut [u32], output_table: &mut [u32], node: u32) -> Result<Saving, Refusal> {
+pub fn node_call(
+    size: Size,
+    node_table: &mut [u32],
+    output_table: &mut [u32],
+    locks: &[u8],
+    node: u32,
+) -> Result<Saving, Refusal> {
     let mut saving = [0i64; 2];
     let number = unsafe {
         raw::reducer_node(
@@ -165,6 +196,8 @@ pub fn node_call(size: Size, node_table: &mut [u32], output_table: &mut [u32], n
             node_table.len(),
             output_table.as_mut_ptr(),
             output_table.len(),
+            locks.as_ptr(),
+            locks.len(),
             node,
             &mut saving,
         )
@@ -177,6 +210,7 @@ pub fn pair_call(
     size: Size,
     node_table: &mut [u32],
     output_table: &mut [u32],
+    locks: &[u8],
     node: u32,
     word: u32,
 ) -> Result<Saving, Refusal> {
@@ -190,6 +224,8 @@ pub fn pair_call(
             node_table.len(),
             output_table.as_mut_ptr(),
             output_table.len(),
+            locks.as_ptr(),
+            locks.len(),
             node,
             word,
             &mut saving,
@@ -198,11 +234,13 @@ pub fn pair_call(
     answer(number, parted(saving))
 }
 
-/// What two moves would save: one at the node that a word (1 to 3) of a node names, one at the node; below 0 where they lose.
+/// What two moves would save: one at the node that a word (1 to 3) of a node names, one at the node; below 0 where they lose. A move
+/// that a node's kind lacks, or any at a locked node, turns nothing.
 pub fn trial(
     size: Size,
     node_table: &[u32],
     output_table: &[u32],
+    locks: &[u8],
     pair: (u32, u32),
     moves: (u32, u32),
 ) -> Result<i64, Refusal> {
@@ -216,6 +254,8 @@ pub fn trial(
             node_table.len(),
             output_table.as_ptr(),
             output_table.len(),
+            locks.as_ptr(),
+            locks.len(),
             pair.0,
             pair.1,
             moves.0,
@@ -231,6 +271,7 @@ pub fn tree_call(
     size: Size,
     node_table: &mut [u32],
     output_table: &mut [u32],
+    locks: &[u8],
     root: u32,
     scratch: &mut [u32],
 ) -> Result<Saving, Refusal> {
@@ -244,6 +285,8 @@ pub fn tree_call(
             node_table.len(),
             output_table.as_mut_ptr(),
             output_table.len(),
+            locks.as_ptr(),
+            locks.len(),
             root,
             scratch.as_mut_ptr(),
             scratch.len(),
@@ -254,11 +297,12 @@ pub fn tree_call(
 }
 
 /// What [`tree_call`] would save, with each node's move there in the first bytes of `moves`, a byte a node by rising index: 0 outside
-/// the root's tree. Scratch is [`crate::scratch_words`] long.
+/// the root's tree and at locked nodes. Scratch is [`crate::scratch_words`] long.
 pub fn preview(
     size: Size,
     node_table: &[u32],
     output_table: &[u32],
+    locks: &[u8],
     root: u32,
     moves: &mut [u8],
     scratch: &mut [u32],
@@ -273,6 +317,8 @@ pub fn preview(
             node_table.len(),
             output_table.as_ptr(),
             output_table.len(),
+            locks.as_ptr(),
+            locks.len(),
             root,
             moves.as_mut_ptr(),
             moves.len(),
@@ -289,6 +335,7 @@ pub fn settle(
     size: Size,
     node_table: &mut [u32],
     output_table: &mut [u32],
+    locks: &[u8],
     scratch: &mut [u32],
 ) -> Result<Settled, Refusal> {
     let (mut figures, mut savings) = ([0u32; 3], [0i64; 2]);
@@ -301,6 +348,8 @@ pub fn settle(
             node_table.len(),
             output_table.as_mut_ptr(),
             output_table.len(),
+            locks.as_ptr(),
+            locks.len(),
             scratch.as_mut_ptr(),
             scratch.len(),
             &mut figures,
@@ -312,13 +361,14 @@ pub fn settle(
     answer(number, Settled { rounds, before, after, own, others })
 }
 
-/// Loads a file and makes a list of calls, three words each ([`crate::Call::words`]), on the loaded graph. The answers are three
-/// words a call: the refusal's number, or 0, and what the call saves, own and others.
+/// Loads a file and makes a list of calls, three words each ([`crate::Call::words`]), on the loaded graph and locks. The answers are
+/// three words a call: the refusal's number, or 0, and what the call saves, own and others.
 pub fn replay(
     file: &[u8],
     calls: &[u32],
     node_table: &mut [u32],
     output_table: &mut [u32],
+    locks: &mut [u8],
     scratch: &mut [u32],
     answers: &mut [i64],
 ) -> Result<Size, ReplayRefusal> {
@@ -333,6 +383,8 @@ pub fn replay(
             node_table.len(),
             output_table.as_mut_ptr(),
             output_table.len(),
+            locks.as_mut_ptr(),
+            locks.len(),
             scratch.as_mut_ptr(),
             scratch.len(),
             answers.as_mut_ptr(),

@@ -4,7 +4,7 @@
 //! (pointers that are never null, slices that do not overlap) holds here by Rust's own rules, so that no call can
 //! go wrong: it answers, or it is refused and has changed nothing.
 //!
-//! A [`Graph`] owns its tables and lends what each call needs:
+//! A [`Graph`] owns its tables and locks and lends what each call needs:
 //!
 //! ```no_run
 //! let file = std::fs::read("graph.bin").unwrap();
@@ -15,6 +15,8 @@
 //! ```
 //!
 //! [`Graph::import`] and [`Graph::export`] do the same for ASCII AIGER, the text of and-inverter tools.
+//!
+//! A node that is already laid out is locked ([`Graph::lock`]): no call turns it, and its file says so.
 //!
 //! The module [`lent`] has the same calls on slices that the caller lends, without a heap.
 
@@ -42,7 +44,7 @@ pub enum Refusal {
     WrongField = 2,
     /// There are too many inputs, nodes or outputs.
     OverLimit = 3,
-    /// A lent table, input or result slice is too short.
+    /// A lent table, slice of locks, input or result slice is too short.
     ShortSlice = 4,
     /// A literal names an index that is not allowed there.
     BadLiteral = 5,
@@ -60,10 +62,12 @@ pub enum Refusal {
     HasLatches = 11,
     /// M is not I + A, or inputs or gate numbers do not rise by 2 from literal 2.
     WrongNumbering = 12,
+    /// A lock byte is above 1, or a field 06 of a file has an index that is no node's or not above the one before.
+    BadLock = 13,
 }
 
 impl Refusal {
-    /// The refusal's number, 1 to 12.
+    /// The refusal's number, 1 to 13.
     pub fn number(self) -> u32 {
         self as u32
     }
@@ -83,6 +87,7 @@ impl Refusal {
             10 => Some(Refusal::BadText),
             11 => Some(Refusal::HasLatches),
             12 => Some(Refusal::WrongNumbering),
+            13 => Some(Refusal::BadLock),
             _ => None,
         }
     }
@@ -94,7 +99,7 @@ impl fmt::Display for Refusal {
             Refusal::MissingBytes => "the bytes end within a field",
             Refusal::WrongField => "a field has not the tag or the length that is due",
             Refusal::OverLimit => "there are too many inputs, nodes or outputs",
-            Refusal::ShortSlice => "a table, input or result slice is too short",
+            Refusal::ShortSlice => "a table, slice of locks, input or result slice is too short",
             Refusal::BadLiteral => "a literal names an index that is not allowed there",
             Refusal::ExtraBytes => "there are bytes after the end field",
             Refusal::NoSuchNode => "there is no such node, root or word",
@@ -103,6 +108,7 @@ impl fmt::Display for Refusal {
             Refusal::BadText => "the header has no \"aag\", or a line lacks its decimal numbers",
             Refusal::HasLatches => "there are latches",
             Refusal::WrongNumbering => "M is not I + A, or inputs or gate numbers do not rise by 2 from literal 2",
+            Refusal::BadLock => "a lock byte is above 1, or a lock of a file is at no node or not above the one before",
         };
         write!(f, "refused {}: {why}", self.number())
     }
@@ -154,7 +160,7 @@ pub struct Settled {
 pub struct Preview {
     /// What the tree call would save.
     pub saving: Saving,
-    /// A byte a node by rising index: its move in the tree call, and 0 outside the tree.
+    /// A byte a node by rising index: its move in the tree call, and 0 outside the tree and at locked nodes.
     pub moves: Vec<u8>,
 }
 
@@ -198,9 +204,9 @@ pub fn scratch_words(nodes: u32) -> usize {
     8 * nodes as usize
 }
 
-/// How many bytes are enough for the file of a graph of this size.
+/// How many bytes are enough for the file of a graph of this size, all its nodes being locked.
 pub fn file_bytes(size: Size) -> usize {
-    18 + 15 * size.nodes as usize + 7 * size.outputs as usize
+    18 + 22 * size.nodes as usize + 7 * size.outputs as usize
 }
 
 /// How many bytes are enough for the ASCII AIGER text of a graph of this size.
@@ -208,7 +214,7 @@ pub fn text_bytes(size: Size) -> usize {
     30 + 5 * size.inputs as usize + 84 * size.nodes as usize + 7 * size.outputs as usize
 }
 
-/// A graph that owns its tables.
+/// A graph that owns its tables and locks.
 ///
 /// The fields may be set to anything: a call on what is no graph is refused.
 #[derive(Clone, Debug, Default, PartialEq, Eq)]
@@ -218,6 +224,8 @@ pub struct Graph {
     pub node_table: Vec<u32>,
     /// One literal an output.
     pub output_table: Vec<u32>,
+    /// A byte a node: 1 for locked, 0 for free. No call changes them but [`Graph::lock`] and [`Graph::unlock`].
+    pub locks: Vec<u8>,
 }
 
 /// What the head of a file says at this place, at most `most`; 0 where the file is too short to say it.
@@ -237,13 +245,60 @@ fn header_number(text: &[u8], at: usize, most: u32) -> usize {
 }
 
 impl Graph {
+    /// The graph of these tables, every node free.
+    pub fn new(inputs: u32, node_table: Vec<u32>, output_table: Vec<u32>) -> Graph {
+        let nodes = node_table.len() / 3;
+        // More than a number can say is over the limit all the same.
+        let count = |many: usize| u32::try_from(many).unwrap_or(u32::MAX);
+        let size = Size { inputs, nodes: count(nodes), outputs: count(output_table.len()) };
+        Graph { size, node_table, output_table, locks: vec![0; nodes] }
+    }
+
+    /// Where the lock of the node of this index stands.
+    fn lock_place(&self, index: u32) -> Result<usize, Refusal> {
+        let place = index.checked_sub(self.size.inputs).and_then(|above| above.checked_sub(1));
+        let place = place.filter(|&place| place < self.size.nodes).ok_or(Refusal::NoSuchNode)? as usize;
+        // The field can have been set to fewer bytes.
+        (place < self.locks.len()).then_some(place).ok_or(Refusal::ShortSlice)
+    }
+
+    /// Locks the node of this index: from then on no call turns it. An index that is no node's is refused, and nothing has changed.
+    pub fn lock(&mut self, index: u32) -> Result<(), Refusal> {
+        let place = self.lock_place(index)?;
+        self.locks[place] = 1;
+        Ok(())
+    }
+
+    /// Frees the node of this index, locked or not.
+    pub fn unlock(&mut self, index: u32) -> Result<(), Refusal> {
+        let place = self.lock_place(index)?;
+        self.locks[place] = 0;
+        Ok(())
+    }
+
+    /// Whether the node of this index is locked.
+    pub fn is_locked(&self, index: u32) -> Result<bool, Refusal> {
+        match self.locks[self.lock_place(index)?] {
+            0 => Ok(false),
+            1 => Ok(true),
+            _ => Err(Refusal::BadLock),
+        }
+    }
+
+    /// How many nodes are locked.
+    pub fn locked(&self) -> u32 {
+        let nodes = self.locks.iter().take(self.size.nodes as usize);
+        nodes.filter(|&&byte| byte == 1).count() as u32
+    }
+
     /// The graph that a tagged file holds.
     pub fn load(file: &[u8]) -> Result<Graph, Refusal> {
         // Room for what the head says. A head that says more than the limits is refused before room is looked at.
         let mut node_table = vec![0; 3 * head_number(file, 7, MOST_NODES)];
         let mut output_table = vec![0; head_number(file, 11, MOST_OUTPUTS)];
-        let size = lent::load(file, &mut node_table, &mut output_table)?;
-        Ok(Graph { size, node_table, output_table })
+        let mut locks = vec![0; node_table.len() / 3];
+        let size = lent::load(file, &mut node_table, &mut output_table, &mut locks)?;
+        Ok(Graph { size, node_table, output_table, locks })
     }
 
     /// The graph that a tagged file holds after a list of calls, with what each call saved or was refused by.
@@ -252,17 +307,18 @@ impl Graph {
         let nodes = head_number(file, 7, MOST_NODES);
         let mut node_table = vec![0; 3 * nodes];
         let mut output_table = vec![0; head_number(file, 11, MOST_OUTPUTS)];
+        let mut locks = vec![0; nodes];
         let mut scratch = vec![0; scratch_words(nodes as u32)];
         let mut answers = vec![0; 3 * calls.len()];
-        let size = lent::replay(file, &words, &mut node_table, &mut output_table, &mut scratch, &mut answers).map_err(
-            |refusal| match refusal {
-                ReplayRefusal::Refused(refusal) => refusal,
-                own => unreachable!("calls are three words, and of a known kind: {own:?}"),
-            },
-        )?;
+        let replayed =
+            lent::replay(file, &words, &mut node_table, &mut output_table, &mut locks, &mut scratch, &mut answers);
+        let size = replayed.map_err(|refusal| match refusal {
+            ReplayRefusal::Refused(refusal) => refusal,
+            own => unreachable!("calls are three words, and of a known kind: {own:?}"),
+        })?;
         let told = |three: &[i64]| lent::answer(three[0] as u32, Saving { own: three[1], others: three[2] });
         let told = answers.chunks_exact(3).map(told).collect();
-        Ok((Graph { size, node_table, output_table }, told))
+        Ok((Graph { size, node_table, output_table, locks }, told))
     }
 
     /// The graph's tagged file.
@@ -270,26 +326,28 @@ impl Graph {
         // A graph over the limits is refused before room is looked at, and gets none.
         self.complemented_edges()?;
         let mut file = vec![0; file_bytes(self.size)];
-        let length = lent::write(self.size, &self.node_table, &self.output_table, &mut file)?;
+        let length = lent::write(self.size, &self.node_table, &self.output_table, &self.locks, &mut file)?;
         file.truncate(length);
         Ok(file)
     }
 
-    /// The graph that an ASCII AIGER text says: a majority of the constant and two literals for each AND.
+    /// The graph that an ASCII AIGER text says: a majority of the constant and two literals for each AND, every node free.
     pub fn import(text: &[u8]) -> Result<Graph, Refusal> {
         // As for loading, room for what the header says.
         let mut node_table = vec![0; 3 * header_number(text, 4, MOST_NODES)];
         let mut output_table = vec![0; header_number(text, 3, MOST_OUTPUTS)];
-        let size = lent::import(text, &mut node_table, &mut output_table)?;
-        Ok(Graph { size, node_table, output_table })
+        let mut locks = vec![0; node_table.len() / 3];
+        let size = lent::import(text, &mut node_table, &mut output_table, &mut locks)?;
+        Ok(Graph { size, node_table, output_table, locks })
     }
 
-    /// The graph's ASCII AIGER text: four ANDs for each majority, three for each XOR.
+    /// The graph's ASCII AIGER text: four ANDs for each majority, three for each XOR. It says nothing of locks.
     pub fn export(&self) -> Result<Vec<u8>, Refusal> {
         self.complemented_edges()?;
         let mut scratch = vec![0; self.size.nodes as usize];
         let mut text = vec![0; text_bytes(self.size)];
-        let length = lent::export(self.size, &self.node_table, &self.output_table, &mut scratch, &mut text)?;
+        let length =
+            lent::export(self.size, &self.node_table, &self.output_table, &self.locks, &mut scratch, &mut text)?;
         text.truncate(length);
         Ok(text)
     }
@@ -298,49 +356,66 @@ impl Graph {
     pub fn evaluate(&self, input_words: &[u64]) -> Result<Vec<u64>, Refusal> {
         let mut scratch = vec![0; self.size.nodes.min(MOST_NODES) as usize];
         let mut results = vec![0; self.size.outputs.min(MOST_OUTPUTS) as usize];
-        lent::evaluate(self.size, &self.node_table, &self.output_table, input_words, &mut scratch, &mut results)?;
+        lent::evaluate(
+            self.size,
+            &self.node_table,
+            &self.output_table,
+            &self.locks,
+            input_words,
+            &mut scratch,
+            &mut results,
+        )?;
         Ok(results)
     }
 
     /// How many edges are complemented, those from the constant among them.
     pub fn complemented_edges(&self) -> Result<u32, Refusal> {
-        lent::complemented_edges(self.size, &self.node_table, &self.output_table)
+        lent::complemented_edges(self.size, &self.node_table, &self.output_table, &self.locks)
     }
 
     /// Makes the best move of one node; what it saves.
     pub fn node_call(&mut self, node: u32) -> Result<Saving, Refusal> {
-        lent::node_call(self.size, &mut self.node_table, &mut self.output_table, node)
+        lent::node_call(self.size, &mut self.node_table, &mut self.output_table, &self.locks, node)
     }
 
     /// Makes the best moves of a node and of the one that its word (1 to 3) names; what they save.
     pub fn pair_call(&mut self, node: u32, word: u32) -> Result<Saving, Refusal> {
-        lent::pair_call(self.size, &mut self.node_table, &mut self.output_table, node, word)
+        lent::pair_call(self.size, &mut self.node_table, &mut self.output_table, &self.locks, node, word)
     }
 
     /// What `named_move` at the node that a word (1 to 3) of a node names and `node_move` at the node would save: below 0 where
-    /// they lose, 0 where the word names no node. A move that a node's kind lacks turns nothing. Nothing is changed.
+    /// they lose, 0 where the word names no node. A move that a node's kind lacks, or any at a locked node, turns nothing. Nothing is
+    /// changed.
     pub fn trial(&self, node: u32, word: u32, named_move: u32, node_move: u32) -> Result<i64, Refusal> {
-        lent::trial(self.size, &self.node_table, &self.output_table, (node, word), (named_move, node_move))
+        lent::trial(self.size, &self.node_table, &self.output_table, &self.locks, (node, word), (named_move, node_move))
     }
 
     /// Makes the best moves of the tree of a root; what they save.
     pub fn tree_call(&mut self, root: u32) -> Result<Saving, Refusal> {
         let mut scratch = self.scratch();
-        lent::tree_call(self.size, &mut self.node_table, &mut self.output_table, root, &mut scratch)
+        lent::tree_call(self.size, &mut self.node_table, &mut self.output_table, &self.locks, root, &mut scratch)
     }
 
     /// Tells what [`Graph::tree_call`] would save and which moves it would make.
     pub fn preview(&self, root: u32) -> Result<Preview, Refusal> {
         let mut scratch = self.scratch();
         let mut moves = vec![0; self.size.nodes.min(MOST_NODES) as usize];
-        let saving = lent::preview(self.size, &self.node_table, &self.output_table, root, &mut moves, &mut scratch)?;
+        let saving = lent::preview(
+            self.size,
+            &self.node_table,
+            &self.output_table,
+            &self.locks,
+            root,
+            &mut moves,
+            &mut scratch,
+        )?;
         Ok(Preview { saving, moves })
     }
 
     /// Makes rounds of tree, node and pair calls until one saves nothing.
     pub fn settle(&mut self) -> Result<Settled, Refusal> {
         let mut scratch = self.scratch();
-        lent::settle(self.size, &mut self.node_table, &mut self.output_table, &mut scratch)
+        lent::settle(self.size, &mut self.node_table, &mut self.output_table, &self.locks, &mut scratch)
     }
 
     fn scratch(&self) -> Vec<u32> {

@@ -7,6 +7,8 @@ use std::path::{Path, PathBuf};
 use std::process::{Command, Output, Stdio};
 use std::time::{Duration, Instant};
 
+#[path = "program/locks.rs"]
+mod locks;
 #[path = "program/pictures.rs"]
 mod pictures;
 #[path = "program/reports.rs"]
@@ -129,12 +131,12 @@ fn importing_and_exporting() {
 
 #[test]
 fn showing() {
-    let due = "format tagged\ninputs 3 nodes 1 outputs 1\nmajorities 1 xors 0\ncomplemented edges 4\ndepth 1\n";
+    let due = "format tagged\ninputs 3 nodes 1 outputs 1\nmajorities 1 xors 0\ncomplemented edges 4\ndepth 1\nlocked nodes 0\n";
     gives(&run(&["show"], &p1()), due.as_bytes(), "");
-    let due = "format aiger\ninputs 3 nodes 4 outputs 1\nmajorities 4 xors 0\ncomplemented edges 6\ndepth 3\n";
+    let due = "format aiger\ninputs 3 nodes 4 outputs 1\nmajorities 4 xors 0\ncomplemented edges 6\ndepth 3\nlocked nodes 0\n";
     gives(&run(&["show"], MAJORITY.as_bytes()), due.as_bytes(), "");
     let mixed = tagged(&[(1, &[2, 2, 2]), (3, &[2, 5]), (2, &[1, 6, 4]), (4, &[8]), (4, &[1]), (5, &[])]);
-    let due = "format tagged\ninputs 2 nodes 2 outputs 2\nmajorities 1 xors 1\ncomplemented edges 3\ndepth 2\n";
+    let due = "format tagged\ninputs 2 nodes 2 outputs 2\nmajorities 1 xors 1\ncomplemented edges 3\ndepth 2\nlocked nodes 0\n";
     gives(&run(&["show"], &mixed), due.as_bytes(), "");
 }
 
@@ -406,6 +408,8 @@ fn usage() {
         &["import", "-h"],
         &["export", "--help"],
         &["show", "--help"],
+        &["lock", "--help"],
+        &["unlock", "a", "-h"],
         &["preview", "a", "7", "--help"],
         &["picture", "--svg", "--help"],
         &["report", "--help"],
@@ -446,7 +450,7 @@ fn long_input() {
     (1..=4_096).for_each(|_| long += "208193\n");
     (4_097..=104_096).for_each(|gate| long += &format!("{} {} {}\n", 2 * gate, 2 * gate - 1, 2 * gate - 2));
     let due = "format aiger\ninputs 4096 nodes 100000 outputs 4096\nmajorities 100000 xors 0\n\
-               complemented edges 104096\ndepth 100000\n";
+               complemented edges 104096\ndepth 100000\nlocked nodes 0\n";
     gives(&run(&["show"], long.as_bytes()), due.as_bytes(), "");
     let symbols = "i0 a name that is long enough\n".repeat(200_000);
     gives(&run(&["show"], (long.clone() + &symbols).as_bytes()), due.as_bytes(), "");

@@ -1,10 +1,15 @@
-//! Document 01's worked graphs and edges of the limits, and texts and previews of document 02, through the safe interface.
+//! Document 01's worked graphs and edges of the limits, and texts, previews and locks of document 02, through the safe interface.
 
 use reducer::{lent, Call, Graph, Preview, Refusal, ReplayRefusal, Saving, Settled, Size, MARK};
 
 fn graph(inputs: u32, node_table: &[u32], output_table: &[u32]) -> Graph {
-    let size = Size { inputs, nodes: node_table.len() as u32 / 3, outputs: output_table.len() as u32 };
-    Graph { size, node_table: node_table.to_vec(), output_table: output_table.to_vec() }
+    Graph::new(inputs, node_table.to_vec(), output_table.to_vec())
+}
+
+/// The same graph with these nodes locked.
+fn locked(mut g: Graph, nodes: &[u32]) -> Graph {
+    nodes.iter().for_each(|&node| g.lock(node).unwrap());
+    g
 }
 
 /// A saving: own and others.
@@ -53,6 +58,35 @@ fn worked_graphs() {
     }
 }
 
+/// A locked node stays, and its first word turns all the same where the node that it names turns.
+#[test]
+fn worked_locks() {
+    let p1 = locked(graph(3, &[3, 5, 7], &[9]), &[4]);
+    worked(p1.clone(), |g| g.node_call(4), p1.clone(), 4, (0, 0));
+    worked(p1.clone(), |g| g.tree_call(4), p1, 4, (0, 0));
+    let p2 = graph(5, &[3, 5, 6, 13, 8, 11], &[14]);
+    for nodes in [&[6][..], &[6, 7]] {
+        let stays = locked(p2.clone(), nodes);
+        worked(stays.clone(), |g| g.tree_call(7), stays.clone(), 4, (0, 0));
+        worked(stays.clone(), |g| g.pair_call(7, 1), stays, 4, (0, 0));
+    }
+    let after = locked(graph(5, &[2, 4, 7, 12, 8, 11], &[14]), &[7]);
+    worked(locked(p2.clone(), &[7]), |g| g.tree_call(7), after.clone(), 4, (2, 0));
+    worked(locked(p2, &[7]), |g| g.node_call(6), after, 4, (1, 1));
+    let p3 = graph(5, &[3, 5, 6, 12, 9, 10], &[15]);
+    for nodes in [&[6][..], &[7], &[6, 7]] {
+        let stays = locked(p3.clone(), nodes);
+        worked(stays.clone(), |g| g.pair_call(7, 1), stays.clone(), 4, (0, 0));
+        worked(stays.clone(), |g| g.tree_call(7), stays, 4, (0, 0));
+    }
+    let xor = locked(graph(2, &[3, 4, MARK], &[7]), &[3]);
+    worked(xor.clone(), |g| g.node_call(3), xor, 2, (0, 0));
+    // A tree call at node 5 saves 1 and 1; node 4 would save more, and is locked.
+    let mut g = locked(graph(3, &[3, 4, 6, 3, 5, 8], &[9, 9, 11]), &[4]);
+    assert_eq!(g.settle(), Ok(Settled { rounds: 2, before: 6, after: 4, own: 1, others: 1 }));
+    assert_eq!(g, locked(graph(3, &[3, 4, 6, 2, 4, 9], &[9, 9, 10]), &[4]));
+}
+
 #[test]
 fn worked_trials() {
     let trials = |g: &Graph, node: u32, word: u32, kinds: (u32, u32)| -> Vec<i64> {
@@ -69,6 +103,10 @@ fn worked_trials() {
     assert_eq!(p3.trial(7, 4, 0, 0), Err(Refusal::NoSuchNode));
     assert_eq!(p3.trial(5, 1, 0, 0), Err(Refusal::NoSuchNode));
     assert_eq!(graph(3, &[8, 7, 7], &[]).trial(9, 1, 0, 0), Err(Refusal::BadLiteral));
+    // A move other than 0 at a locked node is as move 0.
+    let twice = graph(2, &[3, 5, 0, 7, 7, 3], &[9]);
+    assert_eq!(trials(&locked(twice.clone(), &[3]), 4, 1, (2, 2)), [0, 4, 0, 4]);
+    assert_eq!(trials(&locked(twice, &[4]), 4, 1, (2, 2)), [0, 0, 3, 3]);
 }
 
 #[test]
@@ -77,7 +115,11 @@ fn edges_of_the_limits() {
     assert_eq!(graph(3, &[8, 7, 7], &[]).complemented_edges(), Err(Refusal::BadLiteral));
     let large = graph(0, &vec![0; 300_000], &[]);
     let file = large.write().unwrap();
-    assert_eq!(Graph::load(&file), Ok(large));
+    assert_eq!(Graph::load(&file), Ok(large.clone()));
+    let all_locked = Graph { locks: vec![1; 100_000], ..large };
+    let longest = all_locked.write().unwrap();
+    assert_eq!(longest.len(), reducer::file_bytes(all_locked.size));
+    assert_eq!(Graph::load(&longest), Ok(all_locked));
     assert_eq!(graph(0, &vec![0; 300_003], &[]).write(), Err(Refusal::OverLimit));
     let mut over = file;
     over[7..11].copy_from_slice(&100_001u32.to_be_bytes());
@@ -92,11 +134,11 @@ fn edges_of_the_limits() {
 
 #[test]
 fn numbers_of_refusals() {
-    for number in 1..=12 {
+    for number in 1..=13 {
         assert_eq!(Refusal::from_number(number).unwrap().number(), number);
     }
     assert_eq!(Refusal::from_number(0), None);
-    assert_eq!(Refusal::from_number(13), None);
+    assert_eq!(Refusal::from_number(14), None);
 }
 
 #[test]
@@ -150,6 +192,8 @@ fn previews() {
     // The one choice that leaves no complemented edge: an edge that two moves turn ends as it was.
     let xors = graph(2, &[3, 4, MARK, 7, 5, MARK, 8, 5, MARK, 10, 5, MARK], &[13]);
     assert_eq!(told(&xors, 6), (saving(5, 1), vec![2, 3, 1, 3]));
+    assert_eq!(told(&locked(xors.clone(), &[5]), 6), (saving(3, 1), vec![2, 0, 0, 3]));
+    assert_eq!(told(&locked(xors, &[6]), 6), (saving(4, 0), vec![2, 3, 1, 0]));
     // Node 4 is a root that node 6 reads; node 5 is of node 6's tree.
     let two_trees = graph(3, &[3, 5, 7, 3, 5, MARK, 10, 8, 4], &[9, 12]);
     assert_eq!(told(&two_trees, 4), (saving(3, 0), vec![1, 0, 0]));
@@ -163,25 +207,30 @@ fn previews() {
 /// Each fault is put right in turn, and the next is told; bytes and scratch stay until none is left.
 #[test]
 fn previews_of_lent_slices() {
-    let (mut node_table, mut output_table) = (vec![3, 5, 12, 13, 8, 11, 77], vec![14]);
+    let (mut node_table, mut output_table, mut locks) = (vec![3, 5, 12, 13, 8, 11, 77], vec![14], vec![2]);
     let size = |outputs: u32| Size { inputs: 5, nodes: 2, outputs };
     let (mut moves, mut scratch) = ([77; 4], [77; 17]);
-    let mut told = |node_table: &[u32], output_table: &[u32], size, root, bytes: usize, words: usize| {
-        let saving = lent::preview(size, node_table, output_table, root, &mut moves[..bytes], &mut scratch[..words]);
+    let mut told = |tables: (&[u32], &[u32], &[u8]), size, root, bytes: usize, words: usize| {
+        let (nodes, outputs, locks) = tables;
+        let saving = lent::preview(size, nodes, outputs, locks, root, &mut moves[..bytes], &mut scratch[..words]);
         (saving, moves, scratch == [77; 17])
     };
     let kept = |refusal| (Err(refusal), [77; 4], true);
-    assert_eq!(told(&node_table, &output_table, size(4_097), 6, 1, 15), kept(Refusal::OverLimit));
-    assert_eq!(told(&node_table, &output_table, size(2), 6, 2, 15), kept(Refusal::ShortSlice));
+    assert_eq!(told((&node_table, &output_table, &locks), size(4_097), 6, 1, 15), kept(Refusal::OverLimit));
+    assert_eq!(told((&node_table, &output_table, &locks), size(2), 6, 2, 15), kept(Refusal::ShortSlice));
     output_table.push(88);
-    assert_eq!(told(&node_table, &output_table, size(1), 6, 1, 15), kept(Refusal::ShortSlice));
-    assert_eq!(told(&node_table, &output_table, size(1), 6, 2, 15), kept(Refusal::BadLiteral));
+    assert_eq!(told((&node_table, &output_table, &locks), size(1), 6, 2, 15), kept(Refusal::ShortSlice));
+    locks.extend([1, 99]);
+    assert_eq!(told((&node_table, &output_table, &locks), size(1), 6, 1, 15), kept(Refusal::ShortSlice));
+    assert_eq!(told((&node_table, &output_table, &locks), size(1), 6, 2, 15), kept(Refusal::BadLiteral));
     node_table[2] = 6;
-    assert_eq!(told(&node_table, &output_table, size(1), 5, 2, 15), kept(Refusal::NoSuchNode));
-    assert_eq!(told(&node_table, &output_table, size(1), 6, 2, 15), kept(Refusal::NoSuchNode));
-    assert_eq!(told(&node_table, &output_table, size(1), 7, 2, 15), kept(Refusal::ShortScratch));
-    assert_eq!(told(&node_table, &output_table, size(1), 7, 4, 16).1, [1, 0, 77, 77]);
-    assert_eq!(told(&node_table, &output_table, size(1), 7, 2, 17).0, Ok(saving(2, 0)));
+    assert_eq!(told((&node_table, &output_table, &locks), size(1), 6, 2, 15), kept(Refusal::BadLock));
+    locks[0] = 0;
+    assert_eq!(told((&node_table, &output_table, &locks), size(1), 5, 2, 15), kept(Refusal::NoSuchNode));
+    assert_eq!(told((&node_table, &output_table, &locks), size(1), 6, 2, 15), kept(Refusal::NoSuchNode));
+    assert_eq!(told((&node_table, &output_table, &locks), size(1), 7, 2, 15), kept(Refusal::ShortScratch));
+    assert_eq!(told((&node_table, &output_table, &locks), size(1), 7, 4, 16).1, [1, 0, 77, 77]);
+    assert_eq!(told((&node_table, &output_table, &locks), size(1), 7, 2, 17).0, Ok(saving(2, 0)));
 }
 
 #[test]
@@ -192,6 +241,19 @@ fn replaying_p3() {
     let told = vec![nothing, refused, Ok(saving(1, 1)), refused, nothing];
     assert_eq!(Graph::replay(&p3, &calls), Ok((graph(5, &[2, 4, 7, 12, 8, 11], &[14]), told)));
     assert_eq!(Graph::replay(&p3[..9], &calls), Err(Refusal::MissingBytes));
+}
+
+/// Each call gets the locks of the file, and the graph has them after the last.
+#[test]
+fn replaying_p2_with_locks() {
+    let p2 = graph(5, &[3, 5, 6, 13, 8, 11], &[14]);
+    let calls = [Call::Node(7), Call::Pair(7, 1), Call::Settle];
+    let (nothing, two) = (Ok(saving(0, 0)), Ok(saving(2, 0)));
+    let upper = locked(p2.clone(), &[7]).write().unwrap();
+    let after = locked(graph(5, &[2, 4, 7, 12, 8, 11], &[14]), &[7]);
+    assert_eq!(Graph::replay(&upper, &calls), Ok((after, vec![nothing, two, nothing])));
+    let lower = locked(p2, &[6]);
+    assert_eq!(Graph::replay(&lower.write().unwrap(), &calls), Ok((lower, vec![nothing; 3])));
 }
 
 #[test]
@@ -207,11 +269,12 @@ fn replaying_savings_below_0() {
 fn replays_refused() {
     let p1 = graph(3, &[3, 5, 7], &[9]).write().unwrap();
     let refused = |words: &[u32], room: usize, due: ReplayRefusal| {
-        let (mut node_table, mut output_table) = ([77; 3], [77; 1]);
+        let (mut node_table, mut output_table, mut locks) = ([77; 3], [77; 1], [77; 1]);
         let (mut scratch, mut answers) = ([77; 8], vec![77; room]);
-        let got = lent::replay(&p1, words, &mut node_table, &mut output_table, &mut scratch, &mut answers);
+        let got = lent::replay(&p1, words, &mut node_table, &mut output_table, &mut locks, &mut scratch, &mut answers);
         assert_eq!(got, Err(due));
-        assert_eq!((node_table, output_table, scratch, answers), ([77; 3], [77; 1], [77; 8], vec![77; room]));
+        assert_eq!((node_table, output_table, locks), ([77; 3], [77; 1], [77; 1]));
+        assert_eq!((scratch, answers), ([77; 8], vec![77; room]));
     };
     refused(&[0, 4], 9, ReplayRefusal::LeftOver);
     refused(&[4, 4, 0, 9], 0, ReplayRefusal::LeftOver);
@@ -256,22 +319,22 @@ fn texts_refused() {
 
 #[test]
 fn lent_texts() {
-    let (mut node_table, mut output_table) = ([77; 13], [77; 2]);
+    let (mut node_table, mut output_table, mut locks) = ([77; 13], [77; 2], [77; 5]);
     let size = Size { inputs: 3, nodes: 4, outputs: 1 };
-    for (node_words, output_words) in [(11, 1), (12, 0)] {
-        let got = lent::import(MAJORITY, &mut node_table[..node_words], &mut output_table[..output_words]);
-        assert_eq!(got, Err(Refusal::ShortSlice));
-        assert_eq!((node_table, output_table), ([77; 13], [77; 2]));
+    for (node_words, output_words, lock_bytes) in [(11, 1, 4), (12, 0, 4), (12, 1, 3)] {
+        let (nodes, outputs) = (&mut node_table[..node_words], &mut output_table[..output_words]);
+        assert_eq!(lent::import(MAJORITY, nodes, outputs, &mut locks[..lock_bytes]), Err(Refusal::ShortSlice));
+        assert_eq!((node_table, output_table, locks), ([77; 13], [77; 2], [77; 5]));
     }
-    assert_eq!(lent::import(MAJORITY, &mut node_table, &mut output_table), Ok(size));
+    assert_eq!(lent::import(MAJORITY, &mut node_table, &mut output_table, &mut locks), Ok(size));
     assert_eq!(node_table, [0, 5, 7, 0, 2, 9, 0, 4, 6, 0, 11, 13, 77]);
-    assert_eq!(output_table, [15, 77]);
+    assert_eq!((output_table, locks), ([15, 77], [0, 0, 0, 0, 77]));
     let one = Size { nodes: 1, ..size };
     for (words, room, due) in
         [(0, 52, Err(Refusal::ShortScratch)), (1, 51, Err(Refusal::ShortBuffer)), (1, 52, Ok(52)), (2, 54, Ok(52))]
     {
         let (mut scratch, mut buffer) = (vec![77; words], vec![77; room]);
-        assert_eq!(lent::export(one, &[2, 4, 6], &[8], &mut scratch, &mut buffer), due);
+        assert_eq!(lent::export(one, &[2, 4, 6], &[8], &[1], &mut scratch, &mut buffer), due);
         let filled = due.unwrap_or(0);
         assert_eq!(buffer[..filled], MAJORITY[..filled]);
         assert!(buffer[filled..].iter().all(|&byte| byte == 77));

@@ -1,6 +1,7 @@
 //! ASCII AIGER: texts of ANDs read line by line, and graphs written as ANDs.
 
-use crate::graph::{admit, check_limits, check_tables, index_of, turned, Graph, Number};
+use crate::file::fill;
+use crate::graph::{admit, check_limits, check_room, index_of, turned, Graph, Number, Room};
 
 /// What a word of a line says, if it is a decimal number below 2 to the 32nd without leading zeros.
 fn decimal(word: &[u8]) -> Option<u32> {
@@ -32,8 +33,8 @@ impl Lines<'_> {
     }
 }
 
-/// The graph that a text says, for tables of so many words, or the first fault.
-pub fn parse(text: &[u8], node_words: usize, output_words: usize) -> Result<Graph, Number> {
+/// The graph that a text says, every node free, where so much is lent for it; or the first fault.
+pub fn parse(text: &[u8], room: Room) -> Result<Graph, Number> {
     let rest = text.strip_prefix(b"aag ").ok_or(10u32)?;
     let mut lines = Lines { rest };
     let [last, inputs, latches, outputs, ands] = lines.numbers()?;
@@ -44,7 +45,7 @@ pub fn parse(text: &[u8], node_words: usize, output_words: usize) -> Result<Grap
         return Err(12);
     }
     check_limits(inputs, ands, outputs)?;
-    check_tables(ands, outputs, node_words, output_words)?;
+    check_room(ands, outputs, room)?;
     for input in 1..=inputs {
         if lines.numbers()? != [2 * input] {
             return Err(12);
@@ -75,19 +76,24 @@ pub fn parse(text: &[u8], node_words: usize, output_words: usize) -> Result<Grap
         outputs,
         node_table,
         output_table,
+        locks: vec![0; ands as usize],
     })
 }
 
-/// I, N and O, with the tables filled; refused, the tables are left alone.
+/// I, N and O, with tables and locks filled; refused, they are left alone.
 pub fn import(
     text: &[u8],
     node_table: &mut [u32],
     output_table: &mut [u32],
+    locks: &mut [u8],
 ) -> Result<(u32, u32, u32), Number> {
-    let g = parse(text, node_table.len(), output_table.len())?;
-    node_table[..g.node_table.len()].copy_from_slice(&g.node_table);
-    output_table[..g.output_table.len()].copy_from_slice(&g.output_table);
-    Ok((g.inputs, g.nodes, g.outputs))
+    let room = Room {
+        node_words: node_table.len(),
+        output_words: output_table.len(),
+        lock_bytes: locks.len(),
+    };
+    let g = parse(text, room)?;
+    Ok(fill(&g, node_table, output_table, locks))
 }
 
 /// ANDs in the making, by rising number.

@@ -1,7 +1,7 @@
 use crate::aiger::{export, import, parse, text_of};
 use crate::evaluation::output_values;
-use crate::generate::{small, with_tails};
-use crate::graph::{Graph, MARK};
+use crate::generate::{small, with_locks, with_tails};
+use crate::graph::{Graph, Room, MARK};
 use crate::random::Random;
 use crate::vectors::samples::of;
 
@@ -9,7 +9,7 @@ const MAJORITY: &str = "aag 7 3 0 1 4\n2\n4\n6\n15\n8 5 7\n10 2 9\n12 4 6\n14 11
 const XOR: &str = "aag 5 2 0 1 3\n2\n4\n11\n6 2 5\n8 3 4\n10 7 9\n";
 
 fn number(text: &str) -> u32 {
-    parse(text.as_bytes(), 9, 3).map_or_else(|number| number, |_| 0)
+    parse(text.as_bytes(), Room::of(3, 3)).map_or_else(|number| number, |_| 0)
 }
 
 #[test]
@@ -18,9 +18,15 @@ fn worked_texts() {
     assert_eq!(MAJORITY.len(), 52);
     assert_eq!(text_of(&of(2, &[[2, 4, MARK]], &[6])), XOR);
     let ands = [[0, 5, 7], [0, 2, 9], [0, 4, 6], [0, 11, 13]];
-    assert_eq!(parse(MAJORITY.as_bytes(), 12, 1), Ok(of(3, &ands, &[15])));
+    assert_eq!(
+        parse(MAJORITY.as_bytes(), Room::of(4, 1)),
+        Ok(of(3, &ands, &[15]))
+    );
     let ands = [[0, 2, 5], [0, 3, 4], [0, 7, 9]];
-    assert_eq!(parse(XOR.as_bytes(), 9, 1), Ok(of(2, &ands, &[11])));
+    assert_eq!(
+        parse(XOR.as_bytes(), Room::of(3, 1)),
+        Ok(of(2, &ands, &[11]))
+    );
     assert_eq!(text_of(&of(0, &[], &[])), "aag 0 0 0 0 0\n");
     assert_eq!(text_of(&of(1, &[], &[3, 0])), "aag 1 1 0 2 0\n2\n3\n0\n");
     // A node that reads a node: its value is the last AND complemented, so that an odd word is even there.
@@ -94,7 +100,7 @@ fn headers() {
 fn lines() {
     let good = "aag 3 2 0 2 1\n2\n4\n6\n7\n6 5 2\n";
     assert_eq!(
-        parse(good.as_bytes(), 3, 2),
+        parse(good.as_bytes(), Room::of(1, 2)),
         Ok(of(2, &[[0, 5, 2]], &[6, 7]))
     );
     for cut in 0..good.len() {
@@ -131,17 +137,23 @@ fn lines() {
 
 #[test]
 fn refused_texts_leave_the_tables() {
-    let mut tables = ([77; 3], [77; 1]);
+    let (mut words, mut outputs, mut locks) = ([77; 4], [77; 2], [77; 2]);
+    let mut imported = |text: &str, lock_bytes: usize| {
+        let answer = import(
+            text.as_bytes(),
+            &mut words,
+            &mut outputs,
+            &mut locks[..lock_bytes],
+        );
+        (answer, words, outputs, locks)
+    };
     let bad = "aag 3 2 0 1 1\n2\n4\n6\n6 5 6\n";
-    assert_eq!(import(bad.as_bytes(), &mut tables.0, &mut tables.1), Err(5));
-    assert_eq!(tables, ([77; 3], [77; 1]));
-    let mut tables = ([77; 4], [77; 2]);
     let good = "aag 3 2 0 1 1\n2\n4\n6\n6 5 4\n";
-    assert_eq!(
-        import(good.as_bytes(), &mut tables.0, &mut tables.1),
-        Ok((2, 1, 1))
-    );
-    assert_eq!(tables, ([0, 5, 4, 77], [6, 77]));
+    assert_eq!(imported(bad, 2), (Err(5), [77; 4], [77; 2], [77; 2]));
+    assert_eq!(imported(good, 0), (Err(4), [77; 4], [77; 2], [77; 2]));
+    // The node is free, whatever its byte was.
+    let filled = (Ok((2, 1, 1)), [0, 5, 4, 77], [6, 77], [0, 77]);
+    assert_eq!(imported(good, 2), filled);
 }
 
 #[test]
@@ -154,7 +166,22 @@ fn exports_refused() {
     };
     refused(&g, 1, 51, 9);
     refused(&g, 0, 51, 8);
+    let bad_lock = |g: Graph| Graph {
+        locks: vec![2],
+        ..g
+    };
+    refused(&bad_lock(g.clone()), 0, 0, 13);
+    refused(&bad_lock(of(3, &[[2, 4, 8]], &[8])), 0, 0, 5);
     refused(&of(3, &[[2, 4, 8]], &[8]), 0, 0, 5);
+    refused(
+        &Graph {
+            locks: vec![],
+            ..g.clone()
+        },
+        0,
+        0,
+        4,
+    );
     refused(
         &Graph {
             outputs: 2,
@@ -178,6 +205,8 @@ fn exports_refused() {
     assert_eq!(export(&g, 1, &mut buffer), Ok(52));
     assert_eq!(buffer[..52], *MAJORITY.as_bytes());
     assert_eq!(buffer[52..], [3, 3]);
+    // A text says nothing of locks.
+    assert_eq!(text_of(&g.locked_at(&[4])), MAJORITY);
 }
 
 /// An export imports again, and every output has its value under every assignment.
@@ -186,8 +215,10 @@ fn exports_come_back() {
     let mut random = Random::new(8);
     for _ in 0..2_000 {
         let g = small(&mut random, 5, 9, 5);
+        let g = with_locks(&mut random, g);
         let g = with_tails(&mut random, g, 3);
-        let again = parse(text_of(&g).as_bytes(), 108, 5).unwrap();
+        let again = parse(text_of(&g).as_bytes(), Room::of(36, 5)).unwrap();
+        assert!(again.locks.iter().all(|&byte| byte == 0));
         assert_eq!((again.inputs, again.outputs), (g.inputs, g.outputs));
         let gates = g.node_indices().map(|node| 1 + g.words_of(node) as u32);
         assert_eq!(again.nodes, gates.sum());
@@ -210,20 +241,33 @@ fn limits() {
     let outputs = "8193\n".repeat(4_096);
     let wide = format!("aag 4096 4096 0 4096 0\n{inputs}{outputs}");
     assert_eq!(
-        parse(wide.as_bytes(), 0, 4_096),
+        parse(wide.as_bytes(), Room::of(0, 4_096)),
         Ok(of(4_096, &[], &[8_193; 4_096]))
     );
-    assert_eq!(parse(wide.as_bytes(), 0, 4_095), Err(4));
+    assert_eq!(parse(wide.as_bytes(), Room::of(0, 4_095)), Err(4));
     let gates: String = (1..=100_000)
         .map(|gate| format!("{} {} 1\n", 2 * gate, 2 * gate - 1))
         .collect();
     let tall = format!("aag 100000 0 0 0 100000\n{gates}");
-    let g = parse(tall.as_bytes(), 300_000, 0).unwrap();
+    let room = Room::of(100_000, 0);
+    let g = parse(tall.as_bytes(), room).unwrap();
     assert_eq!(g.node_table[299_997..], [0, 199_999, 1]);
-    assert_eq!(parse(tall.as_bytes(), 299_999, 0), Err(4));
+    for short in [
+        Room {
+            node_words: 299_999,
+            ..room
+        },
+        Room {
+            lock_bytes: 99_999,
+            ..room
+        },
+    ] {
+        assert_eq!(parse(tall.as_bytes(), short), Err(4));
+    }
     let over = format!("aag 100001 0 0 0 100001\n{gates}200002 1 1\n");
-    assert_eq!(parse(over.as_bytes(), 300_003, 0), Err(3));
+    assert_eq!(parse(over.as_bytes(), Room::of(100_001, 0)), Err(3));
     // Every majority takes four ANDs: too many to import.
     let full = of(0, &vec![[0, 1, 0]; 25_001], &[]);
-    assert_eq!(parse(text_of(&full).as_bytes(), 300_003, 0), Err(3));
+    let text = text_of(&full);
+    assert_eq!(parse(text.as_bytes(), Room::of(100_004, 0)), Err(3));
 }

@@ -1,6 +1,8 @@
 //! Values under one assignment, and evaluation as 64 assignments one after the other.
 
-use crate::graph::{check_limits, check_literals, check_tables, index_of, is_odd, Graph, Number};
+use crate::graph::{
+    check_limits, check_literals, check_locks, check_room, index_of, is_odd, Graph, Number,
+};
 
 /// The value of a literal by plain recursion. For small graphs only: shared nodes are met again and again.
 pub fn value_of_literal(g: &Graph, assignment: &[bool], literal: u32) -> bool {
@@ -57,11 +59,12 @@ pub fn evaluate(
     results: &mut [u64],
 ) -> Result<(), Number> {
     check_limits(g.inputs, g.nodes, g.outputs)?;
-    check_tables(g.nodes, g.outputs, g.node_table.len(), g.output_table.len())?;
+    check_room(g.nodes, g.outputs, g.room())?;
     if input_words.len() < g.inputs as usize || results.len() < g.outputs as usize {
         return Err(4);
     }
     check_literals(g)?;
+    check_locks(g)?;
     if scratch < g.nodes as usize {
         return Err(8);
     }

@@ -2,7 +2,7 @@
 //! wiring, and a move's effect on C is counted where it turns something. No checks: an admitted graph.
 
 use crate::graph::{adds, index_of, turned, Graph, Place};
-use crate::moves::{rows, Saving};
+use crate::moves::{moves_at, rows, Saving};
 use crate::settling::Settled;
 
 pub struct Fast {
@@ -91,7 +91,7 @@ impl Fast {
         let places = [self.own(node), self.readers[node as usize].clone()];
         let before = self.count_both(&places);
         let mut least = (before.iter().sum(), 0);
-        for number in 1..rows(&self.g, node).len() {
+        for number in 1..moves_at(&self.g, node).len() {
             self.make(node, number);
             let c: u32 = self.count_both(&places).iter().sum();
             self.make(node, number);
@@ -124,8 +124,8 @@ impl Fast {
         let places = self.places_of_pair(named, node);
         let before = self.count_both(&places);
         let mut least = (before.iter().sum(), 0, 0);
-        for first in 0..rows(&self.g, named).len() {
-            for second in 0..rows(&self.g, node).len() {
+        for first in 0..moves_at(&self.g, named).len() {
+            for second in 0..moves_at(&self.g, node).len() {
                 self.make(named, first);
                 self.make(node, second);
                 let c: u32 = self.count_both(&places).iter().sum();
@@ -153,7 +153,7 @@ impl Fast {
     }
 
     fn move_cost(&self, node: u32, number: usize) -> u32 {
-        let row = &rows(&self.g, node)[number];
+        let row = &moves_at(&self.g, node)[number];
         (0..self.g.words_of(node))
             .map(|word| self.below(self.g.word(node, word) ^ row.words[word] as u32))
             .sum()
@@ -161,9 +161,10 @@ impl Fast {
 
     fn fill_costs(&mut self, node: u32) {
         let mut costs = [None; 2];
-        for number in 0..rows(&self.g, node).len() {
+        for number in 0..moves_at(&self.g, node).len() {
             let cost = self.move_cost(node, number);
-            let kept: &mut Option<u32> = &mut costs[rows(&self.g, node)[number].readers as usize];
+            let kept: &mut Option<u32> =
+                &mut costs[moves_at(&self.g, node)[number].readers as usize];
             *kept = Some(kept.map_or(cost, |less| less.min(cost)));
         }
         self.costs[node as usize] = costs;
@@ -175,14 +176,14 @@ impl Fast {
         let odd = self.count(places);
         let other = places.len() as u32 - odd;
         let cost = |number: usize| {
-            let read = if rows(&self.g, node)[number].readers {
+            let read = if moves_at(&self.g, node)[number].readers {
                 other
             } else {
                 odd
             };
             read + self.move_cost(node, number)
         };
-        (0..rows(&self.g, node).len())
+        (0..moves_at(&self.g, node).len())
             .min_by_key(|&number| (cost(number), number))
             .expect("move 0")
     }

@@ -1,6 +1,6 @@
 //! The tagged file.
 
-use crate::graph::{admit, check_limits, check_tables, Graph, Number, MARK};
+use crate::graph::{admit, check_limits, check_room, Graph, Number, Room, MARK};
 
 /// The payload's length that a tag has.
 fn length_of(tag: u8) -> Option<usize> {
@@ -10,6 +10,7 @@ fn length_of(tag: u8) -> Option<usize> {
         3 => Some(8),
         4 => Some(4),
         5 => Some(0),
+        6 => Some(4),
         _ => None,
     }
 }
@@ -51,14 +52,14 @@ fn numbers(payload: &[u8]) -> Vec<u32> {
         .collect()
 }
 
-/// The words that a file holds, from front to back, with the first fault.
-fn parse(file: &[u8], node_words: usize, output_words: usize) -> Result<Graph, Number> {
+/// The graph that a file holds, from front to back, with the first fault.
+fn parse(file: &[u8], room: Room) -> Result<Graph, Number> {
     let (_, payload) = read_field(file, &|tag| tag == 1)?;
     let mut at = 15;
     let head = numbers(payload);
     let (inputs, nodes, outputs) = (head[0], head[1], head[2]);
     check_limits(inputs, nodes, outputs)?;
-    check_tables(nodes, outputs, node_words, output_words)?;
+    check_room(nodes, outputs, room)?;
     let mut node_table = Vec::new();
     for node in inputs + 1..=inputs + nodes {
         let (tag, payload) = read_field(&file[at..], &|tag| tag == 2 || tag == 3)?;
@@ -82,8 +83,21 @@ fn parse(file: &[u8], node_words: usize, output_words: usize) -> Result<Graph, N
         }
         output_table.push(literal);
     }
-    read_field(&file[at..], &|tag| tag == 5)?;
-    at += 3;
+    let mut locks = vec![0; nodes as usize];
+    let mut last = inputs;
+    loop {
+        let (tag, payload) = read_field(&file[at..], &|tag| tag == 5 || tag == 6)?;
+        at += 3 + payload.len();
+        if tag == 5 {
+            break;
+        }
+        let index = numbers(payload)[0];
+        if index <= last || index > inputs + nodes {
+            return Err(13);
+        }
+        locks[(index - inputs - 1) as usize] = 1;
+        last = index;
+    }
     if at != file.len() {
         return Err(6);
     }
@@ -93,19 +107,37 @@ fn parse(file: &[u8], node_words: usize, output_words: usize) -> Result<Graph, N
         outputs,
         node_table,
         output_table,
+        locks,
     })
 }
 
-/// I, N and O, with the tables filled; refused, the tables are left alone.
+/// I, N and O, with the front of the tables and of the locks filled from a graph of just its size.
+pub(crate) fn fill(
+    g: &Graph,
+    node_table: &mut [u32],
+    output_table: &mut [u32],
+    locks: &mut [u8],
+) -> (u32, u32, u32) {
+    node_table[..g.node_table.len()].copy_from_slice(&g.node_table);
+    output_table[..g.output_table.len()].copy_from_slice(&g.output_table);
+    locks[..g.locks.len()].copy_from_slice(&g.locks);
+    (g.inputs, g.nodes, g.outputs)
+}
+
+/// I, N and O, with tables and locks filled; refused, they are left alone.
 pub fn load(
     file: &[u8],
     node_table: &mut [u32],
     output_table: &mut [u32],
+    locks: &mut [u8],
 ) -> Result<(u32, u32, u32), Number> {
-    let g = parse(file, node_table.len(), output_table.len())?;
-    node_table[..g.node_table.len()].copy_from_slice(&g.node_table);
-    output_table[..g.output_table.len()].copy_from_slice(&g.output_table);
-    Ok((g.inputs, g.nodes, g.outputs))
+    let room = Room {
+        node_words: node_table.len(),
+        output_words: output_table.len(),
+        lock_bytes: locks.len(),
+    };
+    let g = parse(file, room)?;
+    Ok(fill(&g, node_table, output_table, locks))
 }
 
 fn put_field(file: &mut Vec<u8>, tag: u8, words: &[u32]) {
@@ -130,6 +162,9 @@ pub fn file_of(g: &Graph) -> Vec<u8> {
     }
     for output in 0..g.outputs as usize {
         put_field(&mut file, 4, &[g.output_table[output]]);
+    }
+    for node in g.node_indices().filter(|&node| g.is_locked(node)) {
+        put_field(&mut file, 6, &[node]);
     }
     put_field(&mut file, 5, &[]);
     file

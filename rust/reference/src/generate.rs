@@ -117,7 +117,7 @@ fn node_words(
     words
 }
 
-/// An admitted graph, its tables of just the right length.
+/// An admitted graph with every node free, its tables and locks of just the right length.
 pub fn graph(random: &mut Random, shape: Shape, inputs: u32, nodes: u32, outputs: u32) -> Graph {
     let mut node_table = Vec::new();
     let mut unread: Vec<u32> = Vec::new();
@@ -142,6 +142,7 @@ pub fn graph(random: &mut Random, shape: Shape, inputs: u32, nodes: u32, outputs
         outputs,
         node_table,
         output_table,
+        locks: vec![0; nodes as usize],
     }
 }
 
@@ -154,7 +155,25 @@ pub fn small(random: &mut Random, most_inputs: u32, most_nodes: u32, most_output
     graph(random, shape, inputs, nodes, outputs)
 }
 
-/// Words behind the graph in both tables, the mark among them.
+/// Each node locked with a chance of one in so many.
+pub fn locked_one_in(random: &mut Random, mut g: Graph, many: u32) -> Graph {
+    for byte in &mut g.locks[..g.nodes as usize] {
+        *byte = random.one_in(many) as u8;
+    }
+    g
+}
+
+/// No node locked, or all, or some.
+pub fn with_locks(random: &mut Random, g: Graph) -> Graph {
+    match random.below(8) {
+        0 | 1 => g,
+        2 => locked_one_in(random, g, 1),
+        3 | 4 => locked_one_in(random, g, 2),
+        _ => locked_one_in(random, g, 5),
+    }
+}
+
+/// Words behind the graph in both tables, the mark among them, and bytes behind its locks, of which many are no lock.
 pub fn with_tails(random: &mut Random, mut g: Graph, most: u32) -> Graph {
     for table in [&mut g.node_table, &mut g.output_table] {
         for _ in 0..random.between(0, most) {
@@ -165,6 +184,9 @@ pub fn with_tails(random: &mut Random, mut g: Graph, most: u32) -> Graph {
             };
             table.push(word);
         }
+    }
+    for _ in 0..random.between(0, most) {
+        g.locks.push([0, 1, 2, 200, 255][random.below(5) as usize]);
     }
     g
 }

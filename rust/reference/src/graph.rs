@@ -1,4 +1,4 @@
-//! The graph in its two tables, admission, and C.
+//! The graph in its two tables with its locks, admission, and C.
 
 pub const MARK: u32 = 4_294_967_295;
 pub const MOST_INPUTS: u32 = 4_096;
@@ -8,7 +8,7 @@ pub const MOST_OUTPUTS: u32 = 4_096;
 /// A refusal is its number in the paper's table.
 pub type Number = u32;
 
-/// I, N and O with both lent tables, which may be longer (or, refused, shorter) than the graph.
+/// I, N and O with both lent tables and the lent locks, which may be longer (or, refused, shorter) than the graph.
 #[derive(Clone, Debug, PartialEq, Eq)]
 pub struct Graph {
     pub inputs: u32,
@@ -16,6 +16,27 @@ pub struct Graph {
     pub outputs: u32,
     pub node_table: Vec<u32>,
     pub output_table: Vec<u32>,
+    /// A byte a node in index order: 1 for locked, 0 for free.
+    pub locks: Vec<u8>,
+}
+
+/// How much is lent for a graph: words of both tables, and bytes of the locks.
+#[derive(Clone, Copy, Debug, PartialEq, Eq)]
+pub struct Room {
+    pub node_words: usize,
+    pub output_words: usize,
+    pub lock_bytes: usize,
+}
+
+impl Room {
+    /// Just enough for so many nodes and outputs.
+    pub fn of(nodes: usize, outputs: usize) -> Room {
+        Room {
+            node_words: 3 * nodes,
+            output_words: outputs,
+            lock_bytes: nodes,
+        }
+    }
 }
 
 /// A place that holds a word: word 0 to 2 of a node, or an output.
@@ -54,6 +75,27 @@ impl Graph {
 
     fn base(&self, node: u32) -> usize {
         3 * (node - self.inputs - 1) as usize
+    }
+
+    pub fn is_locked(&self, node: u32) -> bool {
+        self.locks[(node - self.inputs - 1) as usize] == 1
+    }
+
+    /// The same graph with these nodes locked too.
+    pub fn locked_at(mut self, nodes: &[u32]) -> Graph {
+        for node in nodes {
+            self.locks[(node - self.inputs - 1) as usize] = 1;
+        }
+        self
+    }
+
+    /// What is lent for it.
+    pub fn room(&self) -> Room {
+        Room {
+            node_words: self.node_table.len(),
+            output_words: self.output_table.len(),
+            lock_bytes: self.locks.len(),
+        }
     }
 
     pub fn word(&self, node: u32, word: usize) -> u32 {
@@ -139,13 +181,11 @@ pub fn check_limits(inputs: u32, nodes: u32, outputs: u32) -> Result<(), Number>
     }
 }
 
-pub fn check_tables(
-    nodes: u32,
-    outputs: u32,
-    node_words: usize,
-    output_words: usize,
-) -> Result<(), Number> {
-    if (node_words as u64) < 3 * nodes as u64 || (output_words as u64) < outputs as u64 {
+pub fn check_room(nodes: u32, outputs: u32, room: Room) -> Result<(), Number> {
+    let short = (room.node_words as u64) < 3 * nodes as u64
+        || (room.output_words as u64) < outputs as u64
+        || (room.lock_bytes as u64) < nodes as u64;
+    if short {
         Err(4)
     } else {
         Ok(())
@@ -170,11 +210,19 @@ pub fn check_literals(g: &Graph) -> Result<(), Number> {
     Ok(())
 }
 
-/// 3, 4, 5 in that order.
+pub fn check_locks(g: &Graph) -> Result<(), Number> {
+    match g.locks[..g.nodes as usize].iter().all(|&byte| byte <= 1) {
+        true => Ok(()),
+        false => Err(13),
+    }
+}
+
+/// 3, 4, 5, 13 in that order.
 pub fn admit(g: &Graph) -> Result<(), Number> {
     check_limits(g.inputs, g.nodes, g.outputs)?;
-    check_tables(g.nodes, g.outputs, g.node_table.len(), g.output_table.len())?;
-    check_literals(g)
+    check_room(g.nodes, g.outputs, g.room())?;
+    check_literals(g)?;
+    check_locks(g)
 }
 
 pub fn complemented_edges(g: &Graph) -> Result<u32, Number> {

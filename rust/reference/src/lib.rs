@@ -22,6 +22,10 @@ pub mod vectors;
 #[cfg(test)]
 mod aiger_tests;
 #[cfg(test)]
+mod lock_file_tests;
+#[cfg(test)]
+mod lock_tests;
+#[cfg(test)]
 mod preview_tests;
 #[cfg(test)]
 mod saving_tests;

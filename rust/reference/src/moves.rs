@@ -77,7 +77,16 @@ pub fn rows(g: &Graph, node: u32) -> &'static [Row] {
     }
 }
 
-/// One move made. Moves made one after the other turn an edge as often as they say together.
+/// The rows of the moves that the node has: its kind's, or where it is locked move 0 alone.
+pub fn moves_at(g: &Graph, node: u32) -> &'static [Row] {
+    if g.is_locked(node) {
+        &rows(g, node)[..1]
+    } else {
+        rows(g, node)
+    }
+}
+
+/// One move of the node's kind made, locked or not. Moves made one after the other turn an edge as often as they say together.
 pub fn make(g: &mut Graph, node: u32, number: usize) {
     let row = &rows(g, node)[number];
     for word in 0..3 {
@@ -92,13 +101,13 @@ pub fn make(g: &mut Graph, node: u32, number: usize) {
     }
 }
 
-/// Every list of moves for these nodes, the list that is less at its first difference first.
+/// Every list of moves that these nodes have, the list that is less at its first difference first.
 pub fn all_lists(g: &Graph, nodes: &[u32]) -> Vec<Vec<usize>> {
     let mut all = vec![vec![]];
     for &node in nodes {
         let mut longer = Vec::new();
         for list in &all {
-            for number in 0..rows(g, node).len() {
+            for number in 0..moves_at(g, node).len() {
                 let mut next: Vec<usize> = list.clone();
                 next.push(number);
                 longer.push(next);
@@ -133,7 +142,7 @@ pub fn best(g: &Graph, nodes: &[u32]) -> Vec<usize> {
 /// How many lists of moves there are, or none if that is beyond counting.
 pub fn how_many(g: &Graph, nodes: &[u32]) -> Option<u64> {
     nodes.iter().try_fold(1u64, |product, &node| {
-        product.checked_mul(rows(g, node).len() as u64)
+        product.checked_mul(moves_at(g, node).len() as u64)
     })
 }
 
@@ -165,7 +174,8 @@ pub fn pair_call(g: &mut Graph, node: u32, word: u32) -> Result<Saving, Number> 
     Ok(make_best(g, &[named, node], &list))
 }
 
-/// What two moves on a pair would save: both made on a copy, and C counted again. A move that the kind lacks is none.
+/// What two moves on a pair would save: both made on a copy, and C counted again. A move that the node lacks, for its kind or since it
+/// is locked, is none.
 pub fn trial(
     g: &Graph,
     node: u32,
@@ -183,7 +193,7 @@ pub fn trial(
     }
     let mut next = g.clone();
     for (at, number) in [(named, named_move as usize), (node, node_move as usize)] {
-        if number < rows(g, at).len() {
+        if number < moves_at(g, at).len() {
             make(&mut next, at, number);
         }
     }
@@ -217,7 +227,7 @@ pub fn tree(g: &Graph, root: u32) -> Vec<u32> {
         .collect()
 }
 
-/// 3, 4, 5, 7, 8 in that order.
+/// 3, 4, 5, 13, 7, 8 in that order.
 pub fn check_tree_call(g: &Graph, root: u32, scratch: usize) -> Result<(), Number> {
     admit(g)?;
     if !g.is_node(root) || !is_root(g, root) {

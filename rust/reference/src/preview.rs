@@ -1,14 +1,14 @@
 //! What a tree call would do, told without doing it.
 
-use crate::graph::{check_limits, check_tables, Graph, Number};
+use crate::graph::{check_limits, check_room, Graph, Number};
 use crate::moves::{after, check_tree_call, saving, tree, Saving};
 use crate::settling::MOST_TRIED;
 use crate::trees::best_within;
 
-/// 4 for the bytes comes with 4 for the tables, before any literal is looked at.
+/// 4 for the bytes comes with 4 for the tables and the locks, before any literal is looked at.
 fn check_preview(g: &Graph, root: u32, scratch: usize, bytes: usize) -> Result<(), Number> {
     check_limits(g.inputs, g.nodes, g.outputs)?;
-    check_tables(g.nodes, g.outputs, g.node_table.len(), g.output_table.len())?;
+    check_room(g.nodes, g.outputs, g.room())?;
     if (bytes as u64) < g.nodes as u64 {
         return Err(4);
     }

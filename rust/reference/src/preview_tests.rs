@@ -1,5 +1,5 @@
 use crate::fast::Fast;
-use crate::generate::{graph, small, with_tails, Shape};
+use crate::generate::{graph, small, with_locks, with_tails, Shape};
 use crate::graph::{Graph, MARK};
 use crate::moves::{best, how_many, is_root, make, tree, tree_call, tree_call_by, Saving};
 use crate::preview::{preview, preview_by};
@@ -95,8 +95,13 @@ fn refusals_in_order() {
     refused(&g, 5, 15, 2, 4);
     g.outputs = 1;
     refused(&g, 5, 15, 1, 4);
+    g.locks = vec![2];
+    refused(&g, 5, 15, 2, 4);
+    g.locks = vec![2, 0];
     refused(&g, 5, 15, 2, 5);
     g.node_table[2] = 6;
+    refused(&g, 5, 15, 2, 13);
+    g.locks = vec![0, 0, 2];
     for not in [0, 5, 6, 8, MARK] {
         refused(&g, not, 15, 2, 7);
     }
@@ -125,6 +130,7 @@ fn previews_are_what_tree_calls_do() {
     let (mut previews, mut met) = (0, [0; 4]);
     for _ in 0..4_000 {
         let g = small(&mut random, 4, 8, 4);
+        let g = with_locks(&mut random, g);
         let g = with_tails(&mut random, g, 3);
         for root in g.node_indices().filter(|&node| is_root(&g, node)) {
             let nodes = tree(&g, root);
@@ -139,7 +145,8 @@ fn previews_are_what_tree_calls_do() {
             lead_to(&g, &moves, &after);
             assert_eq!(told(&g, root), (saving.unwrap(), moves.clone()));
             for (node, &number) in g.node_indices().zip(&moves) {
-                assert!(number == 0 || nodes.contains(&node), "{g:?}");
+                let may = nodes.contains(&node) && !g.is_locked(node);
+                assert!(number == 0 || may, "{g:?}");
                 met[number as usize] += 1;
             }
             previews += 1;
@@ -154,6 +161,7 @@ fn fast_previews() {
     let mut random = Random::new(10);
     for _ in 0..1_000 {
         let g = small(&mut random, 4, 9, 4);
+        let g = with_locks(&mut random, g);
         let mut fast = Fast::new(g.clone());
         for root in g.node_indices() {
             assert_eq!(fast.is_root(root), is_root(&g, root));
@@ -172,6 +180,7 @@ fn large_trees() {
     for _ in 0..6 {
         // An output reads the last node.
         let g = graph(&mut random, Shape::Tree, 20, 200, 1);
+        let g = with_locks(&mut random, g);
         let (saving, moves) = told(&g, 220);
         let mut after = g.clone();
         let called = tree_call_by(&mut after, 220, 1_600, &best_of_tree);

@@ -14,7 +14,8 @@ pub fn report(input: &[u8]) -> String {
     let file = &input[..input.len().min(MOST_BYTES)];
     let mut node_table = vec![0; 3 * MOST_NODES];
     let mut output_table = vec![0; MOST_OUTPUTS];
-    match load(file, &mut node_table, &mut output_table) {
+    let mut locks = vec![0; MOST_NODES];
+    match load(file, &mut node_table, &mut output_table, &mut locks) {
         Err(number) => format!("refused {number}\n"),
         Ok((inputs, nodes, outputs)) => settled_report(Graph {
             inputs,
@@ -22,6 +23,7 @@ pub fn report(input: &[u8]) -> String {
             outputs,
             node_table,
             output_table,
+            locks,
         }),
     }
 }

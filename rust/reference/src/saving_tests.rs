@@ -1,5 +1,5 @@
 use crate::calls::{step, Answer, Call};
-use crate::generate::small;
+use crate::generate::{small, with_locks};
 use crate::graph::{adds, index_of, Graph, Place, MARK};
 use crate::moves::{best, is_root, node_call, pair_call, tree, tree_call, Saving};
 use crate::preview::preview;
@@ -130,6 +130,7 @@ fn others_are_the_odd_readers_outside() {
     };
     for _ in 0..3_000 {
         let g = small(&mut random, 4, 7, 5);
+        let g = with_locks(&mut random, g);
         for node in g.node_indices() {
             met(outside_fall(&g, &[node], |g| node_call(g, node).unwrap()));
             for word in 1..=g.words_of(node) as u32 {

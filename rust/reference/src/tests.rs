@@ -2,7 +2,7 @@ use crate::calls::{run, step, Answer, Call};
 use crate::evaluation::{evaluate, output_values, value_of_literal, values};
 use crate::fast::Fast;
 use crate::file::{field, field_number, file_of, load, write};
-use crate::generate::{graph, small, with_tails, Shape, SHAPES};
+use crate::generate::{graph, small, with_locks, with_tails, Shape, SHAPES};
 use crate::graph::{admit, complemented_edges, Graph, MARK};
 use crate::moves::{
     all_lists, best, how_many, is_root, node_call, pair_call, tree, tree_call, tree_call_by,
@@ -10,16 +10,7 @@ use crate::moves::{
 use crate::random::Random;
 use crate::settling::{settle, Settled};
 use crate::trees::best_of_tree;
-
-fn of(inputs: u32, nodes: &[[u32; 3]], outputs: &[u32]) -> Graph {
-    Graph {
-        inputs,
-        nodes: nodes.len() as u32,
-        outputs: outputs.len() as u32,
-        node_table: nodes.concat(),
-        output_table: outputs.to_vec(),
-    }
-}
+use crate::vectors::samples::of;
 
 fn goes(mut before: Graph, call: Call, after: Graph, from: u32, to: u32) {
     assert_eq!(before.c(), from);
@@ -127,30 +118,43 @@ fn edges_of_the_limits() {
     assert_eq!(admit(&of(3, &[[7, 7, 7]], &[10])), Err(5));
     let file = file_of(&of(3, &[[3, 5, 7]], &[9]));
     assert_eq!(file.len(), 40);
-    let mut tables = ([0; 3], [0; 1]);
-    assert_eq!(load(&file, &mut tables.0, &mut tables.1), Ok((3, 1, 1)));
-    assert_eq!(tables, ([3, 5, 7], [9]));
-    assert_eq!(load(&file[..39], &mut tables.0, &mut tables.1), Err(1));
-    assert_eq!(load(&[], &mut tables.0, &mut tables.1), Err(1));
+    let (mut words, mut outputs, mut locks) = ([0; 3], [0; 1], [7; 2]);
+    let mut loaded = |file: &[u8]| {
+        let answer = load(file, &mut words, &mut outputs, &mut locks);
+        (answer, words, outputs, locks)
+    };
+    assert_eq!(loaded(&file), (Ok((3, 1, 1)), [3, 5, 7], [9], [0, 7]));
+    assert_eq!(loaded(&file[..39]).0, Err(1));
+    assert_eq!(loaded(&[]).0, Err(1));
     let mut longer = file.clone();
     longer.push(5);
-    assert_eq!(load(&longer, &mut tables.0, &mut tables.1), Err(6));
-    assert_eq!(load(&file, &mut tables.0[..2], &mut tables.1), Err(4));
-    let full = of(0, &vec![[0, 1, MARK]; 100_000], &[]);
-    let mut table = vec![7; 300_001];
+    assert_eq!(loaded(&longer).0, Err(6));
     assert_eq!(
-        load(&file_of(&full), &mut table, &mut []),
-        Ok((0, 100_000, 0))
+        load(&file, &mut words[..2], &mut outputs, &mut locks),
+        Err(4)
     );
-    assert_eq!(table[300_000], 7);
+    let full = of(0, &vec![[0, 1, MARK]; 100_000], &[]);
+    let (mut table, mut locks) = (vec![7; 300_001], vec![7; 100_001]);
+    let answer = load(&file_of(&full), &mut table, &mut [], &mut locks);
+    assert_eq!(answer, Ok((0, 100_000, 0)));
+    assert_eq!((table[300_000], locks[100_000]), (7, 7));
     assert_eq!(table[..300_000], full.node_table[..]);
+    assert_eq!(locks[..100_000], full.locks[..]);
     assert_eq!(
-        load(&file_of(&full), &mut table[..299_999], &mut []),
+        load(
+            &file_of(&full),
+            &mut table[..299_999],
+            &mut [],
+            &mut locks[..]
+        ),
         Err(4)
     );
     let over = of(0, &vec![[0, 1, MARK]; 100_001], &[]);
     let mut table = vec![7; 300_003];
-    assert_eq!(load(&file_of(&over), &mut table, &mut []), Err(3));
+    assert_eq!(
+        load(&file_of(&over), &mut table, &mut [], &mut locks),
+        Err(3)
+    );
     assert_eq!(admit(&over), Err(3));
     let mut results = [0; 2];
     let majority = of(3, &[[2, 4, 6]], &[8]);
@@ -206,6 +210,11 @@ fn fields() {
     assert_eq!(field(&[4, 0, 4, 1, 2, 3]), []);
     assert_eq!(field_number(&[5, 0, 0]), 0);
     assert_eq!(field(&[5, 0, 0]), []);
+    assert_eq!(field_number(&[6, 0, 4, 0, 0, 0, 7]), 0);
+    assert_eq!(field(&[6, 0, 4, 0, 0, 0, 7]), [0, 0, 0, 7]);
+    assert_eq!(field_number(&[6, 0, 0]), 2);
+    assert_eq!(field_number(&[6, 0, 4, 0, 0, 0]), 1);
+    assert_eq!(field_number(&[7, 0, 4, 0, 0, 0, 7]), 2);
 }
 
 #[test]
@@ -253,6 +262,7 @@ fn trees_by_branches_are_the_best_lists() {
         let (inputs, outputs) = (random.below(5), random.below(5));
         let nodes = random.below(10);
         let g = graph(&mut random, shape, inputs, nodes, outputs);
+        let g = with_locks(&mut random, g);
         for root in g.node_indices().filter(|&node| is_root(&g, node)) {
             let nodes = tree(&g, root);
             if how_many(&g, &nodes).is_none_or(|lists| lists > 1024) {
@@ -276,6 +286,7 @@ fn fast_calls_are_the_plain_calls() {
     let mut random = Random::new(2);
     for _ in 0..1_500 {
         let plain = small(&mut random, 4, 7, 4);
+        let plain = with_locks(&mut random, plain);
         for node in plain.node_indices() {
             let mut fast = Fast::new(plain.clone());
             let mut slow = plain.clone();
@@ -305,7 +316,8 @@ fn fast_settling_is_plain_settling() {
     let mut random = Random::new(3);
     let mut longest = 0;
     for _ in 0..1_500 {
-        let mut plain = small(&mut random, 4, 10, 4);
+        let plain = small(&mut random, 4, 10, 4);
+        let mut plain = with_locks(&mut random, plain);
         let mut fast = Fast::new(plain.clone());
         let settled = settle(&mut plain, 80).unwrap();
         assert_eq!(fast.settle(), settled);
@@ -315,7 +327,8 @@ fn fast_settling_is_plain_settling() {
     assert!(longest >= 3, "{longest}");
     for shape in SHAPES {
         for _ in 0..3 {
-            let mut plain = graph(&mut random, shape, 9, 60, 9);
+            let plain = graph(&mut random, shape, 9, 60, 9);
+            let mut plain = with_locks(&mut random, plain);
             let mut fast = Fast::new(plain.clone());
             assert_eq!(Ok(fast.settle()), settle(&mut plain, 480));
             assert_eq!(fast.g, plain);
@@ -329,6 +342,7 @@ fn large_trees() {
     let mut largest = 0;
     for _ in 0..12 {
         let g = graph(&mut random, Shape::Tree, 20, 400, 1);
+        let g = with_locks(&mut random, g);
         for root in g.node_indices().filter(|&node| is_root(&g, node)) {
             let nodes = tree(&g, root);
             largest = largest.max(nodes.len());
@@ -346,12 +360,13 @@ fn large_trees() {
     assert!(largest > 200, "{largest}");
 }
 
-/// Calls keep values, wiring and tails, report what they save, and never raise C.
+/// Calls keep values, wiring, tails and locks, report what they save, and never raise C.
 #[test]
 fn what_calls_promise() {
     let mut random = Random::new(5);
     for _ in 0..2_000 {
         let g = small(&mut random, 5, 8, 4);
+        let g = with_locks(&mut random, g);
         let g = with_tails(&mut random, g, 5);
         let calls: Vec<Call> = (0..8)
             .map(|_| {
@@ -381,6 +396,7 @@ fn what_calls_promise() {
                 Answer::Refused(_) => assert_eq!(before, now),
             }
             assert_eq!(before.wiring(), now.wiring());
+            assert_eq!(before.locks, now.locks);
             assert_eq!(
                 before.node_table[3 * g.nodes as usize..],
                 now.node_table[3 * g.nodes as usize..]
@@ -418,27 +434,26 @@ fn files_come_back() {
     let mut random = Random::new(7);
     for _ in 0..2_000 {
         let g = small(&mut random, 9, 9, 9);
+        let g = with_locks(&mut random, g);
         let file = file_of(&g);
         let mut node_table = vec![1; 30];
         let mut output_table = vec![2; 12];
-        assert_eq!(
-            load(&file, &mut node_table, &mut output_table),
-            Ok((g.inputs, g.nodes, g.outputs))
-        );
-        assert_eq!(node_table[..g.node_table.len()], g.node_table[..]);
-        assert_eq!(output_table[..g.output_table.len()], g.output_table[..]);
-        assert!(node_table[g.node_table.len()..]
-            .iter()
-            .all(|&word| word == 1));
+        let mut locks = vec![3; 11];
+        let mut loaded = |file: &[u8]| load(file, &mut node_table, &mut output_table, &mut locks);
+        assert_eq!(loaded(&file), Ok((g.inputs, g.nodes, g.outputs)));
         for cut in 0..file.len() {
-            assert_eq!(
-                load(&file[..cut], &mut node_table, &mut output_table),
-                Err(1)
-            );
+            assert_eq!(loaded(&file[..cut]), Err(1));
         }
         let mut longer = file.clone();
         longer.push(random.below(256) as u8);
-        assert_eq!(load(&longer, &mut node_table, &mut output_table), Err(6));
+        assert_eq!(loaded(&longer), Err(6));
+        assert_eq!(node_table[..g.node_table.len()], g.node_table[..]);
+        assert_eq!(output_table[..g.output_table.len()], g.output_table[..]);
+        assert_eq!(locks[..g.locks.len()], g.locks[..]);
+        assert!(node_table[g.node_table.len()..]
+            .iter()
+            .all(|&word| word == 1));
+        assert!(locks[g.locks.len()..].iter().all(|&byte| byte == 3));
         let mut buffer = vec![3; file.len() + 2];
         assert_eq!(write(&g, &mut buffer), Ok(file.len()));
         assert_eq!(buffer[..file.len()], file[..]);

@@ -4,7 +4,7 @@
 use std::collections::HashMap;
 
 use crate::graph::{adds, index_of, turned, Graph};
-use crate::moves::{best, how_many, rows};
+use crate::moves::{best, how_many, moves_at};
 
 struct Tree<'a> {
     g: &'a Graph,
@@ -38,7 +38,7 @@ impl Tree<'_> {
 
     /// The least of a node's own words and all below it, its move given.
     fn move_cost(&mut self, node: u32, number: usize) -> u32 {
-        let row = &rows(self.g, node)[number];
+        let row = &moves_at(self.g, node)[number];
         (0..self.g.words_of(node))
             .map(|word| self.word_cost(self.g.word(node, word), row.words[word]))
             .sum()
@@ -49,8 +49,8 @@ impl Tree<'_> {
             return found;
         }
         let mut found: Option<u32> = None;
-        for number in 0..rows(self.g, node).len() {
-            if rows(self.g, node)[number].readers == readers {
+        for number in 0..moves_at(self.g, node).len() {
+            if moves_at(self.g, node)[number].readers == readers {
                 let cost = self.move_cost(node, number);
                 found = Some(found.map_or(cost, |less: u32| less.min(cost)));
             }
@@ -62,8 +62,8 @@ impl Tree<'_> {
     /// The first least move of a node, when `reading` are the words that name it as they are now.
     fn choose(&mut self, node: u32, reading: &[u32]) -> usize {
         let mut found: Option<(u32, usize)> = None;
-        for number in 0..rows(self.g, node).len() {
-            let turn = rows(self.g, node)[number].readers;
+        for number in 0..moves_at(self.g, node).len() {
+            let turn = moves_at(self.g, node)[number].readers;
             let read: u32 = reading
                 .iter()
                 .map(|&word| adds(if turn { turned(word) } else { word }))
@@ -83,7 +83,7 @@ impl Tree<'_> {
         for word in 0..self.g.words_of(node) {
             let literal = self.g.word(node, word);
             if self.has(index_of(literal)) {
-                let turn = rows(self.g, node)[number].words[word];
+                let turn = moves_at(self.g, node)[number].words[word];
                 self.descend(
                     index_of(literal),
                     &[if turn { turned(literal) } else { literal }],

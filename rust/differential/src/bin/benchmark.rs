@@ -8,7 +8,7 @@
 use std::time::{Duration, Instant};
 
 use reducer::{scratch_words, text_bytes, Saving, Settled, Size};
-use reference::generate::{graph, Shape};
+use reference::generate::{graph, locked_one_in, Shape};
 use reference::graph::Graph;
 use reference::random::Random;
 
@@ -19,6 +19,8 @@ const SHAPES: [(&str, Shape); 3] = [("random", Shape::Random), ("tree-like", Sha
 const BATCH_NODES: u32 = 100_000;
 /// At how many nodes of each graph the node, pair and tree calls are made.
 const SPREAD: usize = 8;
+/// One in so many nodes is locked where some are.
+const LOCKED_ONE_IN: u32 = 10;
 /// How many runs a figure has at least, and how long the runs of a call on a shape may then take together.
 const LEAST_RUNS: u32 = 10;
 const ENOUGH: Duration = Duration::from_millis(1_500);
@@ -77,8 +79,12 @@ fn text_of_gates(g: &Graph) -> String {
 }
 
 impl Sample {
-    fn new(seed: u64, shape: Shape, nodes: u32) -> Sample {
-        let g = graph(&mut Random::new(seed), shape, 256, nodes, 128);
+    fn new(seed: u64, shape: Shape, nodes: u32, locked: bool) -> Sample {
+        let mut random = Random::new(seed);
+        let mut g = graph(&mut random, shape, 256, nodes, 128);
+        if locked {
+            g = locked_one_in(&mut random, g, LOCKED_ONE_IN);
+        }
         let (file, text) = (reference::file::file_of(&g), text_of_gates(&g));
         Sample { file, text, nodes: spread(&g, false), roots: spread(&g, true), g }
     }
@@ -88,8 +94,8 @@ impl Sample {
     }
 }
 
-fn batch(shape: Shape, nodes: u32) -> Vec<Sample> {
-    (0..BATCH_NODES / nodes).map(|k| Sample::new((nodes + k).into(), shape, nodes)).collect()
+fn batch(shape: Shape, nodes: u32, locked: bool) -> Vec<Sample> {
+    (0..BATCH_NODES / nodes).map(|k| Sample::new((nodes + k).into(), shape, nodes, locked)).collect()
 }
 
 /// What is lent beside the tables, to one graph of a batch after the other.
@@ -137,55 +143,62 @@ mod proved {
     use reducer::lent;
 
     pub fn load(s: &mut Sample, _: &mut Lent) -> u64 {
-        lent::load(&s.file, &mut s.g.node_table, &mut s.g.output_table).unwrap().nodes.into()
+        lent::load(&s.file, &mut s.g.node_table, &mut s.g.output_table, &mut s.g.locks).unwrap().nodes.into()
     }
 
     pub fn write(s: &mut Sample, l: &mut Lent) -> u64 {
-        lent::write(s.size(), &s.g.node_table, &s.g.output_table, &mut l.buffer).unwrap() as u64
+        lent::write(s.size(), &s.g.node_table, &s.g.output_table, &s.g.locks, &mut l.buffer).unwrap() as u64
     }
 
     pub fn import(s: &mut Sample, _: &mut Lent) -> u64 {
-        lent::import(s.text.as_bytes(), &mut s.g.node_table, &mut s.g.output_table).unwrap().nodes.into()
+        let (text, g) = (s.text.as_bytes(), &mut s.g);
+        lent::import(text, &mut g.node_table, &mut g.output_table, &mut g.locks).unwrap().nodes.into()
     }
 
     pub fn export(s: &mut Sample, l: &mut Lent) -> u64 {
-        lent::export(s.size(), &s.g.node_table, &s.g.output_table, &mut l.scratch, &mut l.buffer).unwrap() as u64
+        let (size, g) = (s.size(), &s.g);
+        lent::export(size, &g.node_table, &g.output_table, &g.locks, &mut l.scratch, &mut l.buffer).unwrap() as u64
     }
 
     pub fn evaluate(s: &mut Sample, l: &mut Lent) -> u64 {
-        let (nodes, outputs) = (&s.g.node_table, &s.g.output_table);
-        lent::evaluate(s.size(), nodes, outputs, &l.words, &mut l.long_scratch, &mut l.results).unwrap();
+        let (nodes, outputs, locks) = (&s.g.node_table, &s.g.output_table, &s.g.locks);
+        lent::evaluate(s.size(), nodes, outputs, locks, &l.words, &mut l.long_scratch, &mut l.results).unwrap();
         l.results[0]
     }
 
     pub fn node(s: &mut Sample, _: &mut Lent) -> u64 {
-        let size = s.size();
-        let call = |&v: &u32| as_one(lent::node_call(size, &mut s.g.node_table, &mut s.g.output_table, v).unwrap());
+        let (size, g) = (s.size(), &mut s.g);
+        let call =
+            |&v: &u32| as_one(lent::node_call(size, &mut g.node_table, &mut g.output_table, &g.locks, v).unwrap());
         s.nodes.iter().map(call).sum()
     }
 
     pub fn pair(s: &mut Sample, _: &mut Lent) -> u64 {
-        let size = s.size();
-        let call = |&v: &u32| as_one(lent::pair_call(size, &mut s.g.node_table, &mut s.g.output_table, v, 1).unwrap());
+        let (size, g) = (s.size(), &mut s.g);
+        let call =
+            |&v: &u32| as_one(lent::pair_call(size, &mut g.node_table, &mut g.output_table, &g.locks, v, 1).unwrap());
         s.nodes.iter().map(call).sum()
     }
 
     pub fn tree(s: &mut Sample, l: &mut Lent) -> u64 {
-        let size = s.size();
+        let (size, g) = (s.size(), &mut s.g);
         let call = |&v: &u32| {
-            as_one(lent::tree_call(size, &mut s.g.node_table, &mut s.g.output_table, v, &mut l.scratch).unwrap())
+            let (nodes, outputs) = (&mut g.node_table, &mut g.output_table);
+            as_one(lent::tree_call(size, nodes, outputs, &g.locks, v, &mut l.scratch).unwrap())
         };
         s.roots.iter().map(call).sum()
     }
 
     pub fn preview(s: &mut Sample, l: &mut Lent) -> u64 {
-        let (size, nodes, outputs) = (s.size(), &s.g.node_table, &s.g.output_table);
-        let call = |&v: &u32| as_one(lent::preview(size, nodes, outputs, v, &mut l.moves, &mut l.scratch).unwrap());
+        let (size, nodes, outputs, locks) = (s.size(), &s.g.node_table, &s.g.output_table, &s.g.locks);
+        let call =
+            |&v: &u32| as_one(lent::preview(size, nodes, outputs, locks, v, &mut l.moves, &mut l.scratch).unwrap());
         s.roots.iter().map(call).sum()
     }
 
     pub fn settle(s: &mut Sample, l: &mut Lent) -> u64 {
-        let settled = lent::settle(s.size(), &mut s.g.node_table, &mut s.g.output_table, &mut l.scratch);
+        let (size, g) = (s.size(), &mut s.g);
+        let settled = lent::settle(size, &mut g.node_table, &mut g.output_table, &g.locks, &mut l.scratch);
         l.settled(settled.unwrap())
     }
 }
@@ -197,7 +210,7 @@ mod plain {
     use differential::plain::{aiger, calls, evaluate, file, preview, settle, sweeps};
 
     pub fn load(s: &mut Sample, _: &mut Lent) -> u64 {
-        file::load(&s.file, &mut s.g.node_table, &mut s.g.output_table).unwrap().1.into()
+        file::load(&s.file, &mut s.g.node_table, &mut s.g.output_table, &mut s.g.locks).unwrap().1.into()
     }
 
     pub fn write(s: &mut Sample, l: &mut Lent) -> u64 {
@@ -205,7 +218,8 @@ mod plain {
     }
 
     pub fn import(s: &mut Sample, _: &mut Lent) -> u64 {
-        aiger::import(s.text.as_bytes(), &mut s.g.node_table, &mut s.g.output_table).unwrap().1.into()
+        let (text, g) = (s.text.as_bytes(), &mut s.g);
+        aiger::import(text, &mut g.node_table, &mut g.output_table, &mut g.locks).unwrap().1.into()
     }
 
     pub fn export(s: &mut Sample, l: &mut Lent) -> u64 {
@@ -251,10 +265,11 @@ mod plain {
 
 type Made = fn(&mut Sample, &mut Lent) -> u64;
 
-/// A call by either implementation, and how often it is made on each graph.
+/// A call by either implementation, how often it is made on each graph, and whether some nodes are locked.
 struct Call {
     name: &'static str,
     times: usize,
+    locked: bool,
     proved: Made,
     plain: Made,
 }
@@ -262,22 +277,29 @@ struct Call {
 const TREE: &str = "tree";
 const PREVIEW: &str = "preview";
 const SETTLE: &str = "settle";
+const SETTLE_LOCKED: &str = "settle, a tenth locked";
 
-const CALLS: [Call; 11] = [
-    Call { name: "load", times: 1, proved: proved::load, plain: plain::load },
-    Call { name: "write", times: 1, proved: proved::write, plain: plain::write },
+/// On graphs without locks.
+const fn call(name: &'static str, times: usize, proved: Made, plain: Made) -> Call {
+    Call { name, times, locked: false, proved, plain }
+}
+
+const CALLS: [Call; 12] = [
+    call("load", 1, proved::load, plain::load),
+    call("write", 1, proved::write, plain::write),
     // Of as many ANDs as there are nodes, and to three or four for each node.
-    Call { name: "import", times: 1, proved: proved::import, plain: plain::import },
-    Call { name: "export", times: 1, proved: proved::export, plain: plain::export },
-    Call { name: "evaluate", times: 1, proved: proved::evaluate, plain: plain::evaluate },
-    Call { name: "node", times: SPREAD, proved: proved::node, plain: plain::node },
-    Call { name: "pair", times: SPREAD, proved: proved::pair, plain: plain::pair },
+    call("import", 1, proved::import, plain::import),
+    call("export", 1, proved::export, plain::export),
+    call("evaluate", 1, proved::evaluate, plain::evaluate),
+    call("node", SPREAD, proved::node, plain::node),
+    call("pair", SPREAD, proved::pair, plain::pair),
     // Beside the same programme in plain Rust, and beside one that sweeps all nodes.
-    Call { name: TREE, times: SPREAD, proved: proved::tree, plain: plain::tree },
-    Call { name: "tree, by sweeps", times: SPREAD, proved: proved::tree, plain: plain::tree_by_sweeps },
+    call(TREE, SPREAD, proved::tree, plain::tree),
+    call("tree, by sweeps", SPREAD, proved::tree, plain::tree_by_sweeps),
     // At the roots of the tree call, so that its rows are to be read beside those of "tree".
-    Call { name: PREVIEW, times: SPREAD, proved: proved::preview, plain: plain::preview },
-    Call { name: SETTLE, times: 1, proved: proved::settle, plain: plain::settle },
+    call(PREVIEW, SPREAD, proved::preview, plain::preview),
+    call(SETTLE, 1, proved::settle, plain::settle),
+    Call { locked: true, ..call(SETTLE_LOCKED, 1, proved::settle, plain::settle) },
 ];
 
 /// One implementation at work on a batch of its own.
@@ -357,7 +379,7 @@ impl Race {
 
 /// A figure for each size. The sizes take turns, so that what slows the machine for a while slows all of them.
 fn time(call: &Call, shape: Shape) -> [Figure; SIZES.len()] {
-    let mut races = SIZES.map(|nodes| Race::new(call, batch(shape, nodes)));
+    let mut races = SIZES.map(|nodes| Race::new(call, batch(shape, nodes, call.locked)));
     let start = Instant::now();
     let mut runs = 0;
     while runs < LEAST_RUNS || start.elapsed() < ENOUGH {
@@ -380,7 +402,7 @@ impl Figure {
     fn print(&self, call: &Call, shape: &str) {
         let calls = self.graphs() * call.times as f64;
         let a_node = |time: f64| time / calls / f64::from(self.nodes);
-        let (rounds, a_round) = if call.name == SETTLE {
+        let (rounds, a_round) = if [SETTLE, SETTLE_LOCKED].contains(&call.name) {
             let rounds = self.answers as f64 / self.graphs();
             (format!("{rounds:.1}"), format!("{:.1}", self.a_node_and_round(self.proved)))
         } else {
@@ -439,23 +461,23 @@ mod by_calls {
     /// What a round saves, its sums being added to.
     fn round(s: &mut Sample, l: &mut Lent) -> i64 {
         let size = s.size();
-        let (node_table, output_table) = (&mut s.g.node_table, &mut s.g.output_table);
+        let (node_table, output_table, locks) = (&mut s.g.node_table, &mut s.g.output_table, &s.g.locks);
         let nodes = size.inputs + 1..=size.inputs + size.nodes;
         let [own, others] = l.sums;
         let mut add = |saving: Saving| l.sums = [l.sums[0] + saving.own, l.sums[1] + saving.others];
         for v in nodes.clone() {
-            match lent::tree_call(size, node_table, output_table, v, &mut l.scratch) {
+            match lent::tree_call(size, node_table, output_table, locks, v, &mut l.scratch) {
                 Err(Refusal::NoSuchNode) => {}
                 answer => add(answer.unwrap()),
             }
         }
         for v in nodes.clone() {
-            add(lent::node_call(size, node_table, output_table, v).unwrap());
+            add(lent::node_call(size, node_table, output_table, locks, v).unwrap());
         }
         for v in nodes {
             let third = 3 * (v - size.inputs) as usize - 1;
             for word in 1..=if node_table[third] == MARK { 2 } else { 3 } {
-                add(lent::pair_call(size, node_table, output_table, v, word).unwrap());
+                add(lent::pair_call(size, node_table, output_table, locks, v, word).unwrap());
             }
         }
         l.sums[0] + l.sums[1] - own - others
@@ -478,7 +500,7 @@ const SMALL_SIZES: [u32; 3] = [500, 1_000, 2_000];
 fn before_and_after() {
     println!("\n| random graph, nodes | settled by scanning calls, ms | by the settling call, ms | ratio |\n|---|---|---|---|");
     for nodes in SMALL_SIZES {
-        let batch = [Sample::new(nodes.into(), Shape::Random, nodes)];
+        let batch = [Sample::new(nodes.into(), Shape::Random, nodes, false)];
         let [mut scanning, mut settling] = [by_calls::settle, proved::settle].map(|made| Side::new(made, &batch));
         scanning.run(&batch);
         (0..LEAST_RUNS).for_each(|_| settling.run(&batch));

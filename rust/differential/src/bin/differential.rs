@@ -6,21 +6,21 @@ use std::sync::atomic::Ordering;
 use std::time::Instant;
 
 use differential::cases::{Case, Step};
-use differential::extremes::{self, EXTREMES};
+use differential::extremes::{self, EXTREMES, LOCKED};
 use differential::shrink::hold;
 use differential::{
-    exports, faults, files, lengths, lists, preview_faults, previews, raw, replays, savings, stored, text_limits,
-    texts, trials,
+    call_faults, exports, faults, files, lengths, lists, lock_fields, preview_faults, previews, raw, replays, savings,
+    stored, text_limits, texts, trials,
 };
 use reference::calls::Call;
-use reference::generate::{graph, Shape, SHAPES};
+use reference::generate::{graph, locked_one_in, with_locks, Shape, SHAPES};
 use reference::graph::Graph;
 use reference::random::Random;
 
 /// What one kind of test does with a seed: how many cases it tried, or what failed.
 type Kind = (&'static str, u64, fn(u64) -> Result<u64, String>);
 
-const KINDS: [Kind; 28] = [
+const KINDS: [Kind; 31] = [
     ("stored cases of single calls and evaluation", 1, stored),
     ("the plain implementation, lists of calls", 30_000, plain_lists),
     ("lists of calls on small graphs", 80_000, small_lists),
@@ -34,8 +34,11 @@ const KINDS: [Kind; 28] = [
     ("trials of every two moves, and the pair call by them", 30_000, tried),
     ("lent slices of every length", 1_200, slices),
     ("literals in every place, and limits", 1_000, literals),
+    ("lock bytes in every place", 1_000, locks),
+    ("calls with every choice of faults of known numbers", 1, faulty_calls),
     ("files, whole and damaged", 400_000, damaged),
     ("files with every byte changed, and cut anywhere", 100, every_byte),
+    ("files with fields 06 of known numbers", 1, lock_fields),
     ("replays, made at once and call by call", 80_000, replayed),
     ("AIGER texts, whole and damaged", 250_000, damaged_texts),
     ("AIGER texts with every byte changed, left out or added", 100, every_byte_of_texts),
@@ -88,6 +91,7 @@ fn settled(seed: u64) -> Result<u64, String> {
     let shape = TALL[(seed % 4) as usize];
     let nodes = random.between(50, 400);
     let graph = graph(&mut random, shape, 12, nodes, 6);
+    let graph = with_locks(&mut random, graph);
     hold(seed, Case { graph, steps: vec![], seed }, &lists::check_settled)?;
     Ok(1)
 }
@@ -102,15 +106,21 @@ fn summed_longer(seed: u64) -> Result<u64, String> {
     let mut random = Random::new(seed);
     let (shape, nodes) = (SHAPES[(seed % 8) as usize], random.between(20, 90));
     let graph = graph(&mut random, shape, 12, nodes, 20);
+    let graph = with_locks(&mut random, graph);
     hold(seed, Case { graph, steps: vec![], seed }, &savings::check_sums)?;
     Ok(1)
 }
 
-/// The largest that the limits allow, and smaller ones.
+/// The largest that the limits allow, and smaller ones; no, few or all nodes are locked.
 fn large_graph(random: &mut Random, seed: u64) -> Graph {
     let shape = TALL[(seed % 4) as usize];
     let nodes = if seed < 4 { 100_000 } else { random.between(2_000, 20_000) };
-    graph(random, shape, 4_096, nodes, 4_096)
+    let g = graph(random, shape, 4_096, nodes, 4_096);
+    match seed % 5 {
+        1 | 3 => locked_one_in(random, g, 10),
+        4 => with_locks(random, g),
+        _ => g,
+    }
 }
 
 fn large(seed: u64) -> Result<u64, String> {
@@ -131,8 +141,7 @@ fn large(seed: u64) -> Result<u64, String> {
 
 fn at_limits(seed: u64) -> Result<u64, String> {
     let Some(extreme) = EXTREMES.get(seed as usize) else { return Ok(0) };
-    extremes::check(extreme, seed).map_err(|wrong| format!("seed {seed}: {}: {wrong}", extreme.name))?;
-    Ok(1)
+    extremes::check(extreme, seed).map_err(|wrong| format!("seed {seed}: {}: {wrong}", extreme.name))
 }
 
 fn tried(seed: u64) -> Result<u64, String> {
@@ -157,6 +166,21 @@ fn literals(seed: u64) -> Result<u64, String> {
     let count = lengths::check_literals(&case);
     hold(seed, case, &|case| lengths::check_literals(case).map(|_| ()))?;
     Ok(limits + count?)
+}
+
+fn locks(seed: u64) -> Result<u64, String> {
+    let case = lists::random_case(seed, 4, 3);
+    let count = lengths::check_locks(&case);
+    hold(seed, case, &|case| lengths::check_locks(case).map(|_| ()))?;
+    count
+}
+
+fn faulty_calls(_: u64) -> Result<u64, String> {
+    call_faults::check_faults()
+}
+
+fn lock_fields(_: u64) -> Result<u64, String> {
+    lock_fields::check_fields()
 }
 
 fn damaged(seed: u64) -> Result<u64, String> {
@@ -230,8 +254,9 @@ fn previewed_large(seed: u64) -> Result<u64, String> {
 
 fn previewed_at_limits(seed: u64) -> Result<u64, String> {
     let Some(extreme) = EXTREMES.get(seed as usize) else { return Ok(0) };
-    let checked = previews::check_large(&extreme.graph(seed), seed);
-    checked.map_err(|wrong| format!("seed {seed}: {}: {wrong}", extreme.name))
+    let check = |locked| previews::check_large(&extreme.graph(seed, locked), seed);
+    let checked: Result<Vec<u64>, String> = LOCKED.into_iter().map(check).collect();
+    checked.map(|counts| counts.iter().sum()).map_err(|wrong| format!("seed {seed}: {}: {wrong}", extreme.name))
 }
 
 fn run(kind: &Kind, only: Option<u64>) -> Result<u64, String> {
@@ -270,7 +295,8 @@ fn main() -> ExitCode {
         }
     }
     if only.is_none() {
-        if let Err(wrong) = all_met().and_then(|()| trials::all_met()).and_then(|()| savings::all_met()) {
+        let met = all_met().and_then(|()| trials::all_met()).and_then(|()| savings::all_met());
+        if let Err(wrong) = met.and_then(|()| previews::all_met()) {
             println!("{wrong}");
             failed += 1;
         }

@@ -1,7 +1,7 @@
-//! ASCII AIGER. Import: a pass that checks every byte, then one that fills the tables. Export: the exact length from where literals
+//! ASCII AIGER. Import: a pass that checks every byte, then one that fills the tables, all locks being 0. Export: the exact length from where literals
 //! grow by a digit, then one pass that writes.
 
-use super::{admit, check_limits, check_tables, Number, View};
+use super::{admit, check_limits, check_room, Number, Room, View};
 use reducer::MARK;
 
 /// What is left of the text.
@@ -48,7 +48,7 @@ impl Reader<'_> {
 }
 
 /// I, N and O of the header, and a reader at the line after it.
-fn header(text: &[u8], node_words: usize, output_words: usize) -> Result<(u32, u32, u32, Reader<'_>), Number> {
+fn header(text: &[u8], room: Room) -> Result<(u32, u32, u32, Reader<'_>), Number> {
     if !text.starts_with(b"aag ") {
         return Err(10);
     }
@@ -65,7 +65,7 @@ fn header(text: &[u8], node_words: usize, output_words: usize) -> Result<(u32, u
         return Err(12);
     }
     check_limits(inputs, nodes, outputs)?;
-    check_tables(nodes, outputs, node_words, output_words)?;
+    check_room(nodes, outputs, room)?;
     Ok((inputs, nodes, outputs, reader))
 }
 
@@ -94,8 +94,14 @@ fn check_lines(reader: &mut Reader, inputs: u32, nodes: u32, outputs: u32) -> Re
     Ok(())
 }
 
-pub fn import(text: &[u8], node_table: &mut [u32], output_table: &mut [u32]) -> Result<(u32, u32, u32), Number> {
-    let (inputs, nodes, outputs, mut reader) = header(text, node_table.len(), output_table.len())?;
+pub fn import(
+    text: &[u8],
+    node_table: &mut [u32],
+    output_table: &mut [u32],
+    locks: &mut [u8],
+) -> Result<(u32, u32, u32), Number> {
+    let room = Room { node_words: node_table.len(), output_words: output_table.len(), lock_bytes: locks.len() };
+    let (inputs, nodes, outputs, mut reader) = header(text, room)?;
     let start = reader.at;
     check_lines(&mut reader, inputs, nodes, outputs)?;
     reader.at = start;
@@ -111,6 +117,7 @@ pub fn import(text: &[u8], node_table: &mut [u32], output_table: &mut [u32]) -> 
         words[1] = reader.checked();
         words[2] = reader.checked();
     }
+    locks[..nodes as usize].fill(0);
     Ok((inputs, nodes, outputs))
 }
 

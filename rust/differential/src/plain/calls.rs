@@ -1,6 +1,6 @@
 //! The node and pair calls: each decides, then writes in one sweep of each table where something turns.
 
-use super::decide::{best_pair, flags, parted, Costs, Numbers};
+use super::decide::{best_pair, flags, parted, Costs, Kind, Numbers};
 use super::{adds, admit, Number, View};
 use reducer::{Saving, MARK};
 
@@ -27,10 +27,11 @@ fn own_costs(words: &[u32]) -> Costs {
 }
 
 fn numbers_of(g: &View, node: u32) -> Numbers {
-    let at = 3 * (node - g.inputs - 1) as usize;
-    let words = &g.node_table[at..at + 3];
+    let v = (node - g.inputs - 1) as usize;
+    let words = &g.node_table[3 * v..3 * v + 3];
     let (readers, odd) = readers_of(g, node);
-    Numbers { xor: words[2] == MARK, costs: own_costs(words), readers, odd }
+    let kind = Kind { xor: words[2] == MARK, locked: g.locks[v] == 1 };
+    Numbers { kind, costs: own_costs(words), readers, odd }
 }
 
 /// Move `first` at `named` and `second` at `node` made at once; the two are the same node for a node call.
@@ -75,6 +76,7 @@ pub struct Tables<'a> {
     pub outputs: u32,
     pub node_table: &'a mut [u32],
     pub output_table: &'a mut [u32],
+    pub locks: &'a [u8],
 }
 
 impl Tables<'_> {
@@ -85,6 +87,7 @@ impl Tables<'_> {
             outputs: self.outputs,
             node_table: self.node_table,
             output_table: self.output_table,
+            locks: self.locks,
         }
     }
 
@@ -104,7 +107,7 @@ pub fn node_call(t: &mut Tables, node: u32) -> Result<Saving, Number> {
     let numbers = numbers_of(&g, node);
     let least = numbers.best();
     if least.number != 0 {
-        let made = (node, *flags(numbers.xor, least.number));
+        let made = (node, *flags(numbers.kind.xor, least.number));
         t.write(made, made);
     }
     Ok(parted(numbers.cost(0) - least.cost, numbers.odd_around(least.number)))
@@ -129,7 +132,7 @@ pub fn pair_call(t: &mut Tables, node: u32, word: u32) -> Result<Saving, Number>
     let (first, second) = (numbers_of(&g, named), numbers_of(&g, node));
     let best = best_pair(&first, &second, which);
     if best.named + best.node != 0 {
-        t.write((named, *flags(first.xor, best.named)), (node, *flags(second.xor, best.node)));
+        t.write((named, *flags(first.kind.xor, best.named)), (node, *flags(second.kind.xor, best.node)));
     }
     Ok(parted(best.saved, best.odd))
 }

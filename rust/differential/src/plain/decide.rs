@@ -12,13 +12,20 @@ pub fn flags(xor: bool, number: u32) -> &'static [u32; 4] {
     &FLAGS[xor as usize][number as usize]
 }
 
+/// Which moves a node has: its kind's, or where it is locked move 0 alone.
+#[derive(Clone, Copy)]
+pub struct Kind {
+    pub xor: bool,
+    pub locked: bool,
+}
+
 /// What each word of a node costs as it stands and turned.
 pub type Costs = [[u32; 2]; 3];
 
 /// What a node's moves are decided by.
 #[derive(Clone, Copy)]
 pub struct Numbers {
-    pub xor: bool,
+    pub kind: Kind,
     pub costs: Costs,
     pub readers: u32,
     /// How many readers are complemented.
@@ -38,7 +45,7 @@ fn cost_of(turned: &[u32; 4], costs: &Costs, readers: [u32; 2]) -> u32 {
     own + readers[turned[3] as usize]
 }
 
-/// The first least of these moves. It is put into its two callers, so that the compiler knows the moves there.
+/// The first least of these moves. It is put in where it is called, so that the compiler knows the moves there.
 #[inline(always)]
 fn least_among(moves: &[[u32; 4]], costs: &Costs, readers: [u32; 2]) -> Least {
     let mut least = Least { number: 0, cost: cost_of(&moves[0], costs, readers) };
@@ -51,9 +58,11 @@ fn least_among(moves: &[[u32; 4]], costs: &Costs, readers: [u32; 2]) -> Least {
     least
 }
 
-/// The first least move of a kind.
-pub fn least_of(xor: bool, costs: &Costs, readers: [u32; 2]) -> Least {
-    if xor {
+/// The first least of the moves that a node has.
+pub fn least_of(kind: Kind, costs: &Costs, readers: [u32; 2]) -> Least {
+    if kind.locked {
+        least_among(&FLAGS[0][..1], costs, readers)
+    } else if kind.xor {
         least_among(&FLAGS[1], costs, readers)
     } else {
         least_among(&FLAGS[0][..2], costs, readers)
@@ -67,16 +76,16 @@ impl Numbers {
     }
 
     pub fn cost(&self, number: u32) -> u32 {
-        cost_of(flags(self.xor, number), &self.costs, self.shown())
+        cost_of(flags(self.kind.xor, number), &self.costs, self.shown())
     }
 
     pub fn best(&self) -> Least {
-        least_of(self.xor, &self.costs, self.shown())
+        least_of(self.kind, &self.costs, self.shown())
     }
 
     /// How many readers are complemented, before a move and after it.
     pub fn odd_around(&self, number: u32) -> [u32; 2] {
-        [self.odd, self.shown()[flags(self.xor, number)[3] as usize]]
+        [self.odd, self.shown()[flags(self.kind.xor, number)[3] as usize]]
     }
 }
 
@@ -109,10 +118,10 @@ pub fn best_pair(named: &Numbers, node: &Numbers, which: [bool; 3]) -> PairMoves
             turned[k].swap(0, 1);
         }
     }
-    let answers = [node.best(), least_of(node.xor, &turned, node.shown())];
+    let answers = [node.best(), least_of(node.kind, &turned, node.shown())];
     let [left, turned] = others.shown();
-    let first = least_of(named.xor, &named.costs, [left + answers[0].cost, turned + answers[1].cost]);
-    let second = answers[flags(named.xor, first.number)[3] as usize].number;
+    let first = least_of(named.kind, &named.costs, [left + answers[0].cost, turned + answers[1].cost]);
+    let second = answers[flags(named.kind.xor, first.number)[3] as usize].number;
     let (above, below) = (node.odd_around(second), others.odd_around(first.number));
     let odd = [above[0] + below[0], above[1] + below[1]];
     PairMoves { named: first.number, node: second, saved: others.cost(0) + node.cost(0) - first.cost, odd }

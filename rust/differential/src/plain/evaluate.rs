@@ -1,6 +1,6 @@
 //! Evaluation, a word of 64 assignments at a time.
 
-use super::{check_limits, check_literals, check_tables, Number, View};
+use super::{check_limits, check_literals, check_locks, check_room, Number, View};
 use reducer::MARK;
 
 /// The slice is picked before it is read, so that there is one read and no branch that inputs and nodes take in turn.
@@ -15,11 +15,12 @@ fn value(inputs: u32, input_words: &[u64], values: &[u64], literal: u32) -> u64 
 
 pub fn evaluate(g: &View, input_words: &[u64], scratch: &mut [u64], results: &mut [u64]) -> Result<(), Number> {
     check_limits(g.inputs, g.nodes, g.outputs)?;
-    check_tables(g.nodes, g.outputs, g.node_table.len(), g.output_table.len())?;
+    check_room(g.nodes, g.outputs, g.room())?;
     if input_words.len() < g.inputs as usize || results.len() < g.outputs as usize {
         return Err(4);
     }
     check_literals(g)?;
+    check_locks(g)?;
     if scratch.len() < g.nodes as usize {
         return Err(8);
     }

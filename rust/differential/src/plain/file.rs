@@ -1,6 +1,6 @@
-//! The tagged file: a pass that checks all of it, then one that fills the tables.
+//! The tagged file: a pass that checks all of it, then one that fills the tables and the locks.
 
-use super::{admit, check_limits, check_tables, Number, View};
+use super::{admit, check_limits, check_room, Number, Room, View};
 use reducer::MARK;
 
 fn four(bytes: &[u8], at: usize) -> u32 {
@@ -11,7 +11,7 @@ fn payload_of(tag: u8) -> usize {
     match tag {
         1 | 2 => 12,
         3 => 8,
-        4 => 4,
+        4 | 6 => 4,
         5 => 0,
         _ => usize::MAX,
     }
@@ -32,11 +32,27 @@ fn due(bytes: &[u8], low: u8, high: u8) -> Result<usize, Number> {
     Ok(3 + length)
 }
 
-fn check(file: &[u8], node_words: usize, output_words: usize) -> Result<(u32, u32, u32), Number> {
+/// The locks and the end, where `last` is the index that the first lock must be above and `most` the last node's.
+fn check_end(mut rest: &[u8], mut last: u32, most: u32) -> Result<(), Number> {
+    loop {
+        let size = due(rest, 5, 6)?;
+        if size == 3 {
+            return if rest.len() > size { Err(6) } else { Ok(()) };
+        }
+        let index = four(rest, 3);
+        if index <= last || index > most {
+            return Err(13);
+        }
+        last = index;
+        rest = &rest[size..];
+    }
+}
+
+fn check(file: &[u8], room: Room) -> Result<(u32, u32, u32), Number> {
     due(file, 1, 1)?;
     let (inputs, nodes, outputs) = (four(file, 3), four(file, 7), four(file, 11));
     check_limits(inputs, nodes, outputs)?;
-    check_tables(nodes, outputs, node_words, output_words)?;
+    check_room(nodes, outputs, room)?;
     let mut rest = &file[15..];
     for index in inputs + 1..inputs + 1 + nodes {
         let size = due(rest, 2, 3)?;
@@ -52,15 +68,18 @@ fn check(file: &[u8], node_words: usize, output_words: usize) -> Result<(u32, u3
         }
         rest = &rest[size..];
     }
-    let size = due(rest, 5, 5)?;
-    if rest.len() > size {
-        return Err(6);
-    }
+    check_end(rest, inputs, inputs + nodes)?;
     Ok((inputs, nodes, outputs))
 }
 
-pub fn load(file: &[u8], node_table: &mut [u32], output_table: &mut [u32]) -> Result<(u32, u32, u32), Number> {
-    let (inputs, nodes, outputs) = check(file, node_table.len(), output_table.len())?;
+pub fn load(
+    file: &[u8],
+    node_table: &mut [u32],
+    output_table: &mut [u32],
+    locks: &mut [u8],
+) -> Result<(u32, u32, u32), Number> {
+    let room = Room { node_words: node_table.len(), output_words: output_table.len(), lock_bytes: locks.len() };
+    let (inputs, nodes, outputs) = check(file, room)?;
     let mut rest = &file[15..];
     for words in node_table.chunks_exact_mut(3).take(nodes as usize) {
         words[0] = four(rest, 3);
@@ -75,6 +94,11 @@ pub fn load(file: &[u8], node_table: &mut [u32], output_table: &mut [u32]) -> Re
     }
     for word in &mut output_table[..outputs as usize] {
         *word = four(rest, 3);
+        rest = &rest[7..];
+    }
+    locks[..nodes as usize].fill(0);
+    while rest[0] == 6 {
+        locks[(four(rest, 3) - inputs - 1) as usize] = 1;
         rest = &rest[7..];
     }
     Ok((inputs, nodes, outputs))
@@ -94,7 +118,8 @@ fn put(buffer: &mut [u8], at: &mut usize, tag: u8, words: &[u32]) {
 
 fn length(g: &View) -> usize {
     let nodes: usize = g.words().chunks_exact(3).map(|words| if words[2] == MARK { 11 } else { 15 }).sum();
-    18 + nodes + 7 * g.outputs as usize
+    let locked = g.node_locks().iter().filter(|&&byte| byte == 1).count();
+    18 + nodes + 7 * (g.outputs as usize + locked)
 }
 
 pub fn write(g: &View, buffer: &mut [u8]) -> Result<usize, Number> {
@@ -114,6 +139,11 @@ pub fn write(g: &View, buffer: &mut [u8]) -> Result<usize, Number> {
     }
     for &literal in g.outs() {
         put(buffer, &mut at, 4, &[literal]);
+    }
+    for (index, &byte) in (g.inputs + 1..).zip(g.node_locks()) {
+        if byte == 1 {
+            put(buffer, &mut at, 6, &[index]);
+        }
     }
     put(buffer, &mut at, 5, &[]);
     Ok(length)

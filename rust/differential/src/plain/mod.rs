@@ -14,13 +14,14 @@ use reducer::{MARK, MOST_INPUTS, MOST_NODES, MOST_OUTPUTS};
 /// A refusal is its number.
 pub type Number = u32;
 
-/// I, N and O with the lent tables.
+/// I, N and O with the lent tables and locks.
 pub struct View<'a> {
     pub inputs: u32,
     pub nodes: u32,
     pub outputs: u32,
     pub node_table: &'a [u32],
     pub output_table: &'a [u32],
+    pub locks: &'a [u8],
 }
 
 impl<'a> View<'a> {
@@ -31,6 +32,23 @@ impl<'a> View<'a> {
     pub fn outs(&self) -> &'a [u32] {
         &self.output_table[..self.outputs as usize]
     }
+
+    /// A byte a node.
+    pub fn node_locks(&self) -> &'a [u8] {
+        &self.locks[..self.nodes as usize]
+    }
+
+    pub fn room(&self) -> Room {
+        Room { node_words: self.node_table.len(), output_words: self.output_table.len(), lock_bytes: self.locks.len() }
+    }
+}
+
+/// How much is lent for a graph.
+#[derive(Clone, Copy)]
+pub struct Room {
+    pub node_words: usize,
+    pub output_words: usize,
+    pub lock_bytes: usize,
 }
 
 /// What a literal adds to C.
@@ -45,8 +63,9 @@ pub fn check_limits(inputs: u32, nodes: u32, outputs: u32) -> Result<(), Number>
     Ok(())
 }
 
-pub fn check_tables(nodes: u32, outputs: u32, node_words: usize, output_words: usize) -> Result<(), Number> {
-    if node_words < 3 * nodes as usize || output_words < outputs as usize {
+pub fn check_room(nodes: u32, outputs: u32, room: Room) -> Result<(), Number> {
+    let tables = room.node_words < 3 * nodes as usize || room.output_words < outputs as usize;
+    if tables || room.lock_bytes < nodes as usize {
         return Err(4);
     }
     Ok(())
@@ -66,11 +85,19 @@ pub fn check_literals(g: &View) -> Result<(), Number> {
     Ok(())
 }
 
-/// 3, 4, 5 in that order.
+pub fn check_locks(g: &View) -> Result<(), Number> {
+    if g.node_locks().iter().any(|&byte| byte > 1) {
+        return Err(13);
+    }
+    Ok(())
+}
+
+/// 3, 4, 5, 13 in that order.
 pub fn admit(g: &View) -> Result<(), Number> {
     check_limits(g.inputs, g.nodes, g.outputs)?;
-    check_tables(g.nodes, g.outputs, g.node_table.len(), g.output_table.len())?;
-    check_literals(g)
+    check_room(g.nodes, g.outputs, g.room())?;
+    check_literals(g)?;
+    check_locks(g)
 }
 
 /// C of an admitted graph.

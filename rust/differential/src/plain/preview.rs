@@ -4,10 +4,10 @@
 use super::calls::is_node;
 use super::decide::{flags, least_of, parted};
 use super::settle::{is_root, Kept, State};
-use super::{adds, check_limits, check_literals, check_tables, complemented, Number, View};
+use super::{adds, check_limits, check_literals, check_locks, check_room, complemented, Number, View};
 use reducer::Saving;
 
-type Reading<'a> = State<&'a [[u32; 3]], &'a [u32]>;
+type Reading<'a> = State<'a, &'a [[u32; 3]], &'a [u32]>;
 
 impl Reading<'_> {
     /// The bit that the only reader of a node shows it once the reader's move is made.
@@ -19,7 +19,7 @@ impl Reading<'_> {
 
     /// A decided node's costs are looked at no more: its move takes their place.
     fn decide(&mut self, v: usize, readers: [u32; 2]) {
-        self.kept[v].costs = least_of(self.is_xor(v), &self.tree_costs(v), readers).number;
+        self.kept[v].costs = least_of(self.kind(v), &self.tree_costs(v), readers).number;
     }
 
     /// The moves of a root's tree by falling index. All other costs are 0, as is the move of a node outside.
@@ -67,14 +67,15 @@ impl Reading<'_> {
     }
 }
 
-/// 3, 4 for the tables and for the bytes, 5, 7, 8 in that order.
+/// 3, 4 for the tables, the locks and the bytes, 5, 13, 7, 8 in that order.
 fn check(g: &View, root: u32, bytes: usize, scratch: usize) -> Result<(), Number> {
     check_limits(g.inputs, g.nodes, g.outputs)?;
-    check_tables(g.nodes, g.outputs, g.node_table.len(), g.output_table.len())?;
+    check_room(g.nodes, g.outputs, g.room())?;
     if bytes < g.nodes as usize {
         return Err(4);
     }
     check_literals(g)?;
+    check_locks(g)?;
     if !is_node(g, root) || !is_root(g, root) {
         return Err(7);
     }
@@ -87,7 +88,7 @@ fn check(g: &View, root: u32, bytes: usize, scratch: usize) -> Result<(), Number
 pub fn preview(g: &View, root: u32, moves: &mut [u8], scratch: usize) -> Result<Saving, Number> {
     check(g, root, moves.len(), scratch)?;
     let (words, _) = g.words().as_chunks();
-    let mut s = Reading::new(g.inputs, words, g.outs(), complemented(g));
+    let mut s = Reading::new(g.inputs, words, g.outs(), g.node_locks(), complemented(g));
     let v = (root - g.inputs - 1) as usize;
     s.decide_tree(v);
     let moves = &mut moves[..g.nodes as usize];

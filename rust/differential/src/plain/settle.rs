@@ -4,7 +4,7 @@
 use std::ops::Deref;
 
 use super::calls::{is_node, readers_of, Tables};
-use super::decide::{best_pair, flags, least_of, parted, Costs, Numbers};
+use super::decide::{best_pair, flags, least_of, parted, Costs, Kind, Numbers};
 use super::{admit, complemented, Number, View};
 use reducer::{Saving, Settled, MARK};
 
@@ -26,24 +26,26 @@ pub(super) struct Kept {
 }
 
 /// Tables that are written, or only read, and what is kept of each node.
-pub(super) struct State<Words, Outs> {
+pub(super) struct State<'a, Words, Outs> {
     inputs: u32,
     /// Three words a node.
     pub(super) words: Words,
     pub(super) outs: Outs,
+    /// A byte a node.
+    locks: &'a [u8],
     pub(super) kept: Vec<Kept>,
     pub(super) count: u32,
     /// The complemented readers outside of the nodes that a call names, before it and after it, summed over the calls made.
     odd: [u64; 2],
 }
 
-type Settling<'a> = State<&'a mut [[u32; 3]], &'a mut [u32]>;
+type Settling<'a> = State<'a, &'a mut [[u32; 3]], &'a mut [u32]>;
 
-impl<Words: Deref<Target = [[u32; 3]]>, Outs: Deref<Target = [u32]>> State<Words, Outs> {
+impl<'a, Words: Deref<Target = [[u32; 3]]>, Outs: Deref<Target = [u32]>> State<'a, Words, Outs> {
     /// With everything found; count is C.
-    pub(super) fn new(inputs: u32, words: Words, outs: Outs, count: u32) -> Self {
+    pub(super) fn new(inputs: u32, words: Words, outs: Outs, locks: &'a [u8], count: u32) -> Self {
         let kept = vec![Kept::default(); words.len()];
-        let mut s = State { inputs, words, outs, kept, count, odd: [0; 2] };
+        let mut s = State { inputs, words, outs, locks, kept, count, odd: [0; 2] };
         s.find_readers();
         s.find_trees();
         s
@@ -102,6 +104,10 @@ impl<Words: Deref<Target = [[u32; 3]]>, Outs: Deref<Target = [u32]>> State<Words
         self.words[v][2] == MARK
     }
 
+    pub(super) fn kind(&self, v: usize) -> Kind {
+        Kind { xor: self.is_xor(v), locked: self.locks[v] == 1 }
+    }
+
     /// A word with what is pending.
     fn now(&self, word: u32) -> u32 {
         self.kept.get(self.node_of(word)).map_or(word, |node| word ^ node.pending)
@@ -116,7 +122,7 @@ impl<Words: Deref<Target = [[u32; 3]]>, Outs: Deref<Target = [u32]>> State<Words
 
     fn own_numbers(&self, v: usize) -> Numbers {
         let Kept { readers, odd, .. } = self.kept[v];
-        Numbers { xor: self.is_xor(v), costs: self.words[v].map(|word| self.word_costs(word)), readers, odd }
+        Numbers { kind: self.kind(v), costs: self.words[v].map(|word| self.word_costs(word)), readers, odd }
     }
 
     /// What a word costs as it stands and turned, with the best below it where it names a non-root.
@@ -136,7 +142,7 @@ impl<Words: Deref<Target = [[u32; 3]]>, Outs: Deref<Target = [u32]>> State<Words
 
     fn store_costs(&mut self, v: usize) {
         let costs = self.tree_costs(v);
-        let least = |readers| least_of(self.is_xor(v), &costs, readers).cost;
+        let least = |readers| least_of(self.kind(v), &costs, readers).cost;
         let (a, b) = (least([0, 1]), least([1, 0]));
         self.kept[v].costs = a.saturating_sub(b) | b.saturating_sub(a) << 1;
     }
@@ -155,7 +161,8 @@ impl<'a> Settling<'a> {
     fn of(t: &'a mut Tables) -> Settling<'a> {
         let count = complemented(&t.view());
         let (words, _) = t.node_table[..3 * t.nodes as usize].as_chunks_mut();
-        State::new(t.inputs, words, &mut t.output_table[..t.outputs as usize], count)
+        let locks = &t.locks[..t.nodes as usize];
+        State::new(t.inputs, words, &mut t.output_table[..t.outputs as usize], locks, count)
     }
 
     fn turn_word(&mut self, v: usize, k: usize) {

@@ -1,7 +1,7 @@
 //! The tree call by another programme: the costs of all nodes by one sweep, the moves of the tree by another, and one sweep that writes.
 
 use super::calls::{is_node, readers_of, word_costs, Tables};
-use super::decide::{flags, least_of, parted, Costs};
+use super::decide::{flags, least_of, parted, Costs, Kind};
 use super::{admit, complemented, Number, View};
 use reducer::{Saving, MARK};
 
@@ -62,14 +62,14 @@ fn tree_costs(g: &View, kept: &[Kept], v: usize) -> Costs {
     [0, 1, 2].map(|k| edge_costs(g, kept, words[k]))
 }
 
-fn is_xor(g: &View, v: usize) -> bool {
-    g.node_table[3 * v + 2] == MARK
+fn kind(g: &View, v: usize) -> Kind {
+    Kind { xor: g.node_table[3 * v + 2] == MARK, locked: g.locks[v] == 1 }
 }
 
 fn fill_costs(g: &View, kept: &mut [Kept]) {
     for v in 0..kept.len() {
         let costs = tree_costs(g, kept, v);
-        let least = |readers| least_of(is_xor(g, v), &costs, readers).cost as u8;
+        let least = |readers| least_of(kind(g, v), &costs, readers).cost as u8;
         let (a, b) = (least([0, 1]), least([1, 0]));
         kept[v].costs = [a.saturating_sub(b), b.saturating_sub(a)];
     }
@@ -85,9 +85,9 @@ fn shown(g: &View, kept: &[Kept], v: usize) -> Option<u32> {
 
 /// The move of a node whose readers cost so much, left and turned.
 fn choose_at(g: &View, kept: &mut [Kept], v: usize, readers: [u32; 2]) {
-    let xor = is_xor(g, v);
-    let least = least_of(xor, &tree_costs(g, kept, v), readers);
-    kept[v].turned = flags(xor, least.number).map(|flag| flag as u8);
+    let kind = kind(g, v);
+    let least = least_of(kind, &tree_costs(g, kept, v), readers);
+    kept[v].turned = flags(kind.xor, least.number).map(|flag| flag as u8);
     kept[v].chosen = true;
 }
 

@@ -9,7 +9,7 @@ pub fn p3() -> Vec<u8> {
 }
 
 /// What stands in a DOT text below its defaults, from bottom to top.
-fn drawn(output: &Output) -> String {
+pub fn drawn(output: &Output) -> String {
     let lines: Vec<&str> = text(&output.stdout).lines().collect();
     let begin = [
         "digraph panjerov {",

@@ -4,7 +4,7 @@ use super::pictures::*;
 use super::*;
 
 /// The cells of each row of a table, the tables one after the other.
-fn rows(page: &str) -> Vec<Vec<String>> {
+pub fn rows(page: &str) -> Vec<Vec<String>> {
     let tables = page.split("<table ").skip(1).map(|table| table.split("</table>").next().unwrap());
     let row = |row: &str| {
         let cells = row.replace("<td class=\"text\">", "<td>").replace("<th>", "<td>");
@@ -32,13 +32,14 @@ const NO_GRAPHVIZ: &str =
 
 /// P3's rows. An inverter has 13 cells and a majority 5: 4 * 13 + 2 * 5 before, 2 * 13 + 2 * 5 after.
 fn p3_rows() -> Vec<Vec<String>> {
-    let rows: [&[&str]; 18] = [
+    let rows: [&[&str]; 19] = [
         &["", "before", "after", "change"],
         &["inputs", "5", "5", ""],
         &["outputs", "1", "1", ""],
         &["nodes", "2", "2", ""],
         &["of these majorities", "2", "2", ""],
         &["of these XORs", "0", "0", ""],
+        &["of these locked", "0", "0", ""],
         &["depth", "2", "2", ""],
         &["complemented edges", "4", "2", "-2 (-50 %)"],
         &["among the words of the nodes that a call named", "", "", "-1"],
@@ -138,9 +139,9 @@ fn moves_in_a_report() {
     let output = run(&["report"], &xors);
     let told = rows(text(&output.stdout));
     let cells = |row: &[&str]| row.iter().map(|cell| cell.to_string()).collect::<Vec<String>>();
-    assert_eq!(told[13], cells(&["all cells", "126", "48", "-78 (-62 %)"]));
+    assert_eq!(told[14], cells(&["all cells", "126", "48", "-78 (-62 %)"]));
     assert_eq!(
-        told[16..],
+        told[17..],
         [
             cells(&["3", "XOR", "2", "word 1 and every reader turn", "3 4", "2 4"]),
             cells(&["4", "XOR", "3", "word 2 and every reader turn", "7 5", "6 4"]),
@@ -154,7 +155,7 @@ fn moves_in_a_report() {
     let page = text(&output.stdout);
     assert!(page.contains(">Settling made 1 round and found no move that lowers the 1 complemented edge.</p>\n"));
     assert!(page.contains("<h2>Nodes that turned: 0 of 1</h2>\n<p>None.</p>\n"));
-    assert_eq!(rows(page)[7], cells(&["complemented edges", "1", "1", "0"]));
+    assert_eq!(rows(page)[8], cells(&["complemented edges", "1", "1", "0"]));
 }
 
 #[test]
@@ -203,7 +204,7 @@ fn a_report_at_the_limits() {
     let page = text(&output.stdout);
     needs_nothing(page);
     assert!(page.contains(&format!("<p class=\"none\">There are {none}.</p>\n")));
-    assert_eq!(rows(page)[13][1..], ["1,366,684", "933,342", "-433,342 (-32 %)"]);
+    assert_eq!(rows(page)[14][1..], ["1,366,684", "933,342", "-433,342 (-32 %)"]);
     let nodes: Vec<String> = (4_097..=104_096).step_by(3).map(|node| node.to_string()).collect();
     let head = "<strong>majority, move 1: words 1, 2 and 3 and every reader turn; nodes: 33,334</strong>";
     assert!(page.contains("<h2>Nodes that turned: 33,334 of 100,000</h2>\n"));

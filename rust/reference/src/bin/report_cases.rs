@@ -2,8 +2,8 @@
 //!
 //!     cargo run --release --manifest-path rust/reference/Cargo.toml --bin report_cases
 //!
-//! The small files stand in crates/settle_report/cases.txt. The large ones are made here: as many nodes and outputs as the
-//! program's tables hold, and what stands at and past the 65,536 bytes that it takes as the whole file.
+//! The small files stand in crates/settle_report/cases.txt. The large ones are made here: as many nodes, outputs and locks as the
+//! program has room for, and what stands at and past the 65,536 bytes that it takes as the whole file.
 
 use std::fs;
 use std::io::Write;
@@ -12,7 +12,7 @@ use std::process::{exit, Command, Stdio};
 use std::thread;
 
 use reference::file::file_of;
-use reference::generate::{graph, small, SHAPES};
+use reference::generate::{graph, locked_one_in, small, with_locks, SHAPES};
 use reference::graph::{Graph, MARK};
 use reference::random::Random;
 use reference::report::{report, MOST_BYTES, MOST_NODES, MOST_OUTPUTS};
@@ -64,8 +64,8 @@ fn stored(text: &str) -> Vec<Case> {
         .collect()
 }
 
-/// The largest file that the program settles: majorities and outputs as many as its tables hold.
-fn largest(random: &mut Random) -> Vec<u8> {
+/// Majorities and outputs as many as the program's tables hold, every node free.
+fn largest(random: &mut Random) -> Graph {
     let mut g = graph(
         random,
         SHAPES[0],
@@ -76,7 +76,40 @@ fn largest(random: &mut Random) -> Vec<u8> {
     for word in g.node_table.iter_mut().filter(|word| **word == MARK) {
         *word = 5;
     }
+    g
+}
+
+/// The same file with the first so many nodes locked: each is a field of 7 bytes.
+fn locked(g: &Graph, many: usize) -> Vec<u8> {
+    let mut g = g.clone();
+    g.locks[..many].fill(1);
     file_of(&g)
+}
+
+/// Locks up to the last byte that the program takes, and past it: 58,690 bytes and 7 * 978 are 65,536, and 979 locks are cut.
+fn many_locks(g: &Graph) -> Vec<Case> {
+    let whole = locked(g, 978);
+    assert_eq!(whole.len(), MOST_BYTES);
+    let mut equal = whole.clone();
+    let last = MOST_BYTES - 4;
+    equal[last] -= 1;
+    let mut none = whole.clone();
+    none[last - 3..=last].copy_from_slice(&(g.inputs + g.nodes + 1).to_be_bytes());
+    vec![
+        case("978 nodes of 2,000 locked, in 65,536 bytes", whole.clone()),
+        case(
+            "978 nodes locked, less the last byte",
+            whole[..MOST_BYTES - 1].to_vec(),
+        ),
+        case(
+            "978 nodes locked, and more bytes",
+            followed(&whole, MOST_BYTES + 9),
+        ),
+        case("the last lock equal to the one before", equal),
+        case("the last lock at no node", none),
+        case("979 nodes locked", locked(g, 979)),
+        case("all of 2,000 nodes locked", locked(g, MOST_NODES)),
+    ]
 }
 
 fn followed(file: &[u8], length: usize) -> Vec<u8> {
@@ -86,7 +119,8 @@ fn followed(file: &[u8], length: usize) -> Vec<u8> {
 }
 
 fn large(random: &mut Random) -> Vec<Case> {
-    let largest = largest(random);
+    let g = largest(random);
+    let largest = file_of(&g);
     assert_eq!(largest.len(), 58_690);
     let p1 = file_of(&of(3, &[[3, 5, 7]], &[9]));
     // 15 + 15 * 4,366 + 7 * 4 + 3 bytes: the whole of the buffer, and more nodes than the tables hold.
@@ -95,7 +129,10 @@ fn large(random: &mut Random) -> Vec<Case> {
     let too_many = of(1, &vec![[2, 2, 3]; MOST_NODES + 1], &[2]);
     let mut damaged = largest.clone();
     damaged[58_690 - 10] = 6;
-    let mut all = vec![
+    let few = locked_one_in(random, g.clone(), 5);
+    let mut all = many_locks(&g);
+    all.extend([
+        case("the largest file with some nodes locked", file_of(&few)),
         case("the largest file", largest.clone()),
         case(
             "the largest file less its last byte",
@@ -105,7 +142,7 @@ fn large(random: &mut Random) -> Vec<Case> {
             "the largest file and one byte more",
             followed(&largest, 58_691),
         ),
-        case("the largest file with a wrong field at its end", damaged),
+        case("the largest file with a lock for its last output", damaged),
         case("2,001 nodes", file_of(&too_many)),
         case("a valid file of 65,536 bytes", whole.clone()),
         case(
@@ -116,7 +153,7 @@ fn large(random: &mut Random) -> Vec<Case> {
             "a valid file of 65,536 bytes, and more",
             followed(&whole, 100_000),
         ),
-    ];
+    ]);
     for length in [MOST_BYTES - 1, MOST_BYTES, MOST_BYTES + 1, 1_000_000] {
         all.push(case(
             &format!("P1 and zeros to {length} bytes"),
@@ -140,20 +177,31 @@ fn large(random: &mut Random) -> Vec<Case> {
 }
 
 fn generated(random: &mut Random) -> Vec<Case> {
-    let mut graphs: Vec<Graph> = (0..40).map(|_| small(random, 9, 12, 6)).collect();
+    let mut graphs: Vec<Graph> = (0..60).map(|_| small(random, 9, 12, 6)).collect();
     graphs.extend(SHAPES.map(|shape| graph(random, shape, 40, 1_500, 300)));
-    let files: Vec<Vec<u8>> = graphs.iter().map(file_of).collect();
-    files
-        .iter()
-        .enumerate()
-        .flat_map(|(at, file)| {
-            let cut = random.below(file.len() as u32) as usize;
-            [
-                case(&format!("generated file {at}"), file.clone()),
-                case(&format!("generated file {at}, cut"), file[..cut].to_vec()),
-            ]
-        })
-        .collect()
+    let mut all = Vec::new();
+    for (at, g) in graphs.into_iter().enumerate() {
+        let index = random.below(g.inputs + g.nodes + 2);
+        let file = file_of(&with_locks(random, g));
+        let cut = random.below(file.len() as u32) as usize;
+        all.push(case(&format!("generated file {at}"), file.clone()));
+        all.push(case(
+            &format!("generated file {at}, cut"),
+            file[..cut].to_vec(),
+        ));
+        all.push(case(
+            &format!("generated file {at}, a lock more"),
+            with_lock(file, index),
+        ));
+    }
+    all
+}
+
+/// The file with one field 06 more before its end.
+fn with_lock(mut file: Vec<u8>, index: u32) -> Vec<u8> {
+    let end = file.len() - 3;
+    file.splice(end..end, [&[6, 0, 4], &index.to_be_bytes()[..]].concat());
+    file
 }
 
 /// What the program prints; it may stop reading before all is handed over.

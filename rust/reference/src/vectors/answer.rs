@@ -55,6 +55,10 @@ fn decoded(words: &[u32]) -> Option<Call> {
     }
 }
 
+fn loaded(file: &[u8], g: &mut Graph) -> Result<(u32, u32, u32), Number> {
+    load(file, &mut g.node_table, &mut g.output_table, &mut g.locks)
+}
+
 /// The number of an answer, 0 where accepted, and both parts of the saving.
 pub fn told(answer: Answer) -> [i64; 3] {
     match answer {
@@ -64,11 +68,11 @@ pub fn told(answer: Answer) -> [i64; 3] {
     }
 }
 
-/// A replay into the tables of `g`: None where it is not made.
+/// A replay into the tables and locks of `g`: None where it is not made.
 fn replayed(case: &Case, g: &mut Graph, answers: &mut [i64]) -> Option<[u32; 3]> {
     let calls: Option<Vec<Call>> = case.calls.chunks(3).map(decoded).collect();
     let calls = calls.filter(|calls| 3 * calls.len() <= answers.len())?;
-    let head = load(&case.bytes, &mut g.node_table, &mut g.output_table).ok()?;
+    let head = loaded(&case.bytes, g).ok()?;
     (g.inputs, g.nodes, g.outputs) = head;
     for (call, three) in calls.iter().zip(answers.chunks_mut(3)) {
         three.copy_from_slice(&told(step(g, *call, case.scratch as usize)));
@@ -101,7 +105,7 @@ pub fn answer(case: &Case) -> String {
             }
         }
         LOAD => {
-            let result = load(&bytes, &mut g.node_table, &mut g.output_table);
+            let result = loaded(&bytes, &mut g);
             line.answer(result.map(|(inputs, nodes, outputs)| [inputs, nodes, outputs]));
         }
         WRITE => {
@@ -116,6 +120,7 @@ pub fn answer(case: &Case) -> String {
     line.bytes(&bytes);
     line.words(&g.node_table);
     line.words(&g.output_table);
+    line.bytes(&g.locks);
     line.0.push('\n');
     line.0
 }

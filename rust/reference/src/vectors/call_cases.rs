@@ -1,7 +1,7 @@
 //! Node, pair, tree and settling calls, and lists of them.
 
 use crate::fast::Fast;
-use crate::generate::{graph, Shape, SHAPES};
+use crate::generate::{graph, locked_one_in, Shape, SHAPES};
 use crate::graph::{Graph, MARK};
 use crate::moves::{best, is_root, tree};
 use crate::random::Random;
@@ -46,7 +46,19 @@ pub fn call_cases(random: &mut Random) -> Vec<Case> {
     ] {
         add(&p[at], TREE, root, 0, scratch);
     }
-    for (which, g) in at_the_edges().iter().enumerate() {
+    let locked = worked_locks();
+    for (at, node) in [(0, 4), (1, 7), (4, 7), (5, 6), (6, 3), (7, 4)] {
+        add(&locked[at], NODE, node, 0, 0);
+    }
+    for at in 1..6 {
+        add(&locked[at], PAIR, 7, 1, 0);
+        add(&locked[at], TREE, 7, 0, 16);
+    }
+    add(&locked[0], TREE, 4, 0, 8);
+    add(&locked[1], TREE, 6, 0, 16);
+    add(&locked[1], TREE, 7, 0, 15);
+    let edges = [at_the_edges(), locks_at_the_edges()].concat();
+    for (which, g) in edges.iter().enumerate() {
         let op = [NODE, PAIR, TREE][which % 3];
         add(
             g,
@@ -56,7 +68,7 @@ pub fn call_cases(random: &mut Random) -> Vec<Case> {
             if which % 2 == 0 { 16 } else { 15 },
         );
     }
-    for g in random_graphs(random, 40, 8) {
+    for g in random_graphs(random, 32, 8) {
         let node = random.below(g.inputs + g.nodes + 2);
         let other = random.between(g.inputs, g.inputs + g.nodes);
         let scratch = 8 * g.nodes;
@@ -76,13 +88,14 @@ pub fn call_cases(random: &mut Random) -> Vec<Case> {
 }
 
 /// Pair calls where a wrong one would differ: both nodes move, the order of the moves compared decides, the
-/// word's node is named twice.
+/// word's node is named twice, a lock at the word's node or at the node changes what the other does.
 pub fn pair_cases(random: &mut Random) -> Vec<Case> {
     let mut all = Vec::new();
-    let mut due = [12, 12, 12];
-    while due != [0, 0, 0] {
+    let mut due = [10, 10, 10, 5, 5];
+    while due != [0; 5] {
         let shape = SHAPES[random.below(8) as usize];
         let g = graph(random, shape, 2, 5, 4);
+        let g = locked_one_in(random, g, 4);
         let node = random.between(g.inputs + 2, g.inputs + g.nodes);
         let word = random.below(g.words_of(node) as u32);
         let named = g.word(node, word as usize) / 2;
@@ -91,6 +104,7 @@ pub fn pair_cases(random: &mut Random) -> Vec<Case> {
         }
         let moves = best(&g, &[named, node]);
         let other = best(&g, &[node, named]);
+        let free = best(&freed(&g), &[named, node]);
         let twice = (0..g.words_of(node))
             .filter(|&at| g.word(node, at) / 2 == named)
             .count()
@@ -99,8 +113,10 @@ pub fn pair_cases(random: &mut Random) -> Vec<Case> {
             moves[0] != 0 && moves[1] != 0,
             [moves[1], moves[0]] != other[..],
             twice && moves[0] != 0,
+            g.is_locked(named) && moves[1] != free[1],
+            g.is_locked(node) && moves[0] != free[0],
         ];
-        if let Some(kind) = (0..3).find(|&kind| tells[kind] && due[kind] > 0) {
+        if let Some(kind) = (0..5).find(|&kind| tells[kind] && due[kind] > 0) {
             due[kind] -= 1;
             all.push(Case {
                 x: node,
@@ -112,16 +128,18 @@ pub fn pair_cases(random: &mut Random) -> Vec<Case> {
     all
 }
 
-/// Trees of many nodes.
+/// Trees of many nodes, of which one in so many is locked.
 pub fn tree_cases(random: &mut Random) -> Vec<Case> {
     let mut all = Vec::new();
-    for (shape, nodes) in [
-        (Shape::Tree, 60),
-        (Shape::Tree, 150),
-        (Shape::Chain, 80),
-        (Shape::Tree, 400),
+    for (shape, nodes, one_in) in [
+        (Shape::Tree, 60, 1_000),
+        (Shape::Tree, 60, 4),
+        (Shape::Tree, 100, 10),
+        (Shape::Chain, 80, 5),
+        (Shape::Tree, 400, 20),
     ] {
         let g = graph(random, shape, 12, nodes, 1);
+        let g = locked_one_in(random, g, one_in);
         let roots: Vec<u32> = g.node_indices().filter(|&node| is_root(&g, node)).collect();
         let largest = roots
             .iter()
@@ -169,6 +187,33 @@ fn settled_without(g: &Graph, part: u32) -> (u32, Graph) {
     }
 }
 
+/// The same graph with no node locked.
+fn freed(g: &Graph) -> Graph {
+    Graph {
+        locks: vec![0; g.locks.len()],
+        ..g.clone()
+    }
+}
+
+/// Graphs that locks matter to beyond the nodes that they are at: a free node ends with other words than without locks.
+fn locked_graphs(random: &mut Random) -> Vec<Graph> {
+    let mut all = Vec::new();
+    while all.len() < 12 {
+        let shape = SHAPES[random.below(8) as usize];
+        let nodes = random.between(3, 9);
+        let g = graph(random, shape, 3, nodes, 4);
+        let g = locked_one_in(random, g, 4);
+        let [kept, free] = [g.clone(), freed(&g)].map(|g| settled_without(&g, 4).1);
+        let differs = |node: u32| (0..3).any(|word| kept.word(node, word) != free.word(node, word));
+        if g.node_indices()
+            .any(|node| !g.is_locked(node) && differs(node))
+        {
+            all.push(g);
+        }
+    }
+    all
+}
+
 /// Graphs that each part of a round matters to.
 fn telling_graphs(random: &mut Random) -> Vec<Graph> {
     let mut all = Vec::new();
@@ -196,9 +241,12 @@ pub fn settle_cases(random: &mut Random) -> Vec<Case> {
             ..Case::new(SETTLE, g)
         })
     };
-    for g in worked() {
-        add(&g, 8 * g.nodes);
-        add(&g, (8 * g.nodes).saturating_sub(1));
+    for g in worked().iter().chain(&worked_locks()) {
+        add(g, 8 * g.nodes);
+        add(g, (8 * g.nodes).saturating_sub(1));
+    }
+    for g in &locks_at_the_edges() {
+        add(g, 16);
     }
     for (which, g) in at_the_edges().iter().enumerate() {
         if which % 3 == 0 {
@@ -208,15 +256,17 @@ pub fn settle_cases(random: &mut Random) -> Vec<Case> {
     for g in random_graphs(random, 30, 9)
         .iter()
         .chain(&telling_graphs(random))
+        .chain(&locked_graphs(random))
     {
         add(g, 8 * g.nodes + random.below(2));
     }
     for shape in SHAPES {
-        let g = graph(random, shape, 8, 40, 8);
-        add(&g, 320);
+        let g = graph(random, shape, 8, 30, 8);
+        add(&locked_one_in(random, g, 6), 240);
     }
     add(&graph(random, Shape::Tree, 12, 300, 4), 2_400);
-    add(&graph(random, Shape::Random, 12, 300, 20), 2_400);
+    let g = graph(random, Shape::Random, 12, 300, 20);
+    add(&locked_one_in(random, g, 10), 2_400);
     all
 }
 
@@ -234,11 +284,12 @@ fn calls_on(random: &mut Random, g: &Graph, many: u32) -> Vec<u32> {
 }
 
 /// Lists of calls on one graph, each by one replay of its file; and replays that are not made, for their words, the room for
-/// answers, the file, the tables.
+/// answers, the file, the tables, the locks.
 pub fn list_cases(random: &mut Random) -> Vec<Case> {
-    let mut graphs = random_graphs(random, 50, 9);
+    let mut graphs = random_graphs(random, 42, 9);
     for shape in SHAPES {
-        graphs.push(graph(random, shape, 9, 30, 6));
+        let g = graph(random, shape, 9, 30, 6);
+        graphs.push(locked_one_in(random, g, 6));
     }
     let mut all: Vec<Case> = graphs
         .iter()
@@ -248,8 +299,8 @@ pub fn list_cases(random: &mut Random) -> Vec<Case> {
             list_of(g, calls, scratch, 60 + random.below(3))
         })
         .collect();
-    for way in 0..14 {
-        let mut case = all[53 + way % 5].clone();
+    for way in 0..16 {
+        let mut case = all[45 + way % 5].clone();
         match way {
             0 => case.calls.push(0),
             1 => drop(case.calls.pop()),
@@ -264,6 +315,12 @@ pub fn list_cases(random: &mut Random) -> Vec<Case> {
             10 => case.g.node_table.truncate(89),
             11 => case.g.output_table.clear(),
             12 => case.calls.clear(),
+            13 => case.g.locks.truncate(29),
+            // A lock at a node that is none, before the end.
+            14 => {
+                let end = case.bytes.len() - 3;
+                case.bytes.splice(end..end, [6, 0, 4, 0, 0, 0, 40]);
+            }
             _ => case.scratch = 0,
         }
         all.push(case);

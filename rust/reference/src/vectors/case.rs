@@ -58,11 +58,12 @@ impl Case {
         }
     }
 
-    /// The case as a list of one call on the file of its graph, where it has one.
+    /// The case as a list of one call on the file of its graph, where it has one. A file of thousands of outputs is left to loading.
     pub fn as_list(&self) -> Option<Case> {
         let calls = self.call()?.to_vec();
         admit(&self.g).ok()?;
-        Some(list_of(&self.g, calls, self.scratch, 3))
+        let small = self.g.outputs < 1_000;
+        small.then(|| list_of(&self.g, calls, self.scratch, 3))
     }
 
     /// The case as bytes, within the space that the program has.
@@ -74,8 +75,13 @@ impl Case {
             bytes + at(WRITE, self.result),
             nodes.len() as u32,
             outputs.len() as u32,
+            self.g.locks.len() as u32,
         ];
-        assert!(lengths[0] <= 65_536 && lengths[1] <= 4_096 && lengths[2] <= 4_352);
+        let space = [65_536, 4_096, 4_352, 2_048];
+        assert!(lengths
+            .iter()
+            .zip(space)
+            .all(|(&length, most)| length <= most));
         let mut all = Vec::new();
         put_words(&mut all, &[1]);
         put_words(&mut all, &lengths);
@@ -83,6 +89,7 @@ impl Case {
         all.extend(&self.bytes);
         put_table(&mut all, nodes);
         put_table(&mut all, outputs);
+        put_locks(&mut all, &self.g.locks);
         put_words(&mut all, &[self.op]);
         match self.op {
             ADMIT | EDGES | WRITE => {
@@ -100,11 +107,12 @@ impl Case {
     }
 }
 
-/// A list of calls on the file of a graph, loaded into tables as long as the graph's, with so many words for the answers.
+/// A list of calls on the file of a graph, loaded into tables and locks as long as the graph's, with so many words for the answers.
 pub fn list_of(g: &Graph, calls: Vec<u32>, scratch: u32, result: u32) -> Case {
     let mut tables = of(0, &[], &[]);
     tables.node_table = vec![1_000; g.node_table.len()];
     tables.output_table = vec![2_000; g.output_table.len()];
+    tables.locks = vec![9; g.locks.len()];
     Case {
         bytes: file_of(g),
         calls,
@@ -114,14 +122,24 @@ pub fn list_of(g: &Graph, calls: Vec<u32>, scratch: u32, result: u32) -> Case {
     }
 }
 
-/// How many words are given, and these: zeros at the end are left out.
+/// Up to the last that is not zero: what is not given reads as zero.
+fn given<T: Copy + Into<u32>>(slice: &[T]) -> &[T] {
+    let last = slice.iter().rposition(|&element| element.into() != 0);
+    &slice[..last.map_or(0, |last| last + 1)]
+}
+
+/// How many words are given, and these.
 fn put_table(all: &mut Vec<u8>, table: &[u32]) {
-    let given = table
-        .iter()
-        .rposition(|&word| word != 0)
-        .map_or(0, |last| last + 1);
-    put_words(all, &[given as u32]);
-    put_words(all, &table[..given]);
+    let given = given(table);
+    put_words(all, &[given.len() as u32]);
+    put_words(all, given);
+}
+
+/// How many bytes are given, and these.
+fn put_locks(all: &mut Vec<u8>, locks: &[u8]) {
+    let given = given(locks);
+    put_words(all, &[given.len() as u32]);
+    all.extend(given);
 }
 
 fn put_words(all: &mut Vec<u8>, words: &[u32]) {

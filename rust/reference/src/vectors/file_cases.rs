@@ -1,16 +1,18 @@
 //! Admission, counting, the tagged file and evaluation.
 
 use crate::file::file_of;
-use crate::generate::{graph, SHAPES};
-use crate::graph::{Graph, MARK};
+use crate::generate::{graph, locked_one_in, SHAPES};
+use crate::graph::{Graph, Room, MARK};
 use crate::random::Random;
 use crate::vectors::case::*;
 use crate::vectors::samples::*;
 
 pub fn admission_cases(random: &mut Random) -> Vec<Case> {
     let mut graphs = worked();
+    graphs.extend(worked_locks());
     graphs.extend(at_the_edges());
-    graphs.extend(random_graphs(random, 40, 10));
+    graphs.extend(locks_at_the_edges());
+    graphs.extend(random_graphs(random, 30, 10));
     graphs.extend(random_graphs(random, 4, 100));
     for g in random_graphs(random, 40, 8) {
         graphs.push(damaged(random, g));
@@ -30,7 +32,16 @@ pub fn field_cases(random: &mut Random) -> Vec<Case> {
         vec![0, 0, 0],
         vec![255, 255, 255],
     ];
-    for (tag, length) in [(1u8, 12u8), (2, 12), (3, 8), (4, 4), (5, 0), (6, 4), (0, 0)] {
+    for (tag, length) in [
+        (1u8, 12u8),
+        (2, 12),
+        (3, 8),
+        (4, 4),
+        (5, 0),
+        (6, 4),
+        (7, 4),
+        (0, 0),
+    ] {
         for stated in [length, length + 1, length.wrapping_sub(1), 12, 0] {
             for high in [0, 1] {
                 let mut bytes = vec![tag, high, stated];
@@ -54,18 +65,103 @@ pub fn field_cases(random: &mut Random) -> Vec<Case> {
         .collect()
 }
 
-fn load_case(file: &[u8], node_words: usize, output_words: usize) -> Case {
+fn load_into(file: &[u8], room: Room) -> Case {
     let mut tables = no_graph();
-    tables.node_table = (0..node_words as u32).map(|word| 1_000 + word).collect();
-    tables.output_table = (0..output_words as u32).map(|word| 2_000 + word).collect();
+    tables.node_table = (1_000..).take(room.node_words).collect();
+    tables.output_table = (2_000..).take(room.output_words).collect();
+    tables.locks = (100..).take(room.lock_bytes).collect();
     Case {
         bytes: file.to_vec(),
         ..Case::new(LOAD, &tables)
     }
 }
 
-pub fn load_cases(random: &mut Random) -> Vec<Case> {
+/// With a lock byte for each node that the table has begun to have room for.
+fn load_case(file: &[u8], node_words: usize, output_words: usize) -> Case {
+    let room = Room {
+        node_words,
+        output_words,
+        lock_bytes: node_words.div_ceil(3),
+    };
+    load_into(file, room)
+}
+
+fn lock_field(index: u32) -> Vec<u8> {
+    [&[6, 0, 4][..], &index.to_be_bytes()].concat()
+}
+
+/// P2's file with these bytes between its output and its end.
+fn p2_with(between: &[u8]) -> Vec<u8> {
+    let file = file_of(&worked()[1]);
+    let (front, end) = file.split_at(file.len() - 3);
+    [front, between, end].concat()
+}
+
+/// Locks that a file says in order, and in no order; fields 06 where none may be, of other lengths and cut; and too few lock bytes.
+fn locked_load_cases() -> Vec<Case> {
+    let load = |file: &[u8], lock_bytes| {
+        let room = Room {
+            lock_bytes,
+            ..Room::of(2, 1)
+        };
+        load_into(file, room)
+    };
     let mut all = Vec::new();
+    for named in [
+        &[][..],
+        &[6],
+        &[7],
+        &[6, 7],
+        &[6, 6],
+        &[7, 6],
+        &[7, 7],
+        &[6, 7, 7],
+        &[6, 7, 8],
+        &[0],
+        &[5],
+        &[5, 6],
+        &[8],
+        &[6, 8],
+        &[MARK],
+        &[6 + (1 << 8)],
+    ] {
+        let fields: Vec<u8> = named.iter().flat_map(|&index| lock_field(index)).collect();
+        all.push(load(&p2_with(&fields), 3));
+    }
+    let both = p2_with(&[lock_field(6), lock_field(7)].concat());
+    for lock_bytes in [0, 1, 2, 4] {
+        all.push(load(&both, lock_bytes));
+        all.push(load(&p2_with(&[]), lock_bytes));
+    }
+    for length in 53..both.len() - 3 {
+        all.push(load(&both[..length], 3));
+    }
+    for between in [
+        &[6, 0, 3, 0, 0, 6][..],
+        &[6, 0, 5, 0, 0, 0, 0, 6],
+        &[6, 1, 4, 0, 0, 0, 6],
+        &[6, 0, 0],
+        &[7, 0, 4, 0, 0, 0, 6],
+        &[4, 0, 4, 0, 0, 0, 14],
+        &[2, 0, 4, 0, 0, 0, 6],
+    ] {
+        all.push(load(&p2_with(between), 3));
+    }
+    // Among the nodes and before the output; after the end; a wrong lock with a wrong output before it, and bytes after it.
+    for at in [15, 30, 45, 55] {
+        let mut file = p2_with(&[]);
+        file.splice(at..at, lock_field(6));
+        all.push(load(&file, 3));
+    }
+    let mut bad_output = p2_with(&lock_field(9));
+    bad_output[51] = 16;
+    all.push(load(&bad_output, 3));
+    all.push(load(&[p2_with(&lock_field(9)), vec![0]].concat(), 3));
+    all
+}
+
+pub fn load_cases(random: &mut Random) -> Vec<Case> {
+    let mut all = locked_load_cases();
     let p1 = file_of(&worked()[0]);
     for length in [40, 39, 0, 1, 2, 3, 15] {
         all.push(load_case(&p1[..length], 5, 3));
@@ -98,7 +194,7 @@ pub fn load_cases(random: &mut Random) -> Vec<Case> {
     marked[18..22].fill(255);
     all.push(load_case(&marked, 3, 1));
     // Cut at every byte, and every byte of the frame changed.
-    let mixed = file_of(&of(2, &[[3, 5, MARK], [6, 1, 2]], &[9, 6]));
+    let mixed = file_of(&of(2, &[[3, 5, MARK], [6, 1, 2]], &[9, 6]).locked_at(&[3, 4]));
     for length in 0..=mixed.len() {
         all.push(load_case(&mixed[..length], 6, 2));
     }
@@ -111,7 +207,7 @@ pub fn load_cases(random: &mut Random) -> Vec<Case> {
         };
         all.push(load_case(&changed, 6, 2));
     }
-    for g in random_graphs(random, 30, 8) {
+    for g in random_graphs(random, 24, 8) {
         let file = file_of(&g);
         let (nodes, outputs) = (3 * g.nodes as usize, g.outputs as usize);
         all.push(load_case(
@@ -140,9 +236,11 @@ pub fn load_cases(random: &mut Random) -> Vec<Case> {
     }
     for shape in SHAPES {
         let g = graph(random, shape, 30, 60, 20);
+        let g = locked_one_in(random, g, 4);
         let mut case = load_case(&file_of(&g), 0, 0);
         case.g.node_table = vec![0; 183];
         case.g.output_table = vec![0; 30];
+        case.g.locks = vec![0; 61];
         all.push(case.clone());
         case.bytes = damaged_file(random, case.bytes);
         all.push(case);
@@ -176,7 +274,7 @@ fn damaged_file(random: &mut Random, mut file: Vec<u8>) -> Vec<u8> {
     let at = random.below(file.len() as u32) as usize;
     match random.below(5) {
         0 => file.truncate(at),
-        1 => file.insert(at, random.below(6) as u8),
+        1 => file.insert(at, random.below(7) as u8),
         2 => {
             file.remove(at);
         }
@@ -194,16 +292,16 @@ pub fn write_cases(random: &mut Random) -> Vec<Case> {
             ..Case::new(WRITE, g)
         })
     };
-    for g in at_the_edges() {
-        add(&g, 100);
+    for g in at_the_edges().iter().chain(&locks_at_the_edges()) {
+        add(g, 100);
     }
-    for g in worked() {
-        let length = file_of(&g).len();
+    for g in worked().iter().chain(&worked_locks()) {
+        let length = file_of(g).len();
         [length, length - 1, length + 3, 0]
             .iter()
-            .for_each(|&result| add(&g, result));
+            .for_each(|&result| add(g, result));
     }
-    for g in random_graphs(random, 25, 8) {
+    for g in random_graphs(random, 20, 8) {
         let length = file_of(&g).len();
         add(&g, length + random.below(2) as usize);
         add(&g, length - 1 - random.below(3) as usize);
@@ -211,6 +309,7 @@ pub fn write_cases(random: &mut Random) -> Vec<Case> {
     }
     for shape in SHAPES {
         let g = graph(random, shape, 25, 50, 20);
+        let g = locked_one_in(random, g, 4);
         let length = file_of(&g).len();
         add(&g, length + 5);
         add(&g, length - 1);
@@ -246,8 +345,8 @@ pub fn evaluate_cases(random: &mut Random) -> Vec<Case> {
         2,
         2,
     ));
-    for g in at_the_edges() {
-        let words: Vec<u64> = (0..3).map(|_| random.word()).collect();
+    for g in [at_the_edges(), locks_at_the_edges()].concat() {
+        let words: Vec<u64> = (0..5).map(|_| random.word()).collect();
         all.push(evaluate_case(
             &g,
             &words,

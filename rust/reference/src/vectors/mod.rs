@@ -3,7 +3,7 @@
 //! How a case stands in the stream is said in crates/vectors/src/main.rt.
 //!
 //! A line has the answer's number (0 where it is accepted), three values of the answer, 0 where it has none, and then slices, each
-//! by its length and a checksum: the bytes and both tables. The field op shows the payload before all this, and writing the length
+//! by its length and a checksum: the bytes, both tables and the locks. The field op shows the payload before all this, and writing the length
 //! after the values. A list of calls shows how many words of answers it has there. A list that is not replayed has the number 1, and shows
 //! scratch before that.
 //!

@@ -1,9 +1,10 @@
 //! Graphs that the cases share.
 
-use crate::generate::{small, with_tails};
+use crate::generate::{small, with_locks, with_tails};
 use crate::graph::{Graph, MARK};
 use crate::random::Random;
 
+/// Every node is free.
 pub fn of(inputs: u32, nodes: &[[u32; 3]], outputs: &[u32]) -> Graph {
     Graph {
         inputs,
@@ -11,6 +12,7 @@ pub fn of(inputs: u32, nodes: &[[u32; 3]], outputs: &[u32]) -> Graph {
         outputs: outputs.len() as u32,
         node_table: nodes.concat(),
         output_table: outputs.to_vec(),
+        locks: vec![0; nodes.len()],
     }
 }
 
@@ -29,6 +31,60 @@ pub fn worked() -> Vec<Graph> {
     ]
 }
 
+/// Worked graphs with locks: P1, P2 with each of its nodes locked and with both, P3 with each, P6, and a node that outputs read.
+pub fn worked_locks() -> Vec<Graph> {
+    let p = worked();
+    let locked = |at: usize, nodes: &[u32]| p[at].clone().locked_at(nodes);
+    vec![
+        locked(0, &[4]),
+        locked(1, &[6]),
+        locked(1, &[7]),
+        locked(1, &[6, 7]),
+        locked(2, &[6]),
+        locked(2, &[7]),
+        locked(4, &[3]),
+        locked(7, &[4]),
+    ]
+}
+
+/// Graphs that are refused, or nearly, by 4 for their locks or by 13.
+pub fn locks_at_the_edges() -> Vec<Graph> {
+    let with = |g: Graph, locks: &[u8]| Graph {
+        locks: locks.to_vec(),
+        ..g
+    };
+    let p2 = of(5, &[[3, 5, 6], [13, 8, 11]], &[14]);
+    let own_named = of(5, &[[3, 5, 6], [14, 8, 11]], &[14]);
+    let far_output = of(5, &[[3, 5, 6], [13, 8, 11]], &[16]);
+    let mut all = Vec::new();
+    for locks in [
+        &[][..],
+        &[1],
+        &[2],
+        &[1, 1],
+        &[2, 1],
+        &[0, 2],
+        &[1, 255],
+        &[0, 1, 2],
+        &[1, 0, 200, 255],
+    ] {
+        all.push(with(p2.clone(), locks));
+    }
+    // 5 comes before 13, wherever each is.
+    for bad in [own_named, far_output] {
+        all.push(with(bad.clone(), &[2, 0]));
+        all.push(with(bad.clone(), &[2]));
+        all.push(Graph {
+            inputs: 4_097,
+            ..with(bad, &[3])
+        });
+    }
+    // No node has no lock.
+    all.push(with(of(1, &[], &[3]), &[]));
+    all.push(with(of(1, &[], &[3]), &[255]));
+    all
+}
+
 /// Graphs that are refused, or nearly, by 3, 4 or 5.
 pub fn at_the_edges() -> Vec<Graph> {
     let bare = |inputs, nodes, outputs| Graph {
@@ -37,6 +93,7 @@ pub fn at_the_edges() -> Vec<Graph> {
         outputs,
         node_table: vec![],
         output_table: vec![],
+        locks: vec![],
     };
     let mut all = vec![bare(0, 0, 0)];
     for (limit, at) in [(4_096, 0), (100_000, 1), (4_096, 2)] {
@@ -98,8 +155,13 @@ pub fn at_the_edges() -> Vec<Graph> {
     all
 }
 
-/// A graph with one word changed to almost anything.
+/// A graph with one word, or one lock, changed to almost anything.
 pub fn damaged(random: &mut Random, mut g: Graph) -> Graph {
+    if random.one_in(4) && !g.locks.is_empty() {
+        let at = random.below(g.locks.len() as u32) as usize;
+        g.locks[at] = random.below(256) as u8;
+        return g;
+    }
     let table = if random.one_in(3) {
         &mut g.output_table
     } else {
@@ -121,6 +183,7 @@ pub fn random_graphs(random: &mut Random, many: u32, most_nodes: u32) -> Vec<Gra
     (0..many)
         .map(|_| {
             let g = small(random, 9, most_nodes, 6);
+            let g = with_locks(random, g);
             with_tails(random, g, 4)
         })
         .collect()

@@ -3,6 +3,7 @@
 use crate::files::{self, Input};
 use crate::formats::{self, Format};
 use crate::graphviz::{self, Failure};
+use crate::locks;
 use crate::parts::Part;
 use crate::picture;
 use crate::turned;
@@ -53,8 +54,16 @@ pub fn compare(asked: &Work, before: &Input, (first, format): (Graph, Format)) -
     let part = part_of(asked, &first, before)?;
     let titles = [("before", before), ("after", after)].map(|(which, input)| format!("{which}: {}", input.title()));
     let bytes = formed(asked, picture::compared([&first, &second], &part, &titles)?)?;
-    let no_moves =
-        |at| format!("no moves lead from {} to {}, as {at} shows: their functions may differ", before.name, after.name);
-    let lines = part.line().into_iter().chain(turned::moves(&first, &second).err().map(no_moves));
+    let lines = part.line().into_iter().chain(said_of([&first, &second], [&before.name, &after.name]));
     Ok(Given { bytes, lines: lines.collect() })
+}
+
+/// What is said of two graphs of the same wiring: that no moves lead from one to the other, that their locks differ, and which nodes
+/// turned though they are locked in the first.
+fn said_of(graphs: [&Graph; 2], names: [&str; 2]) -> Vec<String> {
+    let moves = turned::moves(graphs[0], graphs[1]);
+    let no_moves =
+        |at| format!("no moves lead from {} to {}, as {at} shows: their functions may differ", names[0], names[1]);
+    let turned = moves.as_ref().ok().and_then(|moves| locks::turned(graphs[0], moves, names[0]));
+    [moves.err().map(no_moves), locks::differ(graphs, names), turned].into_iter().flatten().collect()
 }

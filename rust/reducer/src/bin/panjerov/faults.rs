@@ -1,4 +1,5 @@
-//! Where an AIGER text has its first fault: a reader beside the proved one, which tells a number alone.
+//! Where an AIGER text has its first fault, and which lock of a tagged file is none: readers beside the proved ones, which tell a
+//! number alone.
 
 use std::fmt;
 
@@ -129,6 +130,38 @@ impl<'a> Reader<'a> {
     }
 }
 
+/// The number of four bytes at this place.
+fn four(bytes: &[u8], at: usize) -> Option<u32> {
+    bytes.get(at..at + 4)?.try_into().ok().map(u32::from_be_bytes)
+}
+
+/// Where each field of a file begins, as their lengths say.
+fn starts(file: &[u8]) -> impl Iterator<Item = usize> + '_ {
+    let after = |&at: &usize| Some(at + 3 + 256 * usize::from(*file.get(at + 1)?) + usize::from(*file.get(at + 2)?));
+    std::iter::successors(Some(0), after)
+}
+
+/// Which field 06 of a tagged file has an index that is no node's, or not above the one before.
+pub fn bad_lock(file: &[u8]) -> Option<String> {
+    let (inputs, nodes) = (four(file, 3)?, four(file, 7)?);
+    let mut before = None;
+    for at in starts(file).filter(|&at| file.get(at) == Some(&6)) {
+        let index = four(file, at + 3)?;
+        let told = format!("the field 06 at byte {at} has index {index}");
+        if index <= inputs || index - inputs > nodes {
+            return Some(match nodes {
+                0 => format!("{told}, and there are no nodes"),
+                _ => format!("{told}, and nodes are {} to {}", inputs + 1, inputs + nodes),
+            });
+        }
+        match before.replace(index) {
+            Some(last) if index <= last => return Some(format!("{told} after {last}, and indices must rise")),
+            _ => {}
+        }
+    }
+    None
+}
+
 /// The first fault of a text, where tables have room for it.
 pub fn first(text: &[u8]) -> Option<Fault> {
     let mut reader = Reader { rest: text, taken: &[], line: 0, due: Due::Header };
@@ -184,6 +217,35 @@ mod tests {
                 }
             }
         }
+    }
+
+    /// P2 of document 01 with these indices locked: fields 06 begin at byte 52, 7 bytes apart.
+    fn locked(indices: &[u32]) -> Vec<u8> {
+        let mut file = Graph::new(5, vec![3, 5, 6, 13, 8, 11], vec![14]).write().unwrap();
+        let fields: Vec<u8> =
+            indices.iter().flat_map(|index| [&[6, 0, 4], &index.to_be_bytes()[..]].concat()).collect();
+        file.splice(52..52, fields);
+        file
+    }
+
+    #[test]
+    fn locks() {
+        let told = |indices: &[u32]| {
+            let file = locked(indices);
+            let refused = Graph::load(&file).err();
+            assert_eq!(refused.is_some(), bad_lock(&file).is_some());
+            assert!(refused.is_none_or(|refusal| refusal == reducer::Refusal::BadLock));
+            bad_lock(&file).unwrap_or_default()
+        };
+        assert_eq!((told(&[]), told(&[6]), told(&[7]), told(&[6, 7])), Default::default());
+        assert_eq!(told(&[5]), "the field 06 at byte 52 has index 5, and nodes are 6 to 7");
+        assert_eq!(told(&[6, 8]), "the field 06 at byte 59 has index 8, and nodes are 6 to 7");
+        assert_eq!(told(&[u32::MAX]), "the field 06 at byte 52 has index 4294967295, and nodes are 6 to 7");
+        assert_eq!(told(&[7, 6]), "the field 06 at byte 59 has index 6 after 7, and indices must rise");
+        assert_eq!(told(&[6, 7, 7]), "the field 06 at byte 66 has index 7 after 7, and indices must rise");
+        let none = [1, 0, 12, 0, 0, 0, 1, 0, 0, 0, 0, 0, 0, 0, 0, 6, 0, 4, 0, 0, 0, 2, 5, 0, 0];
+        assert_eq!(Graph::load(&none), Err(reducer::Refusal::BadLock));
+        assert_eq!(bad_lock(&none), Some("the field 06 at byte 15 has index 2, and there are no nodes".into()));
     }
 
     fn told(text: &[u8]) -> String {

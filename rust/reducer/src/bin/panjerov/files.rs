@@ -6,7 +6,7 @@ use std::os::unix::fs::{chown, MetadataExt, PermissionsExt};
 use std::path::{Path, PathBuf};
 
 use crate::progress::Progress;
-use reducer::{MOST_INPUTS, MOST_NODES, MOST_OUTPUTS};
+use reducer::{file_bytes, Size, MOST_INPUTS, MOST_NODES, MOST_OUTPUTS};
 
 /// A file as it was read.
 pub struct Input {
@@ -23,10 +23,11 @@ impl Input {
 }
 
 /// How much is read. The longest AIGER text up to its last gate has fewer bytes, each line with the digits that its largest
-/// number has, and so has the longest tagged file; then a line of the largest numbers that there are.
+/// number has; the longest tagged file has its nodes all majorities and all locked; then a line of the largest numbers that there are.
 fn most_bytes() -> u64 {
     let text = 30 + 5 * MOST_INPUTS + 7 * MOST_OUTPUTS + 21 * MOST_NODES;
-    u64::from(text + 64)
+    let file = file_bytes(Size { inputs: MOST_INPUTS, nodes: MOST_NODES, outputs: MOST_OUTPUTS });
+    u64::from(text).max(file as u64) + 64
 }
 
 fn read_from(from: impl Read) -> io::Result<Vec<u8>> {

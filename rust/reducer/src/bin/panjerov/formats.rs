@@ -30,10 +30,11 @@ fn binary(name: &str) -> String {
 
 /// What refuses a tagged file, and what the file looks like.
 fn refused_file(input: &Input, refusal: Refusal) -> String {
-    let looks = match input.bytes.first() {
-        None => "; it is empty",
-        Some(1) => "",
-        Some(_) => "; neither a tagged file nor AIGER text begins so",
+    let looks = match (input.bytes.first(), refusal) {
+        (None, _) => "; it is empty".into(),
+        (Some(1), Refusal::BadLock) => faults::bad_lock(&input.bytes).map_or(String::new(), |why| format!("; {why}")),
+        (Some(1), _) => String::new(),
+        (Some(_), _) => "; neither a tagged file nor AIGER text begins so".into(),
     };
     format!("{}: {refusal}{looks}", input.name)
 }

@@ -10,7 +10,9 @@ Reduces inversions in majority and XOR graphs. The commands:
     settle   turns edges until no move lowers the number of complemented edges
     import   gives the graph as a tagged file
     export   gives the graph as ASCII AIGER text
-    show     tells sizes, kinds, complemented edges and depth
+    lock     locks nodes that are laid out already: from then on they do not turn
+    unlock   frees locked nodes
+    show     tells sizes, kinds, complemented edges, depth and locked nodes
     preview  tells what the best moves of a tree would save, and makes none
     picture  draws the graph, as DOT text for Graphviz, as SVG or as PNG
     report   settles the graph and gives a page with figures, pictures and the nodes that turned
@@ -31,6 +33,10 @@ The last two say where the gain arose: own sums up what each call saved among th
 (one node, a pair or a tree), others what it saved among all other edges. Either may be below 0; together they are
 before less after.
 
+Locked nodes do not turn: only the moves of the others are made. The words of a locked node may still turn, where a
+node that they name turns. The line ends in the number of locked nodes where there are any (locked 2). A tagged file
+that is given has the locks of FILE; AIGER text cannot hold them, which a line on standard error says.
+
 AIGER has ANDs alone: as text, each majority is four ANDs and each XOR three. Between two settlings keep the tagged
 file, which has one node for each AND that was imported.
 ";
@@ -39,7 +45,7 @@ const IMPORT: &str = "\
 usage: panjerov import [FILE] [-o FILE]
 
 Gives the graph as a tagged file. Each AND of AIGER text becomes a majority with the constant false as its first
-word. The text must have no latches, inputs from literal 2 on and gates after them, both rising by 2; what follows
+word, and every node is free. The text must have no latches, inputs from literal 2 on and gates after them, both rising by 2; what follows
 the last gate, symbols and comments, is not read. A tagged file is given back as it is once it has been checked.
 ";
 
@@ -47,6 +53,38 @@ const EXPORT: &str = "\
 usage: panjerov export [FILE] [-o FILE]
 
 Gives the graph as ASCII AIGER text, each majority as four ANDs and each XOR as three, without symbols or comments.
+Locks are lost, which a line on standard error says.
+";
+
+const LOCK: &str = "\
+usage: panjerov lock FILE NODES... [-o FILE]
+
+Locks nodes that are laid out already, those that are locked staying so. A locked node does not turn: settling and
+previews choose among the moves of the other nodes. Its words may still turn, where a node that they name turns.
+
+NODES are indices and runs of them, parted by commas or spaces, or all:
+
+    panjerov lock graph 7 -o locked
+    panjerov lock graph 7,9-12 20 -o locked
+    panjerov lock graph all -o locked
+
+An index that is no node's is refused, and then nothing is written. A line on standard error tells the locked nodes:
+
+    inputs 5 nodes 2 outputs 1 locked 1 at 7
+
+What is given is a tagged file, also where FILE is AIGER text, which cannot hold locks.
+";
+
+const UNLOCK: &str = "\
+usage: panjerov unlock FILE NODES... [-o FILE]
+
+Frees nodes, those that are free staying so. NODES are indices and runs of them, parted by commas or spaces, or all:
+
+    panjerov unlock locked 9-12 -o graph
+    panjerov unlock locked all -o graph
+
+An index that is no node's is refused, and then nothing is written. A line on standard error tells the nodes that are
+still locked. What is given is a tagged file.
 ";
 
 const SHOW: &str = "\
@@ -59,8 +97,10 @@ Tells of the graph:
     majorities 1 xors 0
     complemented edges 4
     depth 1
+    locked nodes 0
 
 Complemented edges from the constant count like all others. The depth is the most nodes on a way from an output down.
+Locked nodes are told as `panjerov unlock` takes them: locked nodes 5 at 7,9-12.
 ";
 
 const PREVIEW: &str = "\
@@ -79,8 +119,10 @@ for each node of the tree by rising index. An edge that two moves turn ends as i
 just one reader and that is a node; its tree is the root with every other node that leads to it through no root. A
 ROOT that is none is refused.
 
+A locked node has move 0, and its line says that it is locked; the line of the tree then ends in their number.
+
 With --moves each line is a node's index and its move, for all nodes of the tree, and the first line above goes to
-standard error.
+standard error, with one that tells the locked nodes of the tree where there are any.
 
 Without ROOT all roots are told, with the sizes of their trees:
 
@@ -95,7 +137,7 @@ usage: panjerov picture [FILE] [--svg|--png] [--output K|--root R] [-o FILE]
 Draws the graph: inputs at the bottom, outputs at the top, majorities as boxes with corners and XORs as round ones.
 Below a node's kind and index are its words 1 to 3, and the edge that each word is ends there. A word is a literal:
 twice the index that it names, and 1 more if the edge is complemented; such an edge has a dot at its end. The
-constant, a 0 in a circle, is drawn at each reader.
+constant, a 0 in a circle, is drawn at each reader. A locked node says so beside its index and has a thick border.
 
 Without an option it gives DOT text, which Graphviz and other programs read. With --svg or --png Graphviz makes the
 picture, by its program dot; where that is not installed or takes more than 4 seconds, nothing is given. A PNG has
@@ -103,7 +145,8 @@ at most 4,800 points a side; SVG stays sharp at every size.
 
 With --compare two graphs of the same wiring, as a graph and what settling made of it, are drawn side by side, and the
 edges that turned are thick and orange in both. One of the two may be -. Other wiring is refused. AIGER text has other
-nodes once it has been settled: compare it with what `panjerov settle --to tagged` gives.
+nodes once it has been settled: compare it with what `panjerov settle --to tagged` gives. Lines on standard error say
+where the locks of the two differ, and which nodes turned though they are locked in BEFORE.
 
 A whole graph is drawn up to 300 nodes, and 600 inputs, nodes and outputs together; a larger one is refused. A part of
 a graph of any size is drawn by one of these, and a line on standard error says what it has:
@@ -121,10 +164,10 @@ usage: panjerov report [FILE] [--output K|--root R] [-o FILE]
 
 Settles the graph and gives one HTML page to hand in, which needs no network and no other file:
 
-    figures    sizes, complemented edges, rounds and cells before and after, at 13 cells an inverter, 5 a majority
-               and 12 an XOR
+    figures    sizes, locked nodes, complemented edges, rounds and cells before and after, at 13 cells an inverter,
+               5 a majority and 12 an XOR
     pictures   before and after, as `panjerov picture` draws them, the edges that turned in colour
-    nodes      those that turned, with their moves and words
+    nodes      those that turned, with their moves and words, and those that are locked
 
 The settled graph itself comes from `panjerov settle`. Of a graph with more than 300 nodes --output K, which draws
 what output K rests on, or --root R, which draws a tree, makes pictures of a part. Where there are none, since
@@ -149,6 +192,8 @@ pub fn of(command: Command) -> String {
         Command::Settle => SETTLE,
         Command::Import => IMPORT,
         Command::Export => EXPORT,
+        Command::Lock => LOCK,
+        Command::Unlock => UNLOCK,
         Command::Show => SHOW,
         Command::Preview => PREVIEW,
         Command::Picture => PICTURE,

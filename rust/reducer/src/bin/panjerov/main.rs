@@ -1,5 +1,5 @@
-//! The program `panjerov`: settles graphs, shows, draws and reports on them, previews their trees, and makes tagged files of
-//! AIGER texts and back.
+//! The program `panjerov`: settles graphs, shows, draws and reports on them, previews their trees, locks their nodes, and makes
+//! tagged files of AIGER texts and back.
 
 mod drawing;
 mod faults;
@@ -7,6 +7,7 @@ mod files;
 mod formats;
 mod graphviz;
 mod help;
+mod locks;
 mod nodes;
 mod parts;
 mod picture;
@@ -24,7 +25,7 @@ use std::process::ExitCode;
 use files::Input;
 use formats::Format;
 use progress::Progress;
-use reducer::{Settled, Size};
+use reducer::{Graph, Settled, Size};
 use words::{Asked, Command, Work};
 
 /// A line on standard error. Where that cannot be written to, nobody reads it.
@@ -32,12 +33,16 @@ fn say(line: &str) {
     let _ = writeln!(io::stderr(), "{line}");
 }
 
+fn sizes_of(graph: &Graph) -> String {
+    let Size { inputs, nodes, outputs } = graph.size;
+    format!("inputs {inputs} nodes {nodes} outputs {outputs}")
+}
+
 /// The line with the figures of settling.
-fn figures_of(size: Size, settled: Settled) -> String {
-    let Size { inputs, nodes, outputs } = size;
+fn figures_of(graph: &Graph, settled: Settled) -> String {
     let Settled { rounds, before, after, own, others } = settled;
-    let sizes = format!("inputs {inputs} nodes {nodes} outputs {outputs}");
-    format!("{sizes} before {before} after {after} rounds {rounds} own {own} others {others}")
+    let (sizes, locked) = (sizes_of(graph), locks::words(graph));
+    format!("{sizes} before {before} after {after} rounds {rounds} own {own} others {others}{locked}")
 }
 
 /// What a command gives, and the lines beside it.
@@ -46,29 +51,39 @@ struct Given {
     lines: Vec<String>,
 }
 
+/// The graph in a format, with a line that says so where its locks are lost by it.
+fn formed(graph: &Graph, format: Format, mut lines: Vec<String>) -> Result<Given, String> {
+    if format == Format::Aiger {
+        lines.extend(locks::lost(graph));
+    }
+    Ok(Given { bytes: formats::bytes_of(graph, format)?, lines })
+}
+
 fn given(asked: &Work, input: &Input) -> Result<Given, String> {
     let (mut graph, got) = formats::graph_of(input)?;
-    let mut line = None;
-    let bytes = match asked.command {
+    match asked.command {
         Command::Settle => {
             let settled = graph.settle().map_err(|refusal| refusal.to_string())?;
-            line = Some(figures_of(graph.size, settled));
-            formats::bytes_of(&graph, asked.to.unwrap_or(got))?
+            formed(&graph, asked.to.unwrap_or(got), vec![figures_of(&graph, settled)])
         }
-        Command::Import => formats::bytes_of(&graph, Format::Tagged)?,
-        Command::Export => formats::bytes_of(&graph, Format::Aiger)?,
-        Command::Show => show::text_of(&graph, got)?.into_bytes(),
+        Command::Import => formed(&graph, Format::Tagged, vec![]),
+        Command::Export => formed(&graph, Format::Aiger, vec![]),
+        Command::Lock | Command::Unlock => {
+            let lock = asked.command == Command::Lock;
+            locks::set(&mut graph, &asked.nodes, lock).map_err(|why| format!("{}: {why}", input.name))?;
+            let locked = locks::told(&locks::of(&graph));
+            formed(&graph, Format::Tagged, vec![format!("{} locked {locked}", sizes_of(&graph))])
+        }
+        Command::Show => Ok(Given { bytes: show::text_of(&graph, got)?.into_bytes(), lines: vec![] }),
         Command::Preview => {
             let told = preview::of(&graph, asked.root, asked.only_moves);
             let told = told.map_err(|why| format!("{}: {why}", input.name))?;
-            line = told.figures;
-            told.text.into_bytes()
+            Ok(Given { bytes: told.text.into_bytes(), lines: told.lines })
         }
-        Command::Picture if asked.compare => return drawing::compare(asked, input, (graph, got)),
-        Command::Picture => return drawing::draw(asked, input, &graph),
-        Command::Report => return report::of(input, &graph, asked.wanted),
-    };
-    Ok(Given { bytes, lines: line.into_iter().collect() })
+        Command::Picture if asked.compare => drawing::compare(asked, input, (graph, got)),
+        Command::Picture => drawing::draw(asked, input, &graph),
+        Command::Report => report::of(input, &graph, asked.wanted),
+    }
 }
 
 fn work(asked: &Work) -> Result<(), String> {

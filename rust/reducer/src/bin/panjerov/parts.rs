@@ -189,8 +189,7 @@ mod tests {
     use reducer::MARK;
 
     fn graph(inputs: u32, node_table: &[u32], output_table: &[u32]) -> Graph {
-        let size = Size { inputs, nodes: node_table.len() as u32 / 3, outputs: output_table.len() as u32 };
-        Graph { size, node_table: node_table.to_vec(), output_table: output_table.to_vec() }
+        Graph::new(inputs, node_table.to_vec(), output_table.to_vec())
     }
 
     /// Node 4 is a root that node 6 reads; node 5 is of node 6's tree.

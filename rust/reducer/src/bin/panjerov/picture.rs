@@ -1,5 +1,6 @@
 //! Pictures as DOT text, which Graphviz draws: inputs below, outputs above, a dot on each complemented edge.
 
+use crate::locks::is_locked;
 use crate::nodes::{is_xor, words_of};
 use crate::parts::{count, Part};
 use reducer::Graph;
@@ -15,8 +16,9 @@ const LOOKS: &str = "    graph [rankdir=BT, ranksep=0.5, nodesep=0.25, nslimit=2
 ";
 const MAJORITY: &str = "shape=record, fillcolor=\"#dcebf7\"";
 const XOR: &str = "shape=Mrecord, fillcolor=\"#fbdf9d\"";
-/// Thick, so that it is seen in black and white.
+/// Thick, so that it is seen in black and white, as is the border of a locked node.
 const TURNED: &str = "color=\"#d55e00\", penwidth=2.5";
+const LOCKED: &str = ", penwidth=3";
 const CONSTANT: &str = "label=\"0\", shape=circle, width=0.2, fixedsize=true, fontsize=9";
 
 /// The most levels that edges may cross, all together, for inputs to stand in one row at the bottom and outputs at the top.
@@ -106,8 +108,18 @@ impl<'a> Side<'a> {
         opening.into_iter().chain(inner).chain(["}".to_string()]).collect()
     }
 
+    /// What a box says first. The word makes it wider, and the two sides of a comparison differ in it only where their locks do.
     fn kind(&self, node: u32) -> String {
-        format!("{} {node}", if is_xor(self.graph, node) { "XOR" } else { "majority" })
+        let locked = if is_locked(self.graph, node) { " locked" } else { "" };
+        format!("{} {node}{locked}", if is_xor(self.graph, node) { "XOR" } else { "majority" })
+    }
+
+    fn border(&self, node: u32) -> &'static str {
+        if is_locked(self.graph, node) {
+            LOCKED
+        } else {
+            ""
+        }
     }
 
     fn node_lines(&self, node: u32) -> Vec<String> {
@@ -115,7 +127,8 @@ impl<'a> Side<'a> {
         let cells: Vec<String> =
             edges.words.iter().zip(1..).map(|(literal, word)| format!("<w{word}> {literal}")).collect();
         let look = if is_xor(self.graph, node) { XOR } else { MAJORITY };
-        let own = format!("{} [label=\"{{{}|{{{}}}}}\", {look}];", edges.reader, self.kind(node), cells.join("|"));
+        let (kind, cells, border) = (self.kind(node), cells.join("|"), self.border(node));
+        let own = format!("{} [label=\"{{{kind}|{{{cells}}}}}\", {look}{border}];", edges.reader);
         [vec![own], self.edge_lines(&edges)].concat()
     }
 
@@ -129,7 +142,10 @@ impl<'a> Side<'a> {
         let Part { inputs, nodes, beyond, outputs, .. } = self.part;
         let input = |at: &u32| format!("{}i{at} [label=\"input {at}\"];", self.prefix);
         let mut lines = self.row("source", inputs.iter().map(input).collect());
-        let dashed = |&at: &u32| format!("{}n{at} [label=\"{}\", style=dashed];", self.prefix, self.kind(at));
+        let dashed = |&at: &u32| {
+            let (prefix, kind, border) = (self.prefix, self.kind(at), self.border(at));
+            format!("{prefix}n{at} [label=\"{kind}\", style=dashed{border}];")
+        };
         lines.extend(beyond.iter().map(dashed));
         lines.extend(nodes.iter().flat_map(|&node| self.node_lines(node)));
         lines.extend(self.row("sink", outputs.iter().map(|&at| self.output_line(at)).collect()));
@@ -139,6 +155,12 @@ impl<'a> Side<'a> {
 
     fn complemented(&self) -> usize {
         self.edges().map(|edges| edges.words.iter().filter(|&literal| literal % 2 == 1).count()).sum()
+    }
+
+    /// How many boxes are those of locked nodes.
+    fn locked(&self) -> usize {
+        let boxes = self.part.nodes.iter().chain(&self.part.beyond);
+        boxes.filter(|&&node| is_locked(self.graph, node)).count()
     }
 
     fn turned(&self) -> usize {
@@ -169,7 +191,17 @@ fn crossed(graph: &Graph, part: &Part) -> usize {
     crossed
 }
 
-/// What stands above a graph: its title, what is drawn of it, its dots, and where inputs are to be looked for.
+/// What thick borders mean, and how many there are; none where no node of the graph is locked.
+fn locked_line(side: &Side) -> Option<String> {
+    let drawn = count(side.locked(), "locked node");
+    match (side.graph.locked(), side.part.whole) {
+        (0, _) => None,
+        (_, true) => Some(format!("{drawn}, each with a thick border")),
+        (all, false) => Some(format!("{drawn} of the whole graph's {all}, each with a thick border")),
+    }
+}
+
+/// What stands above a graph: its title, what is drawn of it, its dots, its locks, and where inputs are to be looked for.
 fn label(side: &Side, title: &str) -> Result<String, String> {
     let drawn = count(side.complemented(), "complemented edge");
     let all = side.graph.complemented_edges().map_err(|refusal| refusal.to_string())?;
@@ -179,7 +211,8 @@ fn label(side: &Side, title: &str) -> Result<String, String> {
     };
     let near = "inputs and outputs stand near their nodes, since the graph is deep";
     let near = if side.rows { None } else { Some(near) };
-    let lines = [title, &side.part.told, &dots].into_iter().chain(near);
+    let locked = locked_line(side);
+    let lines = [title, &side.part.told, &dots].into_iter().chain(locked.as_deref()).chain(near);
     Ok(format!("label=\"{}\";", lines.map(quoted).collect::<Vec<String>>().join("\\n")))
 }
 

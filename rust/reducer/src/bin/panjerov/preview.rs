@@ -1,12 +1,13 @@
 //! What `panjerov preview` tells.
 
+use crate::locks::listed;
 use crate::trees::{Kinds, Trees};
 use reducer::{Graph, Refusal, Saving};
 
-/// What is given, and the line beside it, if there is one.
+/// What is given, and the lines beside it.
 pub struct Told {
     pub text: String,
-    pub figures: Option<String>,
+    pub lines: Vec<String>,
 }
 
 /// What a move turns, by kind and number.
@@ -33,17 +34,23 @@ fn refused(graph: &Graph, index: u32, refusal: Refusal) -> String {
     }
 }
 
-/// A line a node of the tree, in words or as numbers alone.
-fn lines(trees: &Trees, moved: &[(u32, u8)], only_moves: bool) -> String {
+/// A line a node of the tree, in words.
+fn lines(trees: &Trees, moved: &[(u32, u8)]) -> String {
     let line = |&(node, number): &(u32, u8)| {
         let xor = trees.is_xor(node);
         let kind = if xor { "xor" } else { "majority" };
-        match only_moves {
-            true => format!("{node} {number}\n"),
-            false => format!("node {node} {kind} move {number}: {}\n", turns(xor, number)),
-        }
+        let locked = if trees.is_locked(node) { ", for it is locked" } else { "" };
+        format!("node {node} {kind} move {number}: {}{locked}\n", turns(xor, number))
     };
     moved.iter().map(line).collect()
+}
+
+/// A line a node of the tree, as numbers alone; beside them the figures, and which nodes are locked.
+fn only_numbers(trees: &Trees, moved: &[(u32, u8)], figures: String) -> Told {
+    let locked: Vec<u32> = moved.iter().map(|&(node, _)| node).filter(|&node| trees.is_locked(node)).collect();
+    let told = (!locked.is_empty()).then(|| format!("locked in the tree: {}", listed(&locked)));
+    let text = moved.iter().map(|(node, number)| format!("{node} {number}\n")).collect();
+    Told { text, lines: [figures].into_iter().chain(told).collect() }
 }
 
 fn tree_of(graph: &Graph, root: u32, only_moves: bool) -> Result<Told, Refusal> {
@@ -56,13 +63,15 @@ fn tree_of(graph: &Graph, root: u32, only_moves: bool) -> Result<Told, Refusal> 
     let mut kinds = Kinds::default();
     let mut moved = Vec::new();
     for node in trees.tree(root) {
-        kinds.add(trees.is_xor(node));
+        kinds.add(trees.is_xor(node), trees.is_locked(node));
         moved.push((node, told.moves[(node - graph.size.inputs - 1) as usize]));
     }
-    let lines = lines(&trees, &moved, only_moves);
     Ok(match only_moves {
-        true => Told { text: lines, figures: Some(figures) },
-        false => Told { text: format!("{figures}\ntree {}\n{lines}", kinds.told()), figures: None },
+        true => only_numbers(&trees, &moved, figures),
+        false => {
+            let text = format!("{figures}\ntree {}\n{}", kinds.told(), lines(&trees, &moved));
+            Told { text, lines: vec![] }
+        }
     })
 }
 
@@ -70,6 +79,6 @@ fn tree_of(graph: &Graph, root: u32, only_moves: bool) -> Result<Told, Refusal> 
 pub fn of(graph: &Graph, root: Option<u32>, only_moves: bool) -> Result<Told, String> {
     match root {
         Some(root) => tree_of(graph, root, only_moves).map_err(|refusal| refused(graph, root, refusal)),
-        None => Ok(Told { text: roots_of(graph), figures: None }),
+        None => Ok(Told { text: roots_of(graph), lines: vec![] }),
     }
 }

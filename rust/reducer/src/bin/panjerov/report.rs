@@ -4,6 +4,7 @@ use std::thread;
 
 use crate::files::Input;
 use crate::graphviz::{self, Form};
+use crate::locks;
 use crate::nodes::{is_xor, words_of};
 use crate::parts::{count, Part, Wanted};
 use crate::picture;
@@ -88,12 +89,21 @@ impl Report<'_> {
         self.nodes().filter(|&(node, _)| is_xor(self.before, node)).count() as u64
     }
 
+    /// That some nodes were locked, in the summary.
+    fn locked_sentence(&self) -> String {
+        match self.before.locked() {
+            0 => String::new(),
+            1 => " One node is locked and did not turn.".into(),
+            locked => format!(" {} nodes are locked and did not turn.", grouped(locked.into())),
+        }
+    }
+
     fn summary(&self) -> String {
         let Settled { rounds, before, after, .. } = self.settled;
         let rounds = count(rounds as usize, "round");
         let edges =
             |many: u32| format!("{} complemented edge{}", grouped(many.into()), if many == 1 { "" } else { "s" });
-        match before - after {
+        let settled = match before - after {
             0 => format!("Settling made {rounds} and found no move that lowers the {}.", edges(before)),
             saved => format!(
                 "Settling made {rounds} and took the graph from {} to {}: {} cells fewer, with the same wiring and function.",
@@ -101,7 +111,8 @@ impl Report<'_> {
                 grouped(after.into()),
                 grouped(CELLS[0] * u64::from(saved))
             ),
-        }
+        };
+        settled + &self.locked_sentence()
     }
 
     fn figures(&self) -> String {
@@ -122,6 +133,7 @@ impl Report<'_> {
             same("nodes", nodes),
             same("of these majorities", nodes - xors),
             same("of these XORs", xors),
+            same("of these locked", self.before.locked().into()),
             same("depth", depth(self.before).into()),
             fell("complemented edges", [before.into(), after.into()]).replace("<tr>", "<tr class=\"main\">"),
             part("among the words of the nodes that a call named", own),
@@ -173,6 +185,15 @@ impl Report<'_> {
         };
         format!("<h2>Nodes that turned: {some} of {all}</h2>\n{told}")
     }
+
+    fn locked_section(&self) -> String {
+        let locked = locks::of(self.before);
+        let [some, all] = [locked.len(), self.moves.len()].map(|many| grouped(many as u64));
+        match locked.len() {
+            0 => String::new(),
+            _ => format!("<h2>Locked nodes: {some} of {all}</h2>\n<p>{}</p>\n", runs(&locked)),
+        }
+    }
 }
 
 /// An SVG of Graphviz as a part of a page: without its head, and with names that no other picture has.
@@ -215,7 +236,7 @@ fn page(report: &Report, pictures: &str) -> String {
     let head =
         format!("<meta charset=\"utf-8\">\n<title>{name}: complemented edges</title>\n<style>\n{STYLE}</style>\n");
     let top = format!("<h1>{name}</h1>\n<p class=\"summary\">{}</p>\n", report.summary());
-    let parts = [top, report.figures(), pictures.into(), report.turned_section()].concat();
+    let parts = [top, report.figures(), pictures.into(), report.turned_section(), report.locked_section()].concat();
     format!("<!DOCTYPE html>\n<html lang=\"en\">\n<head>\n{head}</head>\n<body>\n{parts}</body>\n</html>\n")
 }
 
@@ -232,7 +253,7 @@ pub fn of(input: &Input, graph: &Graph, wanted: Wanted) -> Result<Given, String>
     let drawn = part.as_ref().ok().and_then(|part| part.line());
     let report = Report { name: input.title(), before: graph, after, settled, moves };
     let (section, none) = picture_section(&report, part);
-    let lines = [Some(figures_of(graph.size, settled)), none.or(drawn)].into_iter().flatten().collect();
+    let lines = [Some(figures_of(graph, settled)), none.or(drawn)].into_iter().flatten().collect();
     Ok(Given { bytes: page(&report, &section).into_bytes(), lines })
 }
 

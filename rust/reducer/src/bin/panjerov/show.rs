@@ -1,6 +1,7 @@
 //! What `panjerov show` tells.
 
 use crate::formats::Format;
+use crate::locks;
 use reducer::{Graph, Size, MARK};
 
 /// The most nodes on a way from an output down, of a graph that the library has admitted.
@@ -22,10 +23,11 @@ pub fn text_of(graph: &Graph, format: Format) -> Result<String, String> {
     let xors = graph.node_table.chunks_exact(3).filter(|words| words[2] == MARK).count() as u32;
     Ok(format!(
         "format {}\ninputs {inputs} nodes {nodes} outputs {outputs}\nmajorities {} xors {xors}\n\
-         complemented edges {complemented}\ndepth {}\n",
+         complemented edges {complemented}\ndepth {}\nlocked nodes {}\n",
         format.name(),
         nodes - xors,
-        depth(graph)
+        depth(graph),
+        locks::told(&locks::of(graph))
     ))
 }
 
@@ -34,8 +36,7 @@ mod tests {
     use super::*;
 
     fn depth_of(inputs: u32, node_table: &[u32], output_table: &[u32]) -> u32 {
-        let size = Size { inputs, nodes: node_table.len() as u32 / 3, outputs: output_table.len() as u32 };
-        depth(&Graph { size, node_table: node_table.to_vec(), output_table: output_table.to_vec() })
+        depth(&Graph::new(inputs, node_table.to_vec(), output_table.to_vec()))
     }
 
     #[test]

@@ -1,5 +1,6 @@
 //! The trees of a graph.
 
+use crate::locks::is_locked;
 use crate::nodes::is_xor;
 use reducer::{Graph, Size};
 
@@ -10,11 +11,12 @@ pub struct Trees<'a> {
     roots: Vec<u32>,
 }
 
-/// How many nodes of each kind a tree has.
+/// How many nodes of each kind a tree has, and how many of them are locked.
 #[derive(Clone, Copy, Debug, Default, PartialEq, Eq)]
 pub struct Kinds {
     pub majorities: u32,
     pub xors: u32,
+    pub locked: u32,
 }
 
 impl Trees<'_> {
@@ -44,6 +46,10 @@ impl Trees<'_> {
 
     pub fn is_xor(&self, node: u32) -> bool {
         is_xor(self.graph, node)
+    }
+
+    pub fn is_locked(&self, node: u32) -> bool {
+        is_locked(self.graph, node)
     }
 
     /// The root of a node's tree; none where the index is no node's.
@@ -76,7 +82,7 @@ impl Trees<'_> {
         let mut kinds = vec![Kinds::default(); self.roots.len()];
         let first = self.graph.size.inputs + 1;
         for (node, root) in self.nodes() {
-            kinds[(root - first) as usize].add(self.is_xor(node));
+            kinds[(root - first) as usize].add(self.is_xor(node), self.is_locked(node));
         }
         let is_root = |&(node, root): &(u32, u32)| node == root;
         self.nodes().filter(is_root).map(|(node, _)| (node, kinds[(node - first) as usize])).collect()
@@ -84,17 +90,19 @@ impl Trees<'_> {
 }
 
 impl Kinds {
-    pub fn add(&mut self, xor: bool) {
+    pub fn add(&mut self, xor: bool, locked: bool) {
         if xor {
             self.xors += 1;
         } else {
             self.majorities += 1;
         }
+        self.locked += u32::from(locked);
     }
 
     pub fn told(self) -> String {
-        let Kinds { majorities, xors } = self;
-        format!("nodes {} majorities {majorities} xors {xors}", majorities + xors)
+        let Kinds { majorities, xors, locked } = self;
+        let locked = if locked == 0 { String::new() } else { format!(" locked {locked}") };
+        format!("nodes {} majorities {majorities} xors {xors}{locked}", majorities + xors)
     }
 }
 
@@ -104,8 +112,7 @@ mod tests {
     use reducer::{Refusal, MARK};
 
     fn graph(inputs: u32, node_table: &[u32], output_table: &[u32]) -> Graph {
-        let size = Size { inputs, nodes: node_table.len() as u32 / 3, outputs: output_table.len() as u32 };
-        Graph { size, node_table: node_table.to_vec(), output_table: output_table.to_vec() }
+        Graph::new(inputs, node_table.to_vec(), output_table.to_vec())
     }
 
     fn roots_of(graph: &Graph) -> Vec<u32> {
@@ -126,8 +133,12 @@ mod tests {
         let trees = Trees::of(&two);
         assert_eq!((trees.root_of(3), trees.root_of(7), trees.root_of(u32::MAX)), (None, None, None));
         assert_eq!(trees.tree(6).collect::<Vec<u32>>(), [5, 6]);
-        let kinds = |majorities, xors| Kinds { majorities, xors };
-        assert_eq!(trees.roots(), [(4, kinds(1, 0)), (6, kinds(1, 1))]);
+        let kinds = |majorities, xors, locked| Kinds { majorities, xors, locked };
+        assert_eq!(trees.roots(), [(4, kinds(1, 0, 0)), (6, kinds(1, 1, 0))]);
+        let mut locked = two.clone();
+        [5, 6].iter().for_each(|&node| locked.lock(node).unwrap());
+        assert_eq!(Trees::of(&locked).roots(), [(4, kinds(1, 0, 0)), (6, kinds(1, 1, 2))]);
+        assert_eq!(kinds(1, 1, 2).told(), "nodes 2 majorities 1 xors 1 locked 2");
     }
 
     /// The library takes just these roots, and moves no node of another tree.

@@ -77,11 +77,10 @@ pub fn moves(before: &Graph, after: &Graph) -> Result<Vec<u8>, String> {
 #[cfg(test)]
 mod tests {
     use super::*;
-    use reducer::{Size, MARK};
+    use reducer::MARK;
 
     fn graph(inputs: u32, node_table: &[u32], output_table: &[u32]) -> Graph {
-        let size = Size { inputs, nodes: node_table.len() as u32 / 3, outputs: output_table.len() as u32 };
-        Graph { size, node_table: node_table.to_vec(), output_table: output_table.to_vec() }
+        Graph::new(inputs, node_table.to_vec(), output_table.to_vec())
     }
 
     #[test]

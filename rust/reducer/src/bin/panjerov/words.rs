@@ -6,6 +6,7 @@ use std::path::PathBuf;
 use crate::formats::Format;
 use crate::graphviz::Form;
 use crate::help;
+use crate::locks::{self, Named};
 use crate::parts::Wanted;
 
 #[derive(Clone, Copy, Debug, PartialEq, Eq)]
@@ -13,6 +14,8 @@ pub enum Command {
     Settle,
     Import,
     Export,
+    Lock,
+    Unlock,
     Show,
     Preview,
     Picture,
@@ -25,6 +28,8 @@ impl Command {
             "settle" => Some(Command::Settle),
             "import" => Some(Command::Import),
             "export" => Some(Command::Export),
+            "lock" => Some(Command::Lock),
+            "unlock" => Some(Command::Unlock),
             "show" => Some(Command::Show),
             "preview" => Some(Command::Preview),
             "picture" => Some(Command::Picture),
@@ -38,6 +43,8 @@ impl Command {
             Command::Settle => "settle",
             Command::Import => "import",
             Command::Export => "export",
+            Command::Lock => "lock",
+            Command::Unlock => "unlock",
             Command::Show => "show",
             Command::Preview => "preview",
             Command::Picture => "picture",
@@ -51,11 +58,17 @@ impl Command {
             Command::Settle => "settling",
             Command::Import => "importing",
             Command::Export => "exporting",
+            Command::Lock => "locking nodes of",
+            Command::Unlock => "freeing nodes of",
             Command::Show => "looking at",
             Command::Preview => "previewing",
             Command::Picture => "drawing",
             Command::Report => "reporting on",
         }
+    }
+
+    fn sets_locks(self) -> bool {
+        matches!(self, Command::Lock | Command::Unlock)
     }
 }
 
@@ -67,6 +80,8 @@ pub struct Work {
     pub output: Option<PathBuf>,
     /// What settling gives; none is what it got.
     pub to: Option<Format>,
+    /// Which nodes are locked or freed.
+    pub nodes: Vec<Named>,
     /// Whose tree is previewed; none is a list of the roots.
     pub root: Option<u32>,
     /// Whether a preview gives its moves alone.
@@ -88,6 +103,7 @@ impl Work {
             input: None,
             output: None,
             to: None,
+            nodes: Vec::new(),
             root: None,
             only_moves: false,
             wanted: Wanted::Whole,
@@ -155,10 +171,43 @@ fn root_named(word: &str) -> Result<u32, String> {
     number_named(word, "ROOT is the index of a node")
 }
 
-/// Puts the words that are no options: FILE, and after it the ROOT of a preview; or BEFORE and AFTER.
+/// Puts NODES, which are all words after FILE.
+fn put_nodes(work: &mut Work, words: impl Iterator<Item = OsString>) -> Result<(), String> {
+    for word in words {
+        work.nodes.extend(locks::named(&word.to_string_lossy())?);
+    }
+    if work.nodes.is_empty() {
+        return Err(locks::missing());
+    }
+    Ok(())
+}
+
+/// That what a command gives can hold locks.
+fn holds_locks(work: &Work) -> Result<(), String> {
+    let name = work.command.name();
+    if work.to == Some(Format::Aiger) {
+        return Err(format!("AIGER text cannot hold locks: {name} gives a tagged file"));
+    }
+    let is_aiger = |path: &&PathBuf| {
+        let ending = path.extension().unwrap_or_default();
+        ["aag", "aig"].iter().any(|aiger| ending.eq_ignore_ascii_case(aiger))
+    };
+    match work.output.as_ref().filter(is_aiger) {
+        Some(path) => Err(format!(
+            "{} has the ending of AIGER, which cannot hold locks: {name} gives a tagged file, so give it another name",
+            path.display()
+        )),
+        None => Ok(()),
+    }
+}
+
+/// Puts the words that are no options: FILE, and after it NODES or the ROOT of a preview; or BEFORE and AFTER.
 fn put_plain(work: &mut Work, plain: Vec<OsString>) -> Result<(), String> {
     let mut plain = plain.into_iter();
     work.input = plain.next().and_then(file);
+    if work.command.sets_locks() {
+        return put_nodes(work, plain);
+    }
     match plain.next() {
         Some(word) if work.command == Command::Preview => work.root = Some(root_named(&word.to_string_lossy())?),
         Some(word) if work.compare => work.after = file(word),
@@ -206,7 +255,9 @@ fn asked_of(command: Command, mut words: impl Iterator<Item = OsString>) -> Resu
             _ if only_files || text == "-" || !text.starts_with('-') => plain.push(word),
             "--help" | "-h" => return Ok(Asked::Help(help::of(command))),
             "-o" => put(&mut output, words.next().ok_or("-o wants a file after it")?, "-o")?,
-            "--to" if command == Command::Settle => put(&mut work.to, format_named(words.next())?, "--to")?,
+            "--to" if command == Command::Settle || command.sets_locks() => {
+                put(&mut work.to, format_named(words.next())?, "--to")?
+            }
             "--moves" if command == Command::Preview => work.only_moves = true,
             "--" => only_files = true,
             _ if matches!(command, Command::Picture | Command::Report) => {
@@ -219,7 +270,11 @@ fn asked_of(command: Command, mut words: impl Iterator<Item = OsString>) -> Resu
     if work.only_moves && work.root.is_none() {
         return Err("--moves wants FILE and ROOT".into());
     }
-    Ok(Asked::Work(Work { output: output.and_then(file), ..work }))
+    work.output = output.and_then(file);
+    if command.sets_locks() {
+        holds_locks(&work)?;
+    }
+    Ok(Asked::Work(work))
 }
 
 #[cfg(test)]
@@ -265,6 +320,27 @@ mod tests {
         assert_eq!(of(&["preview", "-", "007", "--moves"]), preview(None, None, Some(7), true));
         assert_eq!(of(&["preview", "--moves", "a", "-o", "b", "0"]), preview(Some("a"), Some("b"), Some(0), true));
         assert_eq!(of(&["preview", "--", "-a", "4294967295"]), preview(Some("-a"), None, Some(u32::MAX), false));
+    }
+
+    #[test]
+    fn files_and_nodes() {
+        let set = |command, input: Option<&str>, output: Option<&str>, nodes: &[Named]| {
+            let (input, output) = (input.map(PathBuf::from), output.map(PathBuf::from));
+            Ok(Asked::Work(Work { input, output, nodes: nodes.to_vec(), ..Work::of(command) }))
+        };
+        let run = |first, last| Named::Run(first, last);
+        assert_eq!(of(&["lock", "a", "7"]), set(Command::Lock, Some("a"), None, &[run(7, 7)]));
+        let both = [run(7, 7), run(9, 12), run(14, 14)];
+        assert_eq!(of(&["lock", "a", "7,9-12", "14", "-o", "b"]), set(Command::Lock, Some("a"), Some("b"), &both));
+        assert_eq!(of(&["unlock", "-o", "b", "-", "7,", "9-12,14"]), set(Command::Unlock, None, Some("b"), &both));
+        assert_eq!(of(&["unlock", "all", "all"]), set(Command::Unlock, Some("all"), None, &[Named::All]));
+        let tagged = Work {
+            input: Some("a".into()),
+            to: Some(Format::Tagged),
+            nodes: vec![run(7, 7)],
+            ..Work::of(Command::Lock)
+        };
+        assert_eq!(of(&["lock", "a", "7", "--to", "tagged"]), Ok(Asked::Work(tagged)));
     }
 
     #[test]
@@ -322,6 +398,17 @@ mod tests {
             &["preview", "--moves"],
             &["preview", "a", "--moves"],
             &["preview", "a", "7", "--to", "aiger"],
+            &["lock"],
+            &["lock", "a"],
+            &["lock", "7"],
+            &["unlock", "a", "-o", "b"],
+            &["lock", "a", ""],
+            &["lock", "a", "7", "x"],
+            &["lock", "a", "9-7"],
+            &["lock", "a", "7", "--to", "aiger"],
+            &["lock", "a", "7", "-o", "b.aag"],
+            &["unlock", "a", "7", "-o", "b.AIG"],
+            &["lock", "a", "7", "--moves"],
         ] {
             assert!(of(words).is_err(), "{words:?}");
         }
