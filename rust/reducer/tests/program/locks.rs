@@ -182,7 +182,7 @@ fn files_refused_by_13() {
 /// A locked node says so, and has a thick border; above the picture stands how many there are.
 #[test]
 fn locks_in_pictures() {
-    let due = r##"    label="standard input\n5 inputs, 2 nodes, 1 output\n4 complemented edges, each with a dot\n1 locked node, each with a thick border";
+    let due = r##"    label="standard input\n5 inputs, 2 nodes, 1 output\n4 complemented edges, each with a dot\n1 locked node, with a thick border";
     {
         rank=source;
         i1 [label="input 1"];
@@ -219,7 +219,7 @@ fn locks_in_pictures() {
     assert!(dot.contains("n5 [label=\"{XOR 5 locked|"));
     assert!(dot.contains("each with a dot\\n2 locked nodes of the whole graph's 2, each with a thick border\";"));
     let output = run(&["picture", "--output", "1"], &locked);
-    assert!(text(&output.stdout).contains("\\n1 locked node of the whole graph's 2, each with a thick border\";"));
+    assert!(text(&output.stdout).contains("\\n1 locked node of the whole graph's 2, with a thick border\";"));
     // Without locks nothing is said of them.
     assert!(!text(&run(&["picture"], &p3()).stdout).contains("lock"));
 }

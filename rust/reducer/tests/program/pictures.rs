@@ -115,6 +115,8 @@ fn xors_and_constants() {
 "##;
     let above = ["3 inputs, 3 nodes, 2 outputs", "4 complemented edges, each with a dot"];
     draws(&run(&["picture"], &graph), &above, due, "");
+    let one = run(&["picture"], b"aag 1 1 0 1 0\n2\n3\n");
+    assert!(text(&one.stdout).contains("\\n1 complemented edge, with a dot\";"));
     let above = ["0 inputs, 0 nodes, 0 outputs", "0 complemented edges, each with a dot"];
     draws(&run(&["picture"], &tagged(&[(1, &[0, 0, 0]), (5, &[])])), &above, "}\n", "");
 }

@@ -191,24 +191,23 @@ fn crossed(graph: &Graph, part: &Part) -> usize {
     crossed
 }
 
+/// How many of these are drawn, of how many in the whole graph where a part is drawn, and what each has.
+fn marked(drawn: usize, what: &str, all: u32, whole: bool, mark: &str) -> String {
+    let of = if whole { String::new() } else { format!(" of the whole graph's {all}") };
+    let each = if drawn == 1 { "" } else { "each " };
+    format!("{}{of}, {each}with a {mark}", count(drawn, what))
+}
+
 /// What thick borders mean, and how many there are; none where no node of the graph is locked.
 fn locked_line(side: &Side) -> Option<String> {
-    let drawn = count(side.locked(), "locked node");
-    match (side.graph.locked(), side.part.whole) {
-        (0, _) => None,
-        (_, true) => Some(format!("{drawn}, each with a thick border")),
-        (all, false) => Some(format!("{drawn} of the whole graph's {all}, each with a thick border")),
-    }
+    let all = side.graph.locked();
+    (all != 0).then(|| marked(side.locked(), "locked node", all, side.part.whole, "thick border"))
 }
 
 /// What stands above a graph: its title, what is drawn of it, its dots, its locks, and where inputs are to be looked for.
 fn label(side: &Side, title: &str) -> Result<String, String> {
-    let drawn = count(side.complemented(), "complemented edge");
     let all = side.graph.complemented_edges().map_err(|refusal| refusal.to_string())?;
-    let dots = match side.part.whole {
-        true => format!("{drawn}, each with a dot"),
-        false => format!("{drawn} of the whole graph's {all}, each with a dot"),
-    };
+    let dots = marked(side.complemented(), "complemented edge", all, side.part.whole, "dot");
     let near = "inputs and outputs stand near their nodes, since the graph is deep";
     let near = if side.rows { None } else { Some(near) };
     let locked = locked_line(side);
