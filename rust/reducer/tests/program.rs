@@ -418,6 +418,7 @@ fn usage() {
         let begin =
             if words.len() == 1 { "usage: panjerov COMMAND" } else { &format!("usage: panjerov {} ", words[0]) };
         assert!(text(&output.stdout).starts_with(begin), "{words:?}");
+        assert!(text(&output.stdout).lines().all(|line| line.chars().count() <= 120), "{words:?}");
         assert_eq!((text(&output.stderr), output.status.code()), ("", Some(0)));
     }
 }

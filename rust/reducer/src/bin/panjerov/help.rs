@@ -45,8 +45,9 @@ const IMPORT: &str = "\
 usage: panjerov import [FILE] [-o FILE]
 
 Gives the graph as a tagged file. Each AND of AIGER text becomes a majority with the constant false as its first
-word, and every node is free. The text must have no latches, inputs from literal 2 on and gates after them, both rising by 2; what follows
-the last gate, symbols and comments, is not read. A tagged file is given back as it is once it has been checked.
+word, and every node is free. The text must have no latches, inputs from literal 2 on and gates after them, both
+rising by 2; what follows the last gate, symbols and comments, is not read. A tagged file is given back as it is once
+it has been checked.
 ";
 
 const EXPORT: &str = "\
