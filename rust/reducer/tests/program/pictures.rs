@@ -204,8 +204,9 @@ fn a_part() {
     let refused = |words: &[&str], why: &str| {
         stops(&run(&[&["picture"], words].concat(), &two_trees()), 1, &format!("panjerov: standard input: {why}\n"));
     };
-    refused(&["--root", "5"], "5 is no root: it is in the tree of root 6");
-    refused(&["--root", "9"], "9 is no root: nodes are 4 to 6");
+    let no_such = "refused 7: there is no such node, root or word";
+    refused(&["--root", "5"], &format!("{no_such}; 5 is no root: it is in the tree of root 6"));
+    refused(&["--root", "9"], &format!("{no_such}; 9 is no root: nodes are 4 to 6"));
     refused(&["--output", "3"], "there is no output 3: outputs are 1 to 2");
     refused(&["--output", "0"], "there is no output 0: outputs are 1 to 2");
     let told = "panjerov: --output wants which output is drawn (-o names a file), a number below 2 to the 32nd, and not a.svg; \

@@ -172,7 +172,7 @@ fn a_report_of_a_part() {
     fs::write(folder.join("out"), "old").unwrap();
     for (words, why) in [
         (["--output", "3"], "there is no output 3: outputs are 1 to 2"),
-        (["--root", "5"], "5 is no root: it is in the tree of root 6"),
+        (["--root", "5"], "refused 7: there is no such node, root or word; 5 is no root: it is in the tree of root 6"),
     ] {
         let output = run_with(&folder, &[&["report", "two", "-o", "out"], &words[..]].concat());
         stops(&output, 1, &format!("panjerov: two: {why}\n"));

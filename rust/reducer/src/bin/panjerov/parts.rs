@@ -221,8 +221,9 @@ mod tests {
         let of = |root| Part::of(&two_trees(), Wanted::Root(root));
         assert_eq!(of(4), part(&[1, 2, 3], &[4], &[], &[], "the tree of root 4, 1 node"));
         assert_eq!(of(6), part(&[1, 2], &[5, 6], &[4], &[], "the tree of root 6, 2 nodes"));
-        assert_eq!(of(5), Err("5 is no root: it is in the tree of root 6".into()));
-        assert_eq!(of(7), Err("7 is no root: nodes are 4 to 6".into()));
+        let refused = |why: &str| Err(format!("refused 7: there is no such node, root or word; {why}"));
+        assert_eq!(of(5), refused("5 is no root: it is in the tree of root 6"));
+        assert_eq!(of(7), refused("7 is no root: nodes are 4 to 6"));
     }
 
     /// A chain from node 401 down to node 2, which node 401 reads too: the nearest go from the top down, with node 2.

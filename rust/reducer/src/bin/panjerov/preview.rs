@@ -29,7 +29,7 @@ fn roots_of(graph: &Graph) -> String {
 
 fn refused(graph: &Graph, index: u32, refusal: Refusal) -> String {
     match refusal {
-        Refusal::NoSuchNode => format!("{refusal}; {}", Trees::of(graph).no_root(index)),
+        Refusal::NoSuchNode => Trees::of(graph).no_root(index),
         _ => refusal.to_string(),
     }
 }

@@ -2,7 +2,7 @@
 
 use crate::locks::is_locked;
 use crate::nodes::is_xor;
-use reducer::{Graph, Size};
+use reducer::{Graph, Refusal, Size};
 
 /// Which tree each node is in, of a graph that the library has admitted.
 pub struct Trees<'a> {
@@ -58,14 +58,15 @@ impl Trees<'_> {
         self.roots.get(at as usize).copied()
     }
 
-    /// Why an index is no root.
+    /// The refusal of an index that is no root, and why it is none.
     pub fn no_root(&self, index: u32) -> String {
         let Size { inputs, nodes, .. } = self.graph.size;
-        match self.root_of(index) {
-            Some(root) => format!("{index} is no root: it is in the tree of root {root}"),
-            None if nodes == 0 => format!("{index} is no root: there are no nodes"),
-            None => format!("{index} is no root: nodes are {} to {}", inputs + 1, inputs + nodes),
-        }
+        let why = match self.root_of(index) {
+            Some(root) => format!("it is in the tree of root {root}"),
+            None if nodes == 0 => "there are no nodes".into(),
+            None => format!("nodes are {} to {}", inputs + 1, inputs + nodes),
+        };
+        format!("{}; {index} is no root: {why}", Refusal::NoSuchNode)
     }
 
     fn nodes(&self) -> impl Iterator<Item = (u32, u32)> + '_ {
@@ -109,7 +110,7 @@ impl Kinds {
 #[cfg(test)]
 mod tests {
     use super::*;
-    use reducer::{Refusal, MARK};
+    use reducer::MARK;
 
     fn graph(inputs: u32, node_table: &[u32], output_table: &[u32]) -> Graph {
         Graph::new(inputs, node_table.to_vec(), output_table.to_vec())
