@@ -413,10 +413,12 @@ fn usage() {
         &["preview", "a", "7", "--help"],
         &["picture", "--svg", "--help"],
         &["report", "--help"],
+        &["help"],
+        &["help", "picture"],
     ] {
         let output = run(words, b"");
-        let begin =
-            if words.len() == 1 { "usage: panjerov COMMAND" } else { &format!("usage: panjerov {} ", words[0]) };
+        let command = words.iter().find(|word| !["help", "--help", "-h"].contains(word)).unwrap_or(&"COMMAND");
+        let begin = &format!("usage: panjerov {command} ");
         assert!(text(&output.stdout).starts_with(begin), "{words:?}");
         assert!(text(&output.stdout).lines().all(|line| line.chars().count() <= 120), "{words:?}");
         assert_eq!((text(&output.stderr), output.status.code()), ("", Some(0)));

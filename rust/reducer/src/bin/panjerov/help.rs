@@ -17,7 +17,7 @@ Reduces inversions in majority and XOR graphs. The commands:
     picture  draws the graph, as DOT text for Graphviz, as SVG or as PNG
     report   settles the graph and gives a page with figures, pictures and the nodes that turned
 
-`panjerov COMMAND --help` tells more of a command.
+`panjerov help COMMAND`, or `panjerov COMMAND --help`, tells more of a command.
 ";
 
 const SETTLE: &str = "\

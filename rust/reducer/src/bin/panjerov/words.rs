@@ -125,6 +125,28 @@ fn file(word: OsString) -> Option<PathBuf> {
     (word != "-").then(|| word.into())
 }
 
+/// The help of the command that is named, or of the program where none is.
+fn help_named(mut words: impl Iterator<Item = OsString>) -> Result<Asked, String> {
+    let text = match words.next() {
+        None => help::program(),
+        Some(word) if ["help", "--help", "-h"].iter().any(|own| word == *own) => help::program(),
+        Some(word) => {
+            let name = word.to_string_lossy();
+            help::of(Command::named(&name).ok_or_else(|| no_command(&name))?)
+        }
+    };
+    match words.next() {
+        None => Ok(Asked::Help(text)),
+        Some(word) => {
+            Err(format!("{} is one word too many; `panjerov help COMMAND` tells more of one", word.to_string_lossy()))
+        }
+    }
+}
+
+fn no_command(name: &str) -> String {
+    format!("there is no command {name}; `panjerov --help` tells them")
+}
+
 /// What is asked for, or what is wrong with the words.
 pub fn asked(mut words: impl Iterator<Item = OsString>) -> Result<Asked, String> {
     let Some(first) = words.next() else {
@@ -134,12 +156,15 @@ pub fn asked(mut words: impl Iterator<Item = OsString>) -> Result<Asked, String>
     if name == "--help" || name == "-h" {
         return Ok(Asked::Help(help::program()));
     }
+    if name == "help" {
+        return help_named(words);
+    }
     match Command::named(&name) {
         Some(command) => asked_of(command, words).map_err(|why| {
             let name = command.name();
             format!("{why}; `panjerov {name} --help` tells what {name} takes")
         }),
-        None => Err(format!("there is no command {name}; `panjerov --help` tells them")),
+        None => Err(no_command(&name)),
     }
 }
 
@@ -368,6 +393,17 @@ mod tests {
         assert_eq!(of(&["picture", "a", "b", "--compare"]), compared(Some("a"), Some("b")));
         assert_eq!(of(&["picture", "--compare", "-", "b"]), compared(None, Some("b")));
         assert_eq!(of(&["picture", "--compare", "a", "-"]), compared(Some("a"), None));
+    }
+
+    #[test]
+    fn help_that_is_asked_for() {
+        for words in [&["help"][..], &["help", "help"], &["help", "--help"], &["help", "-h"]] {
+            assert_eq!(of(words), of(&["--help"]), "{words:?}");
+        }
+        assert_eq!(of(&["help", "settle"]), of(&["settle", "--help"]));
+        assert_eq!(of(&["help", "grind"]), of(&["grind"]));
+        let many = "show is one word too many; `panjerov help COMMAND` tells more of one";
+        assert_eq!(of(&["help", "settle", "show"]), Err(many.into()));
     }
 
     #[test]
