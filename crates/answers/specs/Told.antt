@@ -4,7 +4,6 @@ use lib.IntN.{ℤ}
 use mathlib.Core.List.{List, [], _∷_}
 use lib.ListN.{getD}
 use Rattle.graph.specs.Answer.{Answer}
-use Rattle.moves.specs.Trial.{Tried}
 
 -- numbers at that place afterwards: the values answered, or what was there where none are, as by a refused call
 abbrev pub toldBy : {A : Type 0} → List A → List A → List A
@@ -22,6 +21,6 @@ toldSigned a before = toldBy (a .signed) before
 abbrev pub toldOne : Answer → ℕ → ℕ
 toldOne a before = getD (a .values) 0 before
 
--- the same of a trial's signed number
-abbrev pub toldGain : Tried → ℤ → ℤ
-toldGain a before = getD (a .gains) 0 before
+-- and of one signed number
+abbrev pub toldGain : Answer → ℤ → ℤ
+toldGain a before = getD (a .signed) 0 before

@@ -6,7 +6,7 @@ ghost use Rattle.tagged_file.specs.Load.{loadedAnswer};
 ghost use Rattle.tagged_file.specs.Write.{writtenAnswer};
 ghost use Rattle.evaluation.specs.Evaluation.{evaluatedAnswer};
 ghost use Rattle.moves.specs.Call.{savingAnswer};
-ghost use Rattle.moves.specs.Trial.{trialAnswer};
+ghost use Rattle.moves.specs.Trial.{gainAnswer};
 ghost use Rattle.settling.specs.Settle.{settledAnswer};
 ghost use Rattle.answers.specs.Told.{told, toldOne, toldSigned, toldGain};
 
@@ -105,21 +105,21 @@ pub fn saving_told(answer: moves::Saving, before: [i64; 2]) -> [i64; 2]
     }
 }
 
-pub fn trial_number(answer: moves::Trial) -> u32
-    ensures { λ r. ⌜ r ≡ trialAnswer answer .number ⌝ }
+pub fn gain_number(answer: moves::Gain) -> u32
+    ensures { λ r. ⌜ r ≡ gainAnswer answer .number ⌝ }
 {
     match answer {
-        moves::Trial::Gain(_) => 0,
-        moves::Trial::Refused(refusal) => graph::faults::number_of(refusal),
+        moves::Gain::Whole(_) => 0,
+        moves::Gain::Refused(refusal) => graph::faults::number_of(refusal),
     }
 }
 
-pub fn trial_told(answer: moves::Trial, before: i64) -> i64
-    ensures { λ r. ⌜ r ≡ toldGain (trialAnswer answer) before ⌝ }
+pub fn gain_told(answer: moves::Gain, before: i64) -> i64
+    ensures { λ r. ⌜ r ≡ toldGain (gainAnswer answer) before ⌝ }
 {
     match answer {
-        moves::Trial::Gain(gain) => gain,
-        moves::Trial::Refused(_) => before,
+        moves::Gain::Whole(gain) => gain,
+        moves::Gain::Refused(_) => before,
     }
 }
 

@@ -13,7 +13,7 @@ use Rattle.graph.proofs.Cases.{cond-le, eq-or-ne}
 use Rattle.graph.proofs.Tests.{equal, unequal}
 use Rattle.graph.specs.Answer.{Answer, Outcome, LockedOutcome, numberOf, IsRefusal, refused, outcome, lockedOutcome, unless, guarded, guardedLocks}
 use Rattle.graph.specs.declared.Refusal.{Refusal}
-use Rattle.graph.specs.declared.Refusal.the-variants.{MissingBytes, WrongField, OverLimit, ShortSlice, BadLiteral, ExtraBytes, NoSuchNode, ShortScratch, ShortBuffer, BadText, HasLatches, WrongNumbering, BadLock}
+use Rattle.graph.specs.declared.Refusal.the-variants.{MissingBytes, WrongField, OverLimit, ShortSlice, BadLiteral, ExtraBytes, NoSuchNode, ShortScratch, ShortBuffer, BadText, HasLatches, WrongNumbering, BadLock, NotRising, NoSuchMove, LockedNode}
 
 -- no refusal has the number 0
 pub number-some : (r : Refusal) → numberOf r ≡ 0 → ⊥
@@ -30,6 +30,9 @@ number-some BadText e = omega arith
 number-some HasLatches e = omega arith
 number-some WrongNumbering e = omega arith
 number-some BadLock e = omega arith
+number-some NotRising e = omega arith
+number-some NoSuchMove e = omega arith
+number-some LockedNode e = omega arith
 
 -- a call that is refused by k, and one that is not
 pub refused-is : (k m : ℕ) (a : Answer) → k ≡ m → (m ≡ 0 → ⊥) → refused k ≡ unless m a
@@ -107,7 +110,7 @@ module _ (g : Graph) where
   literal-le = first-le _ _ _ (firstOf-le _ _ _ word-le) (firstOf-le _ _ _ out-le)
 
   module _ (ls : List ℕ) where
-    tables-le : tablesNumber g ls ≤ 5
+    pub tables-le : tablesNumber g ls ≤ 5
     unfolding tablesNumber
     tables-le = room-le _ _ _ _ _ _
 
@@ -115,7 +118,7 @@ module _ (g : Graph) where
     unfolding locksNumber lockNumber
     locks-le n = firstOf-le _ _ _ (λ v. ifLess-le _ _ _ _ _ (omega arith) (omega arith))
 
-    content-le : contentNumber g ls ≤ 13
+    pub content-le : contentNumber g ls ≤ 13
     unfolding contentNumber
     content-le = first-le _ _ _ (omega (arith, literal-le)) (locks-le (g .N))
 

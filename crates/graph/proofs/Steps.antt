@@ -26,6 +26,11 @@ stays m n f z h =
     le-ind (λ (i : ℕ). firstOf i f ≡ firstOf m f) refl
     (λ i k s. sym (fault (firstOf i f) (f i) (sym s) (λ e. z (sym s ∙ e)))) n h
 
+-- after no fault among the first j, what comes next
+pub one-further : (j k : ℕ) (f : ℕ → ℕ) → firstOf j f ≡ 0 → k ≡ f j → k ≡ firstOf (j + 1) f
+unfolding firstOf
+one-further j k f z e = rw (add-one j) (none _ _ z e)
+
 -- what the three words of the node with this index come to
 abbrev pub nodeWords : ℕ → ℕ → ℕ → ℕ → ℕ
 nodeWords index x y z = first (ifLess (x / 2) index 0 5) (first (ifLess (y / 2) index 0 5) (ifEqual z mark 0 (ifLess (z / 2) index 0 5)))
@@ -60,8 +65,8 @@ module _ (g : Graph) where
       rw (s, z) f
 
   pub out-next : (j k a : ℕ) → firstOf j (outputNumber g) ≡ 0 → a ≡ output g j → k ≡ ifLess (a / 2) (node g (g .N)) 0 5 → k ≡ firstOf (j + 1) (outputNumber g)
-  unfolding firstOf outputNumber
-  out-next j k a z p e = rw (add-one j) (none _ _ z (rw p at e))
+  unfolding outputNumber
+  out-next j k a z p e = one-further j k (outputNumber g) z (rw p at e)
 
 -- the locks by the greatest of their bytes: one byte further on
 module _ (a b : ℕ) where

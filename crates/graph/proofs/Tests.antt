@@ -27,6 +27,13 @@ module _ {A : Type 0} {k : A} (a b : ℕ) (x y : A) where
   unfolding ifEqual
   unequal h e = simp (ne-eqb a b h) e
 
+-- a slice of b where n are due
+pub short-slice : (b n : ℕ) → b < n → _≡_ {A = ℕ} 4 (ifLess b n 4 0)
+short-slice b n h = less b n 4 0 h refl
+
+pub long-slice : (b n : ℕ) → n ≤ b → _≡_ {A = ℕ} 0 (ifLess b n 4 0)
+long-slice b n h = no-less b n 4 0 h refl
+
 -- the first of two faults is there, or is not
 pub fault : {k : ℕ} (a b : ℕ) → k ≡ a → (a ≡ 0 → ⊥) → k ≡ first a b
 unfolding first

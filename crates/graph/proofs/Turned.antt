@@ -159,7 +159,19 @@ module _ (g : Graph) (t o : ℕ → ℕ) (adm : Admitted g) (s : Sparing g t o) 
         marked = by-marked;
       }
 
--- a sweep: the words of l below j are turned, each as often as a function of its place and the word says
+-- a sweep: the words of l below j are turned as t says
+module _ (l : List ℕ) (t : ℕ → ℕ) where
+  pub turned-start : l ≡ turnedTable l (upTo 0 t)
+  turned-start = sym (turned-never l (upTo 0 t) (λ j. upTo-past 0 t j (omega arith)))
+
+  pub turned-left : (j : ℕ) (m : List ℕ) → m ≡ turnedTable l (upTo j t) → j < length l → getD m j 0 ≡ getD l j 0
+  turned-left j m e h = ap (λ (r : List ℕ). getD r j 0) e ∙ turned-at l (upTo j t) j h ∙ rw (upTo-past j t j (omega arith)) (turn-zero (getD l j 0))
+
+  pub turned-more : (j : ℕ) (m k : List ℕ) → m ≡ turnedTable l (upTo j t) → k ≡ turnedTable m (only j (t j)) → k ≡ turnedTable l (upTo (j + 1) t)
+  turned-more j m k e f =
+      f ∙ ap (λ (y : List ℕ). turnedTable y (only j (t j))) e ∙ turned-turned l (upTo j t) (only j (t j)) ∙ turned-same l _ _ (λ i p. upTo-next j t i)
+
+-- each as often as a function of its place and the word says
 abbrev pub SweptTo : (ℕ → ℕ → ℕ) → List ℕ → ℕ → List ℕ → Type 0
 SweptTo τ l j m = m ≡ turnedTable l (upTo j (λ i. τ i (getD l i 0)))
 
@@ -168,15 +180,13 @@ module _ (τ : ℕ → ℕ → ℕ) (l : List ℕ) where
   often i = τ i (getD l i 0)
 
   pub swept-none : SweptTo τ l 0 l
-  swept-none = turned-by l (upTo 0 often) l refl (λ j h. rw (upTo-past 0 often j (omega arith)) (sym (turn-zero (getD l j 0))))
+  swept-none = turned-start l often
 
   pub swept-length : (j : ℕ) (m : List ℕ) → SweptTo τ l j m → length m ≡ length l
   swept-length j m e = ap length e ∙ turned-length l (upTo j often)
 
   pub swept-left : (j : ℕ) (m : List ℕ) → SweptTo τ l j m → j < length l → getD m j 0 ≡ getD l j 0
-  swept-left j m e h =
-      ap (λ (r : List ℕ). getD r j 0) e ∙ turned-at l (upTo j often) j h
-      ∙ rw (upTo-past j often j (omega arith)) (turn-zero (getD l j 0))
+  swept-left = turned-left l often
 
   -- what turning the word at place j asks
   pub swept-turn : (n j x t : ℕ) (m : List ℕ) → j < n → n ≤ length l → Low τ n l → SweptTo τ l j m → x ≡ getD m j 0 → t ≡ τ j x → t ≤ 2
@@ -189,10 +199,7 @@ module _ (τ : ℕ → ℕ → ℕ) (l : List ℕ) where
   -- what the leaves say of place j: the sweep is one place further
   pub swept-next : (j x t : ℕ) (m k : List ℕ) → j < length l → SweptTo τ l j m → x ≡ getD m j 0 → t ≡ τ j x → k ≡ turnedTable m (only j t) → SweptTo τ l (j + 1) k
   swept-next j x t m k h e r q f =
-      f ∙ ap (λ (y : ℕ). turnedTable m (only j y)) (q ∙ ap (λ (y : ℕ). τ j y) (r ∙ swept-left j m e h))
-      ∙ ap (λ (y : List ℕ). turnedTable y (only j (often j))) e
-      ∙ turned-turned l (upTo j often) (only j (often j))
-      ∙ turned-same l _ _ (λ i p. upTo-next j often i)
+      turned-more l often j m k e (f ∙ ap (λ (y : ℕ). turnedTable m (only j y)) (q ∙ ap (λ (y : ℕ). τ j y) (r ∙ swept-left j m e h)))
 
   pub swept-all : (e j : ℕ) (m : List ℕ) → j ≡ e → SweptTo τ l j m → SweptTo τ l e m
   swept-all e j m q s = rw q at s

@@ -6,7 +6,7 @@ use lib.IntN.{ℤ, pos, _+ℤ_}
 use lib.ListN.{getD}
 use Rattle.graph.specs.Graph.{Graph}
 use Rattle.graph.specs.declared.Refusal.{Refusal}
-use Rattle.graph.specs.declared.Refusal.the-variants.{MissingBytes, WrongField, OverLimit, ShortSlice, BadLiteral, ExtraBytes, NoSuchNode, ShortScratch, ShortBuffer, BadText, HasLatches, WrongNumbering, BadLock}
+use Rattle.graph.specs.declared.Refusal.the-variants.{MissingBytes, WrongField, OverLimit, ShortSlice, BadLiteral, ExtraBytes, NoSuchNode, ShortScratch, ShortBuffer, BadText, HasLatches, WrongNumbering, BadLock, NotRising, NoSuchMove, LockedNode}
 use Rattle.graph.specs.declared.Admission.{Admission}
 use Rattle.graph.specs.declared.Admission.the-variants as admission
 use Rattle.graph.specs.declared.Count.{Count}
@@ -27,10 +27,13 @@ numberOf BadText = 10
 numberOf HasLatches = 11
 numberOf WrongNumbering = 12
 numberOf BadLock = 13
+numberOf NotRising = 14
+numberOf NoSuchMove = 15
+numberOf LockedNode = 16
 
 -- the numbers that refusals have
 abbrev pub IsRefusal : ℕ → Type 0
-IsRefusal k = (1 ≤ k) × (k ≤ 13)
+IsRefusal k = (1 ≤ k) × (k ≤ 16)
 
 -- a call's answer: the number, 0 where it is accepted, and the values that it then returns beside it, with the signed ones apart
 pub record Answer : Type 0 where
@@ -47,6 +50,10 @@ refused k = record { number = k; values = []; signed = [] }
 -- of a call that saves: over the words of the nodes that it names, and over all other edges
 abbrev pub gained : List ℕ → ℤ → ℤ → Answer
 gained vs own others = record { number = 0; values = vs; signed = own ∷ others ∷ [] }
+
+-- of a call that tells its saving in one number
+abbrev pub whole : ℤ → Answer
+whole saving = record { number = 0; values = []; signed = saving ∷ [] }
 
 -- both numbers of an answer, and the saving, which is their sum; a refused call saves nothing
 abbrev pub ownOf : Answer → ℤ

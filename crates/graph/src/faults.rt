@@ -220,7 +220,10 @@ pub fn refused_by(number: u32) -> Refusal
         10 => Refusal::BadText,
         11 => Refusal::HasLatches,
         12 => Refusal::WrongNumbering,
-        _ => Refusal::BadLock,
+        13 => Refusal::BadLock,
+        14 => Refusal::NotRising,
+        15 => Refusal::NoSuchMove,
+        _ => Refusal::LockedNode,
     }
 }
 
@@ -241,5 +244,8 @@ pub fn number_of(refusal: Refusal) -> u32
         Refusal::HasLatches => 11,
         Refusal::WrongNumbering => 12,
         Refusal::BadLock => 13,
+        Refusal::NotRising => 14,
+        Refusal::NoSuchMove => 15,
+        Refusal::LockedNode => 16,
     }
 }

@@ -27,6 +27,9 @@ pub enum Refusal {
     HasLatches,
     WrongNumbering,
     BadLock,
+    NotRising,
+    NoSuchMove,
+    LockedNode,
 }
 
 // What the admission check answers.

@@ -48,3 +48,11 @@ pub fn set_word(table: &mut [u32], j: usize, x: u32)
 {
     table[j] = x;
 }
+
+// The byte at place k of a slice of bytes, as a word.
+pub fn byte_at(bytes: &[u8], k: usize) -> u32
+    requires { ⌜ k < length (now bytes) ⌝ }
+    ensures { λ r. ⌜ r ≡ getD (now (bytes .entry)) k 0 ⌝ }
+{
+    bytes[k] as u32
+}

@@ -8,14 +8,13 @@ use borrow.Author.Tests.{lt-ltb, le-ltb}
 use lib.ListN.{getD}
 use Rattle.graph.specs.Admission.{Admitted}
 use Rattle.graph.specs.Graph.{Graph, isEdge, isXor}
-use Rattle.graph.specs.Turned.{turnedBy}
 use Rattle.moves.specs.Apply.{Choice, apply, turns, outputTurns, own, seen, compose, Permitted}
 use Rattle.moves.specs.Rows.{flag, combined}
 use Rattle.moves.proofs.Moves.{node-row}
+use Rattle.graph.proofs.Alike.{Alike, alike-edge, alike-xor}
 use Rattle.graph.proofs.Cases.{lt-or-le, true-or-false}
-pub use Rattle.graph.proofs.Turned.{same-graph}
 use Rattle.graph.proofs.Turned.{by-by, by-same}
-use Rattle.moves.proofs.Apply.{apply-alike, same-xor, same-edge, turns-past, turns-mark, turns-edge, outputTurns-past, outputTurns-at}
+use Rattle.moves.proofs.Apply.{apply-alike, turns-past, turns-mark, turns-edge, outputTurns-past, outputTurns-at}
 use Rattle.moves.proofs.Flags.{flag-both}
 
 module _ (g : Graph) (m : Choice) where
@@ -47,23 +46,23 @@ by-index g P other node u =
     (λ (h : u ≤ g .I). other u (λ m. seen-low g m u h))
     (lt-or-le (g .I) u)
 
--- moves leave kinds and wiring, so turns too
-module _ (g : Graph) (m : Choice) (adm : Admitted g) (n : Choice) where
-  same-seen : (u : ℕ) → seen (apply g m) n u ≡ seen g n u
-  unfolding seen apply turnedBy
-  same-seen u = rw (same-xor g m adm)
+-- the same kinds and wiring, so the same turns
+module _ (g h : Graph) (a : Alike g h) (n : Choice) where
+  alike-seen : (u : ℕ) → seen h n u ≡ seen g n u
+  unfolding seen
+  alike-seen u = rw (alike-xor g h a, a .same-I, a .same-N)
 
-  same-own : (j : ℕ) → own (apply g m) n j ≡ own g n j
-  unfolding own apply turnedBy
-  same-own j = rw (same-xor g m adm)
+  alike-own : (j : ℕ) → own h n j ≡ own g n j
+  unfolding own
+  alike-own j = rw (alike-xor g h a, a .same-I)
 
-  same-turns : (j : ℕ) → turns (apply g m) n j ≡ turns g n j
-  unfolding turns apply turnedBy
-  same-turns j = rw (same-edge g m adm j, apply-alike g m adm .wired j, same-own j, same-seen)
+  pub alike-turns : (j : ℕ) → turns h n j ≡ turns g n j
+  unfolding turns
+  alike-turns j = rw (alike-edge g h a j, a .wired j, alike-own j, alike-seen, a .same-N)
 
-  same-outTurns : (j : ℕ) → outputTurns (apply g m) n j ≡ outputTurns g n j
-  unfolding outputTurns apply turnedBy
-  same-outTurns j = rw (apply-alike g m adm .out-wired j, same-seen)
+  pub alike-outputTurns : (j : ℕ) → outputTurns h n j ≡ outputTurns g n j
+  unfolding outputTurns
+  alike-outputTurns j = rw (a .out-wired j, alike-seen, a .same-O)
 
 parity : (a b c d : ℕ) → ((a + b) % 2 + (c + d) % 2) % 2 ≡ (a + c + (b + d)) % 2
 parity a b c d = omega arith
@@ -109,6 +108,7 @@ module _ (g : Graph) (m n : Choice) (vm : Permitted g m) (vn : Permitted g n) wh
   unfolding apply
   apply-apply adm =
       by-same (apply g m) (turns (apply g m) n) (outputTurns (apply g m) n) (turns g n) (outputTurns g n)
-      (λ j. ap (λ x. x % 2) (same-turns g m adm n j)) (λ j. ap (λ x. x % 2) (same-outTurns g m adm n j))
+      (λ j. ap (λ x. x % 2) (alike-turns g (apply g m) (apply-alike g m adm) n j))
+      (λ j. ap (λ x. x % 2) (alike-outputTurns g (apply g m) (apply-alike g m adm) n j))
       ∙ by-by g (turns g m) (outputTurns g m) (turns g n) (outputTurns g n)
       ∙ by-same g _ _ _ _ (λ j. sym (turns-join j)) (λ j. sym (outputTurns-join j))

@@ -22,22 +22,20 @@ use Rattle.moves.proofs.Changed.{at-same, at-other, seen-none, own-none
 use Rattle.moves.proofs.Values.{out-kept}
 use Rattle.moves.proofs.Moves.{movesAt-fit}
 
--- h comes from g by moves that save so much
-pub record Kept (g h : Graph) (saved : ℕ) : Type 0 where
+-- h comes from g by moves
+pub record Stays (g h : Graph) : Type 0 where
   pub admitted : Admitted h
   pub same-I : h .I ≡ g .I
   pub same-N : h .N ≡ g .N
   pub same-O : h .O ≡ g .O
   pub wired : wiring h ≡ wiring g
   pub outputs : (a : Assignment) (j : ℕ) → j < g .O → outputValue h a j ≡ outputValue g a j
-  pub count : C h + saved ≡ C g
 
-pub kept-none : (g : Graph) → Admitted g → Kept g g 0
-kept-none g adm =
-    record { admitted = adm; same-I = refl; same-N = refl; same-O = refl; wired = refl; outputs = λ a j h. refl; count = omega arith }
+pub stays-none : (g : Graph) → Admitted g → Stays g g
+stays-none g adm = record { admitted = adm; same-I = refl; same-N = refl; same-O = refl; wired = refl; outputs = λ a j h. refl }
 
-pub kept-then : (g h k : Graph) (s t : ℕ) → Kept g h s → Kept h k t → Kept g k (s + t)
-kept-then g h k s t p q =
+pub stays-then : (g h k : Graph) → Stays g h → Stays h k → Stays g k
+stays-then g h k p q =
     record {
       admitted = q .admitted;
       same-I = q .same-I ∙ p .same-I;
@@ -45,12 +43,22 @@ kept-then g h k s t p q =
       same-O = q .same-O ∙ p .same-O;
       wired = q .wired ∙ p .wired;
       outputs = λ a j h. q .outputs a j (omega (arith, p .same-O)) ∙ p .outputs a j h;
-      count = omega (arith, p .count, q .count);
     }
 
+-- and they save so much
+pub record Kept (g h : Graph) (saved : ℕ) : Type 0 where
+  pub stays : Stays g h
+  pub count : C h + saved ≡ C g
+
+pub kept-none : (g : Graph) → Admitted g → Kept g g 0
+kept-none g adm = record { stays = stays-none g adm; count = omega arith }
+
+pub kept-then : (g h k : Graph) (s t : ℕ) → Kept g h s → Kept h k t → Kept g k (s + t)
+kept-then g h k s t p q = record { stays = stays-then g h k (p .stays) (q .stays); count = omega (arith, p .count, q .count) }
+
 module _ (g : Graph) (m : Choice) (adm : Admitted g) where
-  pub apply-kept : C (apply g m) ≤ C g → Kept g (apply g m) (C g - C (apply g m))
-  apply-kept h =
+  pub apply-stays : Stays g (apply g m)
+  apply-stays =
       let a = applied.apply-alike g m adm in
       record {
         admitted = applied.admitted g m adm;
@@ -59,8 +67,10 @@ module _ (g : Graph) (m : Choice) (adm : Admitted g) where
         same-O = a .same-O;
         wired = alike-wiring g (apply g m) a;
         outputs = λ a j l. out-kept g m adm a j l;
-        count = omega arith;
       }
+
+  pub apply-kept : C (apply g m) ≤ C g → Kept g (apply g m) (C g - C (apply g m))
+  apply-kept h = record { stays = apply-stays; count = omega arith }
 
 -- a choice that moves nothing changes nothing
 module _ (g : Graph) (m : Choice) (adm : Admitted g) (idle : (u : ℕ) → m u ≡ 0) where

@@ -68,7 +68,7 @@ module _ (g : Graph) (ls : List ℕ) where
       (⊎-elim (λ (q : u ≡ w). rw q (at-same d w k ∙ a .0 (rw (← q) e))) (λ (n : u ≢ w). at-other d w k u n ∙ z) (eq-or-ne u w))
 
   module _ (us : List ℕ) where
-    best-fits : Fits (map (movesAt g ls) us) (bestAt g ls us)
+    pub best-fits : Fits (map (movesAt g ls) us) (bestAt g ls us)
     unfolding bestAt
     best-fits = best-is (movedC g us) (map (movesAt g ls) us) (zeros (map (movesAt g ls) us)) (movesAt-fit g ls us) .fits
 

@@ -12,8 +12,8 @@ pub enum Saving {
     Refused(graph::Refusal),
 }
 
-// What a trial answers: what two moves would save, or why it is refused.
-pub enum Trial {
-    Gain(i64),
+// What a trial answers: what two moves would save, in one number, or why it is refused.
+pub enum Gain {
+    Whole(i64),
     Refused(graph::Refusal),
 }

@@ -23,7 +23,7 @@ use Rattle.moves.specs.Outside.{NodeOdds, PairOdds, savedBy}
 use Rattle.moves.specs.Pair.{pairSaving, FirstGreatest}
 use Rattle.moves.specs.Rows.{kindMoves, movesAt}
 use Rattle.moves.specs.Split.{split}
-use Rattle.moves.specs.Trial.{moveHad, triedUnless, trialSaving}
+use Rattle.moves.specs.Trial.{moveHad, trialSaving}
 use Rattle.moves.specs.declared.decide.NodeNumbers.{NodeNumbers}
 use Rattle.moves.specs.declared.gains.Odds.{Odds}
 use Rattle.moves.proofs.Changed.{at-same, at-other}
@@ -148,14 +148,3 @@ module _ (g : Graph) (ls : List ℕ) (u k n : ℕ) (e : n ≡ namedBy g u k) whe
       let v : g .I + 1 + (u - (g .I + 1)) ≡ u = omega (arith, a .after) in
       let b : n < node g (g .N) = omega (arith, a .before, named-below g ls u k w) in
       q ∙ rw (p, v, ← e, lt-ltb (g .I) n h, lt-ltb n (node g (g .N)) b)
-
--- a trial that is refused, and one that is not
-pub refused-trial : (k m : ℕ) (z : ℤ) → k ≡ m → (m ≡ 0 → ⊥) → record { number = k; gains = [] } ≡ triedUnless m z
-unfolding triedUnless
-refused-trial k zero z e n = absurd (n refl)
-refused-trial k (suc m) z e n = ap (λ (i : ℕ). record { number = i; gains = [] }) e
-
-pub accepted-trial : (m : ℕ) (z y : ℤ) → y ≡ z → m ≡ 0 → record { number = 0; gains = y ∷ [] } ≡ triedUnless m z
-unfolding triedUnless
-accepted-trial zero z y q e = ap (λ (x : ℤ). record { number = 0; gains = x ∷ [] }) q
-accepted-trial (suc m) z y q e = absurd (omega arith)

@@ -2,15 +2,15 @@ ghost use mathlib.Core.Path.{_≡_};
 ghost use Rattle.graph.specs.Answer.{outcome};
 ghost use Rattle.graph.specs.Graph.{graphOf};
 ghost use Rattle.moves.specs.Call.{savingAnswer, nodeCall, pairCall};
-ghost use Rattle.moves.specs.Trial.{trialAnswer, trialCall};
+ghost use Rattle.moves.specs.Trial.{gainAnswer, trialCall};
 
 mod faults;
 mod rewrite;
 mod trying;
 mod write;
 
+use moves::Gain;
 use moves::Saving;
-use moves::Trial;
 
 // The node call: the move of a node with the least C, the lowest number among equals.
 pub fn node_call(
@@ -91,8 +91,8 @@ pub fn trial(
     word: u32,
     named_move: u32,
     node_move: u32,
-) -> Trial
-    ensures { λ r. ⌜ trialAnswer r ≡ trialCall (graphOf inputs nodes outputs (now («node_table» .entry)) (now («output_table» .entry))) (now (locks .entry)) node word «named_move» «node_move» ⌝ }
+) -> Gain
+    ensures { λ r. ⌜ gainAnswer r ≡ trialCall (graphOf inputs nodes outputs (now («node_table» .entry)) (now («output_table» .entry))) (now (locks .entry)) node word «named_move» «node_move» ⌝ }
 {
     let number = faults::pair_number(
         inputs,
@@ -105,9 +105,9 @@ pub fn trial(
         word,
     );
     if number != 0 {
-        return Trial::Refused(graph::faults::refused_by(number));
+        return Gain::Refused(graph::faults::refused_by(number));
     }
-    Trial::Gain(trying::named_saving(
+    Gain::Whole(trying::named_saving(
         inputs,
         nodes,
         outputs,

@@ -1,11 +1,11 @@
 -- What a word adds once the moves that bytes tell are made, from the words as they stand. From the laws on a word after a choice.
 use mathlib.Core.Path.{_≡_, sym, ap, _∙_}
-use mathlib.Core.Bool.{Bool, true, false, and-false}
+use mathlib.Core.Bool.{Bool, true, false}
 use mathlib.Core.List.{List}
 use Prim.Native.Nat.{ℕ, _+_, _-_, _*_, _/_, _%_, _≤_, _<_}
 use native.Mathlib.Numerals.{add-one}
 use native.Mathlib.Omega.{arith}
-use borrow.Author.Tests.{eq-eqb, ne-eqb, lt-ltb, le-ltb}
+use borrow.Author.Tests.{lt-ltb, le-ltb}
 use lib.ListN.{length, getD}
 use Rattle.graph.specs.Count.{nodeAdds, outputAdds, readers, C}
 use Rattle.graph.specs.Turned.{turnedBy}
@@ -22,20 +22,6 @@ use Rattle.moves.proofs.Moves.{node-row}
 use Rattle.moves.proofs.Shown.{all-readers}
 use Rattle.preview.specs.Preview.{choiceIn}
 use Rattle.preview.specs.Telling.{Says, threeAfter}
-
--- which words of a node are edges
-module _ (g : Graph) (v : ℕ) where
-  pub edge-two : (i : ℕ) → i < 2 → isEdge g (3 * v + i) ≡ true
-  unfolding isEdge
-  edge-two i l = rw (ne-eqb ((3 * v + i) % 3) 2 (λ e. omega arith))
-
-  pub edge-third : (x : Bool) → x ≡ isXor g v → x ≡ false → isEdge g (3 * v + 2) ≡ true
-  unfolding isEdge isXor
-  edge-third x e f = rw (← e, f, and-false)
-
-  pub edge-none : (x : Bool) → x ≡ isXor g v → x ≡ true → isEdge g (3 * v + 2) ≡ false
-  unfolding isEdge isXor
-  edge-none x e f = rw (← e, f, eq-eqb ((3 * v + 2) % 3) 2 (omega arith))
 
 module _ (g : Graph) (bs : List ℕ) where
   abbrev pub d : Choice

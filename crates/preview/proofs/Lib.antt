@@ -3,3 +3,4 @@ pub mod ToldMoves
 pub mod Refusing
 pub mod SameCall
 pub mod Free
+pub mod AsList

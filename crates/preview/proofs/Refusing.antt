@@ -3,39 +3,28 @@
 use mathlib.Core.Path.{_≡_, refl, ap, _∙_}
 use mathlib.Core.List.{List}
 use mathlib.Core.Logic.{⊎-elim, _≢_}
-use Prim.Native.Nat.{ℕ, _*_, _≤_, _<_}
+use Prim.Native.Nat.{ℕ, _*_, _≤_}
 use native.Mathlib.Omega.{arith}
 use lib.ListN.{length}
-use Rattle.graph.specs.Finite.{ifLess}
 use Rattle.graph.specs.Graph.{Graph}
-use Rattle.graph.specs.Admission.{tablesNumber, Admitted}
+use Rattle.graph.specs.Admission.{Admitted}
 use Rattle.graph.specs.Answer.{IsRefusal, Answer, refused}
-use Rattle.graph.proofs.Answers.{room-le, first-le, ifLess-le, refused-is, accepted-is}
+use Rattle.graph.proofs.Answers.{tables-le, first-le, ifLess-le, refused-is, accepted-is}
 use Rattle.graph.proofs.Cases.{eq-or-ne}
-use Rattle.graph.proofs.Tests.{less, no-less, equal, unequal, off, both}
+use Rattle.graph.proofs.Tests.{equal, unequal, off, both}
 use Rattle.moves.specs.Tree.{IsRoot, tree}
 use Rattle.moves.specs.Call.{rewrite, treeNumber}
 use Rattle.tree_call.proofs.Refused.{tree-range, accepted-by}
 use Rattle.preview.specs.Preview.{movesTold, previewNumber, previewAnswer, previewBytes}
 
-pub short-bytes : (b n : ℕ) → b < n → _≡_ {A = ℕ} 4 (ifLess b n 4 0)
-short-bytes b n h = less b n 4 0 h refl
-
-pub long-bytes : (b n : ℕ) → n ≤ b → _≡_ {A = ℕ} 0 (ifLess b n 4 0)
-long-bytes b n h = no-less b n 4 0 h refl
-
 module _ (g : Graph) (ls : List ℕ) (b s r : ℕ) where
-  tables-le : tablesNumber g ls ≤ 9
-  unfolding tablesNumber
-  tables-le = omega (arith, room-le (g .I) (g .N) (g .O) (length (g .nodes)) (length (g .outputs)) (length ls))
-
-  tree-le : treeNumber g ls s r ≤ 13
+  tree-le : treeNumber g ls s r ≤ 16
   tree-le =
       ⊎-elim (λ (e : treeNumber g ls s r ≡ 0). omega (arith, e)) (λ (e : treeNumber g ls s r ≢ 0). tree-range g ls s r (treeNumber g ls s r) refl e .1) (eq-or-ne (treeNumber g ls s r) 0)
 
-  preview-le : previewNumber g ls b s r ≤ 13
+  preview-le : previewNumber g ls b s r ≤ 16
   unfolding previewNumber
-  preview-le = first-le _ _ 13 (omega (arith, tables-le)) (first-le _ _ 13 (ifLess-le b (g .N) 4 0 13 (omega arith) (omega arith)) tree-le)
+  preview-le = first-le _ _ 16 (omega (arith, tables-le g ls)) (first-le _ _ 16 (ifLess-le b (g .N) 4 0 16 (omega arith) (omega arith)) tree-le)
 
   -- what `refused_by` asks of the number
   pub preview-range : (k : ℕ) → k ≡ previewNumber g ls b s r → k ≢ 0 → IsRefusal k

@@ -14,7 +14,7 @@ use Rattle.graph.specs.Graph.{Graph, node}
 use Rattle.graph.specs.Admission.{tablesNumber, contentNumber, admissionNumber}
 use Rattle.graph.proofs.Cases.{eq-or-ne, true-or-false}
 use Rattle.graph.proofs.Finite.{getD-tab}
-use Rattle.graph.proofs.Tests.{less, equal}
+use Rattle.graph.proofs.Tests.{less, equal, long-slice}
 use Rattle.moves.specs.Apply.{Choice, none, at, put, seen, apply}
 use Rattle.graph.specs.Count.{C}
 use Rattle.graph.specs.Admission.{Admitted}
@@ -35,7 +35,7 @@ use Rattle.preview.specs.Telling.{RootOdds}
 use Rattle.moves.proofs.Programme.{members-zero, members-in, members-out}
 use Rattle.preview.specs.Preview.{treeMoves, movesTold, choiceIn, previewNumber, previewAnswer, previewBytes, AsTreeCall}
 use Rattle.graph.proofs.Answers.{accepted-is, accepted-outcome}
-use Rattle.preview.proofs.Refusing.{long-bytes, accepted-preview}
+use Rattle.preview.proofs.Refusing.{accepted-preview}
 use Rattle.preview.proofs.AfterMoves.{choice-at, choice-none}
 
 -- moves at nodes leave every other index alone
@@ -63,11 +63,11 @@ module _ (g : Graph) (r u : ℕ) where
       go (inl e) (k ∷ ms) ih =
           rw (members-in g r n e, put-one d (node g n) k (members g r n) ms) (ih ms (at d (node g n) k) ∙ at-other d (node g n) k u (h n (omega arith)))
 
-node-is : (g : Graph) (v : ℕ) → v < g .N → isNode g (node g v) ≡ true
+pub node-is : (g : Graph) (v : ℕ) → v < g .N → isNode g (node g v) ≡ true
 unfolding isNode
 node-is g v l = rw (lt-ltb (g .I) (node g v) (omega arith), lt-ltb (node g v) (node g (g .N)) (omega arith))
 
-node-of : (g : Graph) (u : ℕ) → isNode g u ≡ true → (u - (g .I + 1) < g .N) × (node g (u - (g .I + 1)) ≡ u)
+pub node-of : (g : Graph) (u : ℕ) → isNode g u ≡ true → (u - (g .I + 1) < g .N) × (node g (u - (g .I + 1)) ≡ u)
 unfolding isNode
 node-of g u e =
     let t = both-true (ltb (g .I) u) (ltb u (node g (g .N))) e in
@@ -81,7 +81,7 @@ module _ (g : Graph) (ls : List ℕ) (r : ℕ) where
   moves-past u e = put-past g r u (g .N) (bestAt g ls (members g r (g .N))) none (λ v l z. clash (node-is g v l) (rw (← z) e))
 
   module _ (bs : List ℕ) (enough : g .N ≤ length bs) where
-    told-at : (v : ℕ) → v < g .N → getD (movesTold g ls r bs) v 0 ≡ treeMoves g ls r (node g v)
+    pub told-at : (v : ℕ) → v < g .N → getD (movesTold g ls r bs) v 0 ≡ treeMoves g ls r (node g v)
     unfolding movesTold
     told-at v l =
         getD-tab (length bs) (λ j. ifLess j (g .N) (treeMoves g ls r (node g j)) (getD bs j 0)) v (omega arith)
@@ -140,9 +140,9 @@ first-none x = refl
 module _ (g : Graph) (ls bs : List ℕ) (s r : ℕ) where
   number-alike : g .N ≤ length bs → previewNumber g ls (length bs) s r ≡ treeNumber g ls s r
   unfolding previewNumber treeNumber admissionNumber
-  number-alike l = rw (← long-bytes (length bs) (g .N) l, first-none _) (first-again (tablesNumber g ls) (contentNumber g ls) _)
+  number-alike l = rw (← long-slice (length bs) (g .N) l, first-none _) (first-again (tablesNumber g ls) (contentNumber g ls) _)
 
-  tree-accepted : previewNumber g ls (length bs) s r ≡ 0 → (treeNumber g ls s r ≡ 0) × (g .N ≤ length bs)
+  pub tree-accepted : previewNumber g ls (length bs) s r ≡ 0 → (treeNumber g ls s r ≡ 0) × (g .N ≤ length bs)
   tree-accepted e = let l = accepted-preview g ls (length bs) s r e .3 in (sym (number-alike l) ∙ e, l)
 
   call-is : treeNumber g ls s r ≡ 0 → treeCall g ls s r ≡ rewrite g ls (tree g r)
@@ -154,12 +154,15 @@ module _ (g : Graph) (ls bs : List ℕ) (s r : ℕ) where
   answered e =
       sym (accepted-is (previewNumber g ls (length bs) s r) (rewrite g ls (tree g r) .answer) e) ∙ ap (λ o. o .answer) (sym (call-is (tree-accepted e .0)))
 
+  pub bytes-told : previewNumber g ls (length bs) s r ≡ 0 → previewBytes g ls bs s r ≡ movesTold g ls r bs
+  unfolding previewBytes
+  bytes-told e = sym (equal (previewNumber g ls (length bs) s r) 0 (movesTold g ls r bs) bs e refl)
+
   left : previewNumber g ls (length bs) s r ≡ 0 → apply g (choiceIn g (previewBytes g ls bs s r)) ≡ treeCall g ls s r .graph
-  unfolding previewBytes rewrite
+  unfolding rewrite
   left e =
       let t = tree-accepted e in
-      let b : movesTold g ls r bs ≡ previewBytes g ls bs s r = equal (previewNumber g ls (length bs) s r) 0 (movesTold g ls r bs) bs e refl in
-      ap (λ x. apply g (choiceIn g x)) (sym b) ∙ graph-told g ls r bs (t .1) ∙ ap (λ o. o .graph) (sym (call-is (t .0)))
+      ap (λ x. apply g (choiceIn g x)) (bytes-told e) ∙ graph-told g ls r bs (t .1) ∙ ap (λ o. o .graph) (sym (call-is (t .0)))
 
   pub as-tree-call : AsTreeCall g ls bs s r
   as-tree-call = record { refused-alike = number-alike; same-answer = answered; same-graph = left }

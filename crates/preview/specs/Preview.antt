@@ -10,6 +10,7 @@ use Rattle.graph.specs.Admission.{tablesNumber}
 use Rattle.graph.specs.Answer.{Answer, unless}
 use Rattle.moves.specs.Apply.{Choice, none, put, apply}
 use Rattle.moves.specs.Tree.{tree}
+use Rattle.many.specs.Many.{manyNumber, manyCall}
 use Rattle.moves.specs.Call.{bestAt, rewrite, isNode, treeNumber, treeCall}
 
 -- the move that the tree call at the root r makes at each node, with the locks ls: 0 outside the tree, and at a locked node
@@ -41,3 +42,12 @@ pub record AsTreeCall (g : Graph) (ls bs : List ℕ) (s r : ℕ) : Type 0 where
   pub refused-alike : g .N ≤ length bs → previewNumber g ls (length bs) s r ≡ treeNumber g ls s r
   pub same-answer : previewNumber g ls (length bs) s r ≡ 0 → previewAnswer g ls (length bs) s r ≡ treeCall g ls s r .answer
   pub same-graph : previewNumber g ls (length bs) s r ≡ 0 → apply g (choiceIn g (previewBytes g ls bs s r)) ≡ treeCall g ls s r .graph
+
+-- all nodes, by rising index
+unfoldable pub allNodes : Graph → List ℕ
+allNodes g = tab (g .N) (λ v. node g v)
+
+-- a preview's bytes as the moves of all nodes (M-106): the list is accepted, and gives the tree call's graph
+pub record AsList (g : Graph) (ls bs : List ℕ) (s r : ℕ) : Type 0 where
+  pub accepted : manyNumber g ls (allNodes g) (previewBytes g ls bs s r) ≡ 0
+  pub same-graph : manyCall g ls (allNodes g) (previewBytes g ls bs s r) .graph ≡ treeCall g ls s r .graph

@@ -9,16 +9,9 @@ ghost use Rattle.graph.specs.Graph.{graphOf, isEdge};
 ghost use Rattle.moves.specs.Apply.{seen, apply};
 ghost use Rattle.preview.specs.Preview.{choiceIn};
 ghost use Rattle.preview.specs.Telling.{Says, threeAfter};
+use graph::table::byte_at;
 use graph::table::word_at;
 use moves::rows;
-
-// The move in the byte of node v.
-pub fn move_at(bytes: &[u8], v: usize) -> u32
-    requires { ⌜ v < length (now bytes) ⌝ }
-    ensures { λ r. ⌜ r ≡ getD (now (bytes .entry)) v 0 ⌝ }
-{
-    bytes[v] as u32
-}
 
 // Whether the readers of index u would be turned.
 pub fn seen_at(
@@ -37,7 +30,7 @@ pub fn seen_at(
         return 0;
     }
     let v = (u - (inputs + 1)) as usize;
-    let m = move_at(bytes, v);
+    let m = byte_at(bytes, v);
     if m == 0 {
         return 0;
     }
@@ -84,7 +77,7 @@ pub fn word_after(
     requires { ⌜ Says (graphOf inputs nodes outputs (now «node_table») (now «output_table»)) (now bytes) × (v < nodes) × (k < 3) × (isEdge (graphOf inputs nodes outputs (now «node_table») (now «output_table»)) (3 * v + k) ≡ true) ⌝ }
     ensures { λ r. ⌜ (r ≡ nodeAdds (apply (graphOf inputs nodes outputs (now («node_table» .entry)) (now («output_table» .entry))) (choiceIn (graphOf inputs nodes outputs (now («node_table» .entry)) (now («output_table» .entry))) (now (bytes .entry)))) (3 * v + k)) × (r ≤ 1) ⌝ }
 {
-    let m = move_at(bytes, v);
+    let m = byte_at(bytes, v);
     let xor = rows::is_xor(node_table, v);
     let f = rows::flag_of(xor, m, k);
     let x = word_at(node_table, 3 * v + k);

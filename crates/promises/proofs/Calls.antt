@@ -1,27 +1,31 @@
--- What one call of a list does, of each of the four kinds. From the laws of calls (crates moves and rounds).
+-- What one call of a list does, of each of the five kinds. From the laws of calls (crates moves, many and rounds).
 use mathlib.Core.Path.{_≡_, refl, sym, ap, _∙_}
 use mathlib.Core.Bool.{Bool, true, false, cond}
 use mathlib.Core.List.{List, [], _∷_}
 use Prim.Native.Nat.{ℕ, zero, suc, _-_, _*_, _≤_}
 use native.Mathlib.Omega.{arith}
-use lib.IntN.{pos}
+use lib.IntN.{ℤ, pos, _+ℤ_}
 use lib.ListN.{length}
 use Rattle.graph.specs.Finite.{first}
 use Rattle.graph.specs.Graph.{Graph}
 use Rattle.graph.specs.Count.{C}
-use Rattle.graph.specs.Admission.{Admitted, LockBytes, admissionNumber}
-use Rattle.graph.specs.Answer.{gained, savingOf, Outcome, outcome, guarded}
+use Rattle.graph.specs.Admission.{Admitted, LockBytes, tablesNumber, contentNumber, admissionNumber}
+use Rattle.graph.specs.Answer.{gained, whole, savingOf, Outcome, outcome, guarded}
 use Rattle.graph.specs.Difference.{difference}
-use Rattle.graph.proofs.DifferenceSum.{no-difference}
-use Rattle.graph.proofs.Tests.{none, off}
+use Rattle.graph.proofs.DifferenceSum.{no-difference, telescope}
+use Rattle.graph.proofs.Tests.{none, off, both}
 use Rattle.graph.proofs.Admit.{admission-none}
+use Rattle.moves.specs.Apply.{put, apply}
+use Rattle.moves.specs.Apply as choices
 use Rattle.moves.specs.Tree.{tree}
-use Rattle.moves.specs.Call.{rewrite, nodeFault, wordFault, rootFault, scratchFault, isNode, namedBy, nodeNumber, nodeCall, pairNumber, pairRewrite, pairCall, treeNumber, treeCall}
-use Rattle.moves.proofs.Kept.{Kept, kept-none, best-lowest}
+use Rattle.moves.specs.Call.{moved, rewrite, nodeFault, wordFault, rootFault, scratchFault, isNode, namedBy, nodeNumber, nodeCall, pairNumber, pairRewrite, pairCall, treeNumber, treeCall}
+use Rattle.moves.proofs.Kept.{Stays, stays-none, apply-stays, best-lowest}
+use Rattle.many.specs.Many.{manyNumber, manyCall}
+use Rattle.many.proofs.EveryOrder.{every-order}
 use Rattle.rounds.specs.Settle.{settle, settled, settleNumber, settleCall}
 use Rattle.rounds.proofs.Calls.{Honest, node-honest, pair-honest, tree-honest}
 use Rattle.rounds.proofs.Rounds.{settle-ended}
-use Rattle.promises.specs.Demand.{Call, nodeAt, pairAt, treeAt, settling, Locked, beside, step, fault, Beside, Made}
+use Rattle.promises.specs.Demand.{Call, nodeAt, pairAt, treeAt, settling, manyAt, Locked, beside, step, fault, Beside, Made}
 
 -- a call guarded by k, that else answers a without a fault
 module _ (g : Graph) (o : Outcome) (fine : o .answer .number ≡ 0) where
@@ -44,6 +48,10 @@ module _ (g : Graph) (o : Outcome) (fine : o .answer .number ≡ 0) where
 passed : (g : Graph) → Admitted g → (ls : List ℕ) → LockBytes (g .N) ls → (k : ℕ) → first (admissionNumber g ls) k ≡ k
 passed g adm ls ok k = sym (none (admissionNumber g ls) k (admission-none g adm ls ok) refl)
 
+admitted-none : (g : Graph) (ls : List ℕ) → admissionNumber g ls ≡ 0 → first (tablesNumber g ls) (contentNumber g ls) ≡ 0
+unfolding admissionNumber
+admitted-none g ls e = e
+
 module _ (d : Locked) (adm : Admitted (d .graph)) (ok : LockBytes (d .graph .N) (d .locks)) where
   abbrev g : Graph
   g = d .graph
@@ -52,8 +60,8 @@ module _ (d : Locked) (adm : Admitted (d .graph)) (ok : LockBytes (d .graph .N) 
   ls = d .locks
 
   -- what a guarded call whose number comes to the fault f promises
-  made : (c : Call) (k : ℕ) (o : Outcome) → step d c ≡ beside d (guarded k g o) → o .answer .number ≡ 0 → k ≡ fault g c
-      → (fault g c ≡ 0 → Beside d c (beside d o)) → Made d c
+  made : (c : Call) (k : ℕ) (o : Outcome) → step d c ≡ beside d (guarded k g o) → o .answer .number ≡ 0 → k ≡ fault d c
+      → (fault d c ≡ 0 → Beside d c (beside d o)) → Made d c
   made c k o e fine q b =
       record {
         admitted = adm;
@@ -97,43 +105,68 @@ module _ (d : Locked) (adm : Admitted (d .graph)) (ok : LockBytes (d .graph .N) 
       let e = settle-ended ls (length scratch) g adm ok (enough scratch z) in
       ((e .lowest), record { values = refl; signed = refl; few = e .few }))
 
+  many-passed : (us ms : List ℕ) → manyNumber g ls us ms ≡ fault d (manyAt us ms)
+  unfolding manyNumber first
+  many-passed us ms =
+      let b = both (tablesNumber g ls) (contentNumber g ls) (admitted-none g ls (admission-none g adm ls ok)) in
+      rw (b .0, b .1)
+
+  many-made : (us ms : List ℕ) → Made d (manyAt us ms)
+  unfolding manyCall
+  many-made us ms =
+      let h = moved g us ms in
+      made (manyAt us ms) (manyNumber g ls us ms) (outcome (whole (difference (C g) (C h))) h) refl refl (many-passed us ms) (λ z es p. every-order g ls us ms (many-passed us ms ∙ z) es p)
+
   pub call-made : (c : Call) → Made d c
   call-made (nodeAt u) = node-made u
   call-made (pairAt u k) = pair-made u k
   call-made (treeAt r scratch) = tree-made r scratch
   call-made (settling scratch) = settling-made scratch
+  call-made (manyAt us ms) = many-made us ms
 
-  -- what a call keeps, and that its two numbers are together what C falls by
+  -- what a call keeps, and that its numbers are together what C falls by
   record Kind (o : Outcome) : Type 0 where
-    keeps : Kept g (o .graph) (C g - C (o .graph))
+    keeps : Stays g (o .graph)
     adds : savingOf (o .answer) ≡ difference (C g) (C (o .graph))
 
   honest : (call : Graph → Outcome) → Honest call → Kind (call g)
-  honest call h = record { keeps = h .keeps g adm; adds = h .adds g }
+  honest call h = record { keeps = h .keeps g adm .stays; adds = h .adds g }
 
-  guarded-kind : (scratch : List ℕ) (k : ℕ) → (k ≡ 0 → 8 * g .N ≤ length scratch) → Kind (guarded k g (settled g (settle ls (length scratch) g)))
+  guarded-kind : (k : ℕ) (o : Outcome) → (k ≡ 0 → Kind o) → Kind (guarded k g o)
   unfolding guarded
-  guarded-kind scratch zero h = let e = settle-ended ls (length scratch) g adm ok (h refl) in record { keeps = e .keeps; adds = e .sums }
-  guarded-kind scratch (suc k) h =
-      let z : C g - C g ≡ 0 = omega arith in
-      record { keeps = rw z (kept-none g adm); adds = sym (no-difference (C g)) }
+  guarded-kind zero o h = h refl
+  guarded-kind (suc k) o h = record { keeps = stays-none g adm; adds = sym (no-difference (C g)) }
 
   settling-kind : (scratch : List ℕ) → Kind (settleCall g ls (length scratch))
   unfolding settleCall settleNumber
   settling-kind scratch =
-      guarded-kind scratch (settleNumber g ls (length scratch)) (λ z. enough scratch (sym (passed g adm ls ok (scratchFault g (length scratch))) ∙ z))
+      guarded-kind (settleNumber g ls (length scratch)) (settled g (settle ls (length scratch) g))
+      (λ z.
+      let e = settle-ended ls (length scratch) g adm ok (enough scratch (sym (passed g adm ls ok (scratchFault g (length scratch))) ∙ z)) in
+      record { keeps = e .keeps .stays; adds = e .sums })
+
+  -- one number is the saving by itself
+  alone : (a b : ℕ) → difference a b +ℤ pos 0 ≡ difference a b
+  alone a b = ap (λ (x : ℤ). difference a b +ℤ x) (sym (no-difference b)) ∙ telescope a b b
+
+  many-kind : (us ms : List ℕ) → Kind (manyCall g ls us ms)
+  unfolding manyCall moved
+  many-kind us ms =
+      let h = apply g (put choices.none us ms) in
+      guarded-kind (manyNumber g ls us ms) (outcome (whole (difference (C g) (C h))) h) (λ z. record { keeps = apply-stays g (put choices.none us ms) adm; adds = alone (C g) (C h) })
 
   -- the same of a call of the list, which leaves the locks
   pub record Keeps (c : Call) : Type 0 where
-    pub kept : Kept g (step d c .graph) (C g - C (step d c .graph))
+    pub stays : Stays g (step d c .graph)
     pub adds : savingOf (step d c .answer) ≡ difference (C g) (C (step d c .graph))
     pub locks : step d c .locks ≡ ls
 
   keeps : (c : Call) → Kind (outcome (step d c .answer) (step d c .graph)) → step d c .locks ≡ ls → Keeps c
-  keeps c k e = record { kept = k .keeps; adds = k .adds; locks = e }
+  keeps c k e = record { stays = k .keeps; adds = k .adds; locks = e }
 
   pub call-keeps : (c : Call) → Keeps c
   call-keeps (nodeAt u) = keeps (nodeAt u) (honest (λ x. nodeCall x ls u) (node-honest ls (λ x. u))) refl
   call-keeps (pairAt u k) = keeps (pairAt u k) (honest (λ x. pairCall x ls u k) (pair-honest ls (λ x. u) k)) refl
   call-keeps (treeAt r scratch) = keeps (treeAt r scratch) (honest (λ x. treeCall x ls (length scratch) r) (tree-honest ls (λ x. r) (length scratch))) refl
   call-keeps (settling scratch) = keeps (settling scratch) (settling-kind scratch) refl
+  call-keeps (manyAt us ms) = keeps (manyAt us ms) (many-kind us ms) refl

@@ -1,7 +1,7 @@
 -- Demand 3: whatever the list of calls, from any admitted start. By induction over the list, from what each call does (Calls).
 use mathlib.Core.Path.{_≡_, refl, sym, ap, _∙_}
 use mathlib.Core.List.{List, [], _∷_}
-use Prim.Native.Nat.{ℕ, _+_, _-_}
+use Prim.Native.Nat.{ℕ}
 use native.Mathlib.Omega.{arith}
 use lib.IntN.{ℤ, pos, _+ℤ_}
 use Rattle.graph.specs.Count.{C}
@@ -13,13 +13,13 @@ use Rattle.tagged_file.specs.Load.{loadCall}
 use Rattle.tagged_file.proofs.RoundTrip.{Accepts, load-admitted, load-locks}
 use Rattle.aiger.specs.Import.{importCall}
 use Rattle.aiger.proofs.Imported.{import-admitted, import-locks}
-use Rattle.moves.proofs.Kept.{Kept, kept-none, kept-then}
+use Rattle.moves.proofs.Kept.{Stays, stays-none, stays-then}
 use Rattle.promises.specs.Demand.{Call, Locked, step, left, run, savings, Demand}
 use Rattle.promises.proofs.Calls.{call-made, call-keeps}
 
 -- what a list keeps: the graph but for complement bits, and the locks
 record Kind (d : Locked) (calls : List Call) : Type 0 where
-  kept : Kept (d .graph) (run d calls .graph) (C (d .graph) - C (run d calls .graph))
+  stays : Stays (d .graph) (run d calls .graph)
   locks : run d calls .locks ≡ d .locks
 
 -- locks that were admitted still are, where the number of nodes is the same
@@ -28,23 +28,19 @@ still d e p q ok = rw (p, q) ok
 
 module _ (d : Locked) (adm : Admitted (d .graph)) (ok : LockBytes (d .graph .N) (d .locks)) (c : Call) where
   next-admitted : Admitted (step d c .graph)
-  next-admitted = call-keeps d adm ok c .kept .admitted
+  next-admitted = call-keeps d adm ok c .stays .admitted
 
   next-locked : LockBytes (step d c .graph .N) (step d c .locks)
-  next-locked = let k = call-keeps d adm ok c in still d (left (step d c)) (k .kept .same-N) (k .locks) ok
+  next-locked = let k = call-keeps d adm ok c in still d (left (step d c)) (k .stays .same-N) (k .locks) ok
 
 list-kind : (d : Locked) → Admitted (d .graph) → LockBytes (d .graph .N) (d .locks) → (calls : List Call) → Kind d calls
-list-kind d adm ok [] = let z : C (d .graph) - C (d .graph) ≡ 0 = omega arith in record { kept = rw z (kept-none (d .graph) adm); locks = refl }
+list-kind d adm ok [] = record { stays = stays-none (d .graph) adm; locks = refl }
 list-kind d adm ok (c ∷ cs) =
-    let g = d .graph in
-    let h = step d c .graph in
-    let e = run (left (step d c)) cs .graph in
     let k = call-keeps d adm ok c in
     let l = list-kind (left (step d c)) (next-admitted d adm ok c) (next-locked d adm ok c) cs in
-    let z : C g - C e ≡ (C g - C h) + (C h - C e) = omega (arith, k .kept .count, l .kept .count) in
-    record { kept = rw z (kept-then g h e (C g - C h) (C h - C e) (k .kept) (l .kept)); locks = l .locks ∙ k .locks }
+    record { stays = stays-then (d .graph) (step d c .graph) (run (left (step d c)) cs .graph) (k .stays) (l .stays); locks = l .locks ∙ k .locks }
 
--- the running total is of both numbers together
+-- the running total is of all numbers together
 list-adds : (d : Locked) → Admitted (d .graph) → LockBytes (d .graph .N) (d .locks) → (calls : List Call) → savings d calls ≡ difference (C (d .graph)) (C (run d calls .graph))
 list-adds d adm ok [] = sym (no-difference (C (d .graph)))
 list-adds d adm ok (c ∷ cs) =
@@ -64,10 +60,10 @@ demand d adm ok calls =
     record {
       each = λ before c after e.
           let l = list-kind d adm ok before in
-          call-made (run d before) (l .kept .admitted) (still d (run d before) (l .kept .same-N) (l .locks) ok) c;
-      wired = k .kept .wired;
+          call-made (run d before) (l .stays .admitted) (still d (run d before) (l .stays .same-N) (l .locks) ok) c;
+      wired = k .stays .wired;
       locked = k .locks;
-      outputs = k .kept .outputs;
+      outputs = k .stays .outputs;
       count = total (C (run d calls .graph)) (C (d .graph)) (savings d calls) (list-adds d adm ok calls);
     }
 

@@ -6,14 +6,15 @@ use Rattle.graph.specs.Graph.{turn, isXor, isEdge}
 use Rattle.graph.specs.Turned.{turnedTable, turnedBy}
 use Rattle.graph.specs.Count.{adds, wordAdds, nodeAdds, outputAdds, C}
 use Rattle.graph.specs.Difference.{difference}
+use Rattle.graph.specs.Answer.{unless}
 use Rattle.graph.specs.Admission.{roomNumber, tablesNumber, wordNumber, outputNumber, literalNumber, lockNumber, locksNumber, contentNumber, admissionNumber}
 use Rattle.choice.specs.Choice.{from, choices}
 use Rattle.moves.specs.Rows.{rows, firstRow, arity, flag, kindMoves, lockAt, movesAt}
 use Rattle.moves.specs.Apply.{at, put, seen, own, turns, outputTurns, apply}
 use Rattle.moves.specs.Call.{moved, movedC, isNode, nodeFault, wordFault, namedBy, pairNumber}
-use Rattle.moves.specs.Trial.{moveHad, triedUnless, trialSaving, trialCall}
+use Rattle.moves.specs.Trial.{moveHad, trialSaving, trialCall}
 use Rattle.promises.specs.Trials.{Right}
 
 pub right : Right
-unfolding flatMap tab sum ifLess ifEqual first firstOf turn isXor isEdge adds wordAdds nodeAdds outputAdds C difference tablesNumber roomNumber wordNumber outputNumber literalNumber lockNumber locksNumber contentNumber admissionNumber from choices rows firstRow arity flag kindMoves lockAt movesAt at put seen own turns outputTurns turnedTable turnedBy apply moved movedC isNode nodeFault wordFault namedBy pairNumber moveHad triedUnless trialSaving trialCall
+unfolding flatMap tab sum ifLess ifEqual first firstOf turn isXor isEdge adds wordAdds nodeAdds outputAdds C difference tablesNumber roomNumber wordNumber outputNumber literalNumber lockNumber locksNumber contentNumber admissionNumber from choices rows firstRow arity flag kindMoves lockAt movesAt at put seen own turns outputTurns turnedTable turnedBy apply moved movedC isNode nodeFault wordFault namedBy pairNumber unless moveHad trialSaving trialCall
 right = refl

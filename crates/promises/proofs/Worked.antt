@@ -1,4 +1,4 @@
--- P1 to P10 hold of the definitions: by computation.
+-- The worked rows hold of the definitions: by computation.
 use mathlib.Core.Path.{refl}
 use mathlib.Core.List.{flatMap}
 use Rattle.graph.specs.Finite.{tab, sum, count, ifLess, ifEqual, first, firstOf}
@@ -14,10 +14,11 @@ use Rattle.moves.specs.Tree.{isRoot, last, place, reader, rootIn, rootOf, membe
 use Rattle.moves.specs.Call.{moved, movedC, bestAt, rewrite, isNode, nodeFault, wordFault, rootFault, scratchFault, nodeNumber, nodeCall, namedBy, pairNumber, pairRewrite, pairCall, treeNumber, treeCall}
 use Rattle.graph.specs.Difference.{difference}
 use Rattle.moves.specs.Split.{among, ownAdds, otherAdds, split}
+use Rattle.many.specs.Many.{risingFault, moveFault, lockedFault, entryNumber, listNumber, manyNumber, manyCall}
 use Rattle.rounds.specs.Round.{start, after, each, treeAt, nodeAt, pairAt, pairsAt, round}
 use Rattle.rounds.specs.Settle.{settleIn, settle, settleNumber, settleCall}
 use Rattle.promises.specs.Worked.{Right}
 
 pub right : Right
-unfolding flatMap tab sum count ifLess ifEqual first firstOf turn isXor isEdge adds wordAdds nodeAdds outputAdds C named outputNamed nodeReaders readers tablesNumber roomNumber wordNumber outputNumber literalNumber lockNumber locksNumber contentNumber admissionNumber guarded from choices unlessLess least best rows firstRow arity flag kindMoves lockAt movesAt at put seen own turns outputTurns turnedTable turnedBy apply isRoot last place reader rootIn rootOf members tree moved movedC bestAt rewrite isNode nodeFault wordFault rootFault scratchFault nodeNumber nodeCall namedBy pairNumber pairRewrite pairCall treeNumber treeCall difference among ownAdds otherAdds split start after each treeAt nodeAt pairAt pairsAt round settleIn settle settleNumber settleCall
-right = refl
+unfolding flatMap tab sum count ifLess ifEqual first firstOf turn isXor isEdge adds wordAdds nodeAdds outputAdds C named outputNamed nodeReaders readers tablesNumber roomNumber wordNumber outputNumber literalNumber lockNumber locksNumber contentNumber admissionNumber guarded from choices unlessLess least best rows firstRow arity flag kindMoves lockAt movesAt at put seen own turns outputTurns turnedTable turnedBy apply isRoot last place reader rootIn rootOf members tree moved movedC bestAt rewrite isNode nodeFault wordFault rootFault scratchFault nodeNumber nodeCall namedBy pairNumber pairRewrite pairCall treeNumber treeCall difference among ownAdds otherAdds split start after each treeAt nodeAt pairAt pairsAt round settleIn settle settleNumber settleCall risingFault moveFault lockedFault entryNumber listNumber manyNumber manyCall
+right = (refl, refl, refl)

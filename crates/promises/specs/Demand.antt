@@ -1,10 +1,10 @@
--- Demand 3, over every list of node, pair, tree and settling calls.
+-- Demand 3, over every list of node, pair, tree, settling and many calls.
 use mathlib.Core.Path.{_≡_}
-use mathlib.Core.List.{List, [], _∷_, _++_, map}
+use mathlib.Core.List.{List, [], _∷_, _++_, map, Perm}
 use Prim.Native.Nat.{ℕ, _+_, _-_, _≤_, _<_}
 use lib.IntN.{ℤ, pos, _+ℤ_}
 use lib.ListN.{length}
-use Rattle.graph.specs.Finite.{first}
+use Rattle.graph.specs.Finite.{ifLess, first}
 use Rattle.graph.specs.Graph.{Graph, wiring}
 use Rattle.graph.specs.Value.{Assignment, outputValue}
 use Rattle.graph.specs.Count.{C}
@@ -14,14 +14,16 @@ use Rattle.choice.specs.Choice.{Fits}
 use Rattle.moves.specs.Rows.{movesAt}
 use Rattle.moves.specs.Tree.{tree}
 use Rattle.moves.specs.Call.{moved, nodeFault, wordFault, rootFault, scratchFault, nodeCall, pairCall, treeCall}
+use Rattle.many.specs.Many.{Entry, entries, oneByOne, listNumber, manyCall}
 use Rattle.rounds.specs.Settle.{settle, settleCall, NothingLowers}
 
--- a call, with whatever node, word and scratch it is given
+-- a call, with whatever nodes, word, moves and scratch it is given
 pub data Call : Type 0 where
   nodeAt : (node : ℕ) → Call
   pairAt : (node word : ℕ) → Call
   treeAt : (root : ℕ) (scratch : List ℕ) → Call
   settling : (scratch : List ℕ) → Call
+  manyAt : (nodes moves : List ℕ) → Call
 
 -- a graph with its locks
 pub record Locked : Type 0 where
@@ -40,6 +42,7 @@ step d (nodeAt u) = beside d (nodeCall (d .graph) (d .locks) u)
 step d (pairAt u k) = beside d (pairCall (d .graph) (d .locks) u k)
 step d (treeAt r scratch) = beside d (treeCall (d .graph) (d .locks) (length scratch) r)
 step d (settling scratch) = beside d (settleCall (d .graph) (d .locks) (length scratch))
+step d (manyAt us ms) = beside d (manyCall (d .graph) (d .locks) us ms)
 
 -- what it leaves for the next call
 abbrev pub left : LockedOutcome → Locked
@@ -50,17 +53,18 @@ abbrev pub run : Locked → List Call → Locked
 run d [] = d
 run d (c ∷ cs) = run (left (step d c)) cs
 
--- all savings that the calls reported: both numbers of each, together
+-- all savings that the calls reported: the numbers of each, together
 abbrev pub savings : Locked → List Call → ℤ
 savings d [] = pos 0
 savings d (c ∷ cs) = savingOf (step d c .answer) +ℤ savings (left (step d c)) cs
 
--- what refuses a call on an admitted graph: 7 or 8, or nothing
-abbrev pub fault : Graph → Call → ℕ
-fault g (nodeAt u) = nodeFault g u
-fault g (pairAt u k) = first (nodeFault g u) (wordFault g u k)
-fault g (treeAt r scratch) = first (nodeFault g r) (first (rootFault g r) (scratchFault g (length scratch)))
-fault g (settling scratch) = scratchFault g (length scratch)
+-- what refuses a call on an admitted graph with its locks, or nothing: 7 or 8, and a list of moves 4, 7, 14, 15 or 16
+abbrev pub fault : Locked → Call → ℕ
+fault d (nodeAt u) = nodeFault (d .graph) u
+fault d (pairAt u k) = first (nodeFault (d .graph) u) (wordFault (d .graph) u k)
+fault d (treeAt r scratch) = first (nodeFault (d .graph) r) (first (rootFault (d .graph) r) (scratchFault (d .graph) (length scratch)))
+fault d (settling scratch) = scratchFault (d .graph) (length scratch)
+fault d (manyAt us ms) = first (ifLess (length ms) (length us) 4 0) (listNumber (d .graph) (d .locks) us ms)
 
 -- rounds as settling reports them: those of the definition, at most the fall plus one; and the sums over their calls
 pub record RoundsReported (d : Locked) (scratch : List ℕ) (o : LockedOutcome) : Type 0 where
@@ -70,21 +74,22 @@ pub record RoundsReported (d : Locked) (scratch : List ℕ) (o : LockedOutcome) 
 
 -- what an accepted call on d promises beside: a tree call that every choice of moves at the tree's nodes that leaves locked nodes
 -- alone, made on the graph before the call, has at least the C that it left; settling that no such choice at one node, on a pair or
--- on a tree lowers C then
+-- on a tree lowers C then; many moves that one by one, in every order, they give the graph that it left
 abbrev pub Beside : Locked → Call → LockedOutcome → Type 0
 Beside d (nodeAt u) o = Unit
 Beside d (pairAt u k) o = Unit
 Beside d (treeAt r scratch) o =
     (ms : List ℕ) → Fits (map (movesAt (d .graph) (d .locks)) (tree (d .graph) r)) ms → C (o .graph) ≤ C (moved (d .graph) (tree (d .graph) r) ms)
 Beside d (settling scratch) o = NothingLowers (o .graph) (o .locks) × RoundsReported d scratch o
+Beside d (manyAt us ms) o = (es : List Entry) → Perm (entries us ms) es → oneByOne (d .graph) es ≡ o .graph
 
 -- a call on d, the graph and the locks as the load or the call before left them
 pub record Made (d : Locked) (c : Call) : Type 0 where
   pub admitted : Admitted (d .graph)
   pub locked : LockBytes (d .graph .N) (d .locks)
-  pub number : step d c .answer .number ≡ fault (d .graph) c
-  pub refused : (fault (d .graph) c ≡ 0 → ⊥) → (left (step d c) ≡ d) × (step d c .answer .values ≡ []) × (step d c .answer .signed ≡ [])
-  pub accepted : fault (d .graph) c ≡ 0 → Beside d c (step d c)
+  pub number : step d c .answer .number ≡ fault d c
+  pub refused : (fault d c ≡ 0 → ⊥) → (left (step d c) ≡ d) × (step d c .answer .values ≡ []) × (step d c .answer .signed ≡ [])
+  pub accepted : fault d c ≡ 0 → Beside d c (step d c)
 
 -- demand 3 for a start d and a list of calls
 pub record Demand (d : Locked) (calls : List Call) : Type 0 where

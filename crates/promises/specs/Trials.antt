@@ -40,7 +40,7 @@ worked =
 abbrev pub tried : Trials → List ℤ
 tried r =
     let g = r .graph in
-    flatMap (λ ms. trialCall g (r .locks) (r .node) (r .word) (getD ms 0 0) (getD ms 1 0) .gains) (choices (map (kindMoves g) (namedBy g (r .node) (r .word) ∷ r .node ∷ [])))
+    flatMap (λ ms. trialCall g (r .locks) (r .node) (r .word) (getD ms 0 0) (getD ms 1 0) .signed) (choices (map (kindMoves g) (namedBy g (r .node) (r .word) ∷ r .node ∷ [])))
 
 -- every row is so
 abbrev pub Right : Type 0

@@ -19,7 +19,7 @@ use Rattle.answers.proofs.Same.{same-told}
 use Rattle.promises.specs.Demand.{Call, Locked, withLocks}
 use Rattle.replay.specs.declared.Replayed.{Replayed}
 use Rattle.replay.specs.declared.Replayed.the-variants as replayed
-use Rattle.replay.specs.declared.CallsFault.the-variants.{LeftOver, UnknownKind}
+use Rattle.replay.specs.declared.CallsFault.the-variants.{LeftOver, UnknownKind, PartOutside}
 use Rattle.replay.specs.Replay.{replayedAnswer, replayedGraph, DemandMet}
 use Rattle.graph.proofs.Answers.{number-some}
 
@@ -54,6 +54,7 @@ pub replayed-demand : (r : Replayed) (d : Locked) (cs : List Call) (ns os ls : L
 replayed-demand (replayed.Done i n o) d cs ns os ls l before m e h z = rw e (h z)
 replayed-demand (replayed.NotCalls LeftOver) d cs ns os ls l before m e h z = absurd (omega arith)
 replayed-demand (replayed.NotCalls UnknownKind) d cs ns os ls l before m e h z = absurd (omega arith)
+replayed-demand (replayed.NotCalls PartOutside) d cs ns os ls l before m e h z = absurd (omega arith)
 replayed-demand (replayed.Refused r) d cs ns os ls l before m e h z = absurd (number-some r z)
 
 -- the stretch that a field call tells of is the payload

@@ -15,10 +15,11 @@ ghost use Rattle.evaluation.specs.Evaluation.{evaluateNumber, resultsAfter};
 ghost use Rattle.moves.specs.Call.{nodeCall, pairCall, treeCall};
 ghost use Rattle.preview.specs.Preview.{previewAnswer, previewBytes};
 ghost use Rattle.moves.specs.Trial.{trialCall};
+ghost use Rattle.many.specs.Many.{manyCall};
 ghost use Rattle.rounds.specs.Settle.{settleCall};
 ghost use Rattle.answers.specs.Told.{told, toldOne, toldSigned, toldGain};
 ghost use Rattle.promises.specs.Demand.{withLocks, left};
-ghost use Rattle.replay.specs.Replay.{decode, replayCall, answersAfter, DemandMet};
+ghost use Rattle.replay.specs.Replay.{lent, decode, replayCall, answersAfter, DemandMet};
 ghost use Rattle.reducer.specs.Interface.{fieldAnswer};
 
 // Where the payload of the field at the front starts, and its length.
@@ -274,9 +275,42 @@ pub extern "C" fn reducer_trial(
         node_move,
     );
     let before = *gain;
-    let after = answers::told::trial_told(answer, before);
+    let after = answers::told::gain_told(answer, before);
     *gain = after;
-    answers::told::trial_number(answer)
+    answers::told::gain_number(answer)
+}
+
+// All moves of the list or none: node `list[k]` with move `bytes[k]`. Fills `saving` with what they save, which may be below 0.
+#[no_mangle]
+pub extern "C" fn reducer_many(
+    inputs: u32,
+    nodes: u32,
+    outputs: u32,
+    node_table: &mut [u32],
+    output_table: &mut [u32],
+    locks: &[u8],
+    list: &[u32],
+    bytes: &[u8],
+    saving: &mut i64,
+) -> u32
+    ensures answer { λ r. ⌜ r ≡ manyCall (graphOf inputs nodes outputs (now («node_table» .entry)) (now («output_table» .entry))) (now (locks .entry)) (now (list .entry)) (now (bytes .entry)) .answer .number ⌝ }
+    ensures graph { λ r. ⌜ graphOf inputs nodes outputs (now («node_table» .exit)) (now («output_table» .exit)) ≡ manyCall (graphOf inputs nodes outputs (now («node_table» .entry)) (now («output_table» .entry))) (now (locks .entry)) (now (list .entry)) (now (bytes .entry)) .graph ⌝ }
+    ensures told { λ r. ⌜ now (saving .exit) ≡ toldGain (manyCall (graphOf inputs nodes outputs (now («node_table» .entry)) (now («output_table» .entry))) (now (locks .entry)) (now (list .entry)) (now (bytes .entry)) .answer) (now (saving .entry)) ⌝ }
+{
+    let answer = many::many(
+        inputs,
+        nodes,
+        outputs,
+        node_table,
+        output_table,
+        locks,
+        list,
+        bytes,
+    );
+    let before = *saving;
+    let after = answers::told::gain_told(answer, before);
+    *saving = after;
+    answers::told::gain_number(answer)
 }
 
 // The best moves of the tree of a root.
@@ -386,18 +420,20 @@ pub extern "C" fn reducer_replay(
     node_table: &mut [u32],
     output_table: &mut [u32],
     locks: &mut [u8],
+    list: &[u32],
+    bytes: &[u8],
     scratch: &mut [u32],
     answers: &mut [i64],
     numbers: &mut [u32; 3],
 ) -> u32
-    ensures answer { λ r. ⌜ r ≡ replayCall (now (file .entry)) (now (calls .entry)) (now («node_table» .entry)) (now («output_table» .entry)) (now (locks .entry)) (now (scratch .entry)) (length (now (answers .entry))) .answer .number ⌝ }
-    ensures nodes { λ r. ⌜ now («node_table» .exit) ≡ replayCall (now (file .entry)) (now (calls .entry)) (now («node_table» .entry)) (now («output_table» .entry)) (now (locks .entry)) (now (scratch .entry)) (length (now (answers .entry))) .graph .nodes ⌝ }
-    ensures outputs { λ r. ⌜ now («output_table» .exit) ≡ replayCall (now (file .entry)) (now (calls .entry)) (now («node_table» .entry)) (now («output_table» .entry)) (now (locks .entry)) (now (scratch .entry)) (length (now (answers .entry))) .graph .outputs ⌝ }
-    ensures locks { λ r. ⌜ now (locks .exit) ≡ replayCall (now (file .entry)) (now (calls .entry)) (now («node_table» .entry)) (now («output_table» .entry)) (now (locks .entry)) (now (scratch .entry)) (length (now (answers .entry))) .locks ⌝ }
-    ensures numbers { λ r. ⌜ now (numbers .exit) ≡ told (replayCall (now (file .entry)) (now (calls .entry)) (now («node_table» .entry)) (now («output_table» .entry)) (now (locks .entry)) (now (scratch .entry)) (length (now (answers .entry))) .answer) (now (numbers .entry)) ⌝ }
-    ensures answers { λ r. ⌜ now (answers .exit) ≡ answersAfter (now (file .entry)) (now (calls .entry)) (now («node_table» .entry)) (now («output_table» .entry)) (now (locks .entry)) (now (scratch .entry)) (now (answers .entry)) ⌝ }
-    ensures scratch { λ r. ⌜ ScratchKept (replayCall (now (file .entry)) (now (calls .entry)) (now («node_table» .entry)) (now («output_table» .entry)) (now (locks .entry)) (now (scratch .entry)) (length (now (answers .entry))) .answer) (now (scratch .entry)) (now (scratch .exit)) ⌝ }
-    ensures demand { λ r. ⌜ (r ≡ 0 → DemandMet (left (loadCall (now (file .entry)) (now («node_table» .entry)) (now («output_table» .entry)) (now (locks .entry)))) (decode (now (scratch .entry)) (now (calls .entry))) (withLocks (graphOf (getD (now (numbers .exit)) 0 0) (getD (now (numbers .exit)) 1 0) (getD (now (numbers .exit)) 2 0) (now («node_table» .exit)) (now («output_table» .exit))) (now (locks .exit))) (now (answers .exit))) ⌝ }
+    ensures answer { λ r. ⌜ r ≡ replayCall (now (file .entry)) (now (calls .entry)) (lent (now (scratch .entry)) (now (list .entry)) (now (bytes .entry))) (now («node_table» .entry)) (now («output_table» .entry)) (now (locks .entry)) (length (now (answers .entry))) .answer .number ⌝ }
+    ensures nodes { λ r. ⌜ now («node_table» .exit) ≡ replayCall (now (file .entry)) (now (calls .entry)) (lent (now (scratch .entry)) (now (list .entry)) (now (bytes .entry))) (now («node_table» .entry)) (now («output_table» .entry)) (now (locks .entry)) (length (now (answers .entry))) .graph .nodes ⌝ }
+    ensures outputs { λ r. ⌜ now («output_table» .exit) ≡ replayCall (now (file .entry)) (now (calls .entry)) (lent (now (scratch .entry)) (now (list .entry)) (now (bytes .entry))) (now («node_table» .entry)) (now («output_table» .entry)) (now (locks .entry)) (length (now (answers .entry))) .graph .outputs ⌝ }
+    ensures locks { λ r. ⌜ now (locks .exit) ≡ replayCall (now (file .entry)) (now (calls .entry)) (lent (now (scratch .entry)) (now (list .entry)) (now (bytes .entry))) (now («node_table» .entry)) (now («output_table» .entry)) (now (locks .entry)) (length (now (answers .entry))) .locks ⌝ }
+    ensures numbers { λ r. ⌜ now (numbers .exit) ≡ told (replayCall (now (file .entry)) (now (calls .entry)) (lent (now (scratch .entry)) (now (list .entry)) (now (bytes .entry))) (now («node_table» .entry)) (now («output_table» .entry)) (now (locks .entry)) (length (now (answers .entry))) .answer) (now (numbers .entry)) ⌝ }
+    ensures answers { λ r. ⌜ now (answers .exit) ≡ answersAfter (now (file .entry)) (now (calls .entry)) (lent (now (scratch .entry)) (now (list .entry)) (now (bytes .entry))) (now («node_table» .entry)) (now («output_table» .entry)) (now (locks .entry)) (now (answers .entry)) ⌝ }
+    ensures scratch { λ r. ⌜ ScratchKept (replayCall (now (file .entry)) (now (calls .entry)) (lent (now (scratch .entry)) (now (list .entry)) (now (bytes .entry))) (now («node_table» .entry)) (now («output_table» .entry)) (now (locks .entry)) (length (now (answers .entry))) .answer) (now (scratch .entry)) (now (scratch .exit)) ⌝ }
+    ensures demand { λ r. ⌜ (r ≡ 0 → DemandMet (left (loadCall (now (file .entry)) (now («node_table» .entry)) (now («output_table» .entry)) (now (locks .entry)))) (decode (lent (now (scratch .entry)) (now (list .entry)) (now (bytes .entry))) (now (calls .entry))) (withLocks (graphOf (getD (now (numbers .exit)) 0 0) (getD (now (numbers .exit)) 1 0) (getD (now (numbers .exit)) 2 0) (now («node_table» .exit)) (now («output_table» .exit))) (now (locks .exit))) (now (answers .exit))) ⌝ }
 {
     let answer = replay::replay(
         file,
@@ -405,6 +441,8 @@ pub extern "C" fn reducer_replay(
         node_table,
         output_table,
         locks,
+        list,
+        bytes,
         scratch,
         answers,
     );

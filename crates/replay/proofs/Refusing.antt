@@ -1,68 +1,106 @@
--- The walk over the kinds, and what refuses a list of calls at each test. From the laws on tests.
-use mathlib.Core.Path.{_≡_, refl, sym}
-use mathlib.Core.Bool.{Bool, true, false, cond}
+-- What refuses one call of a list, the walk over all of them, and what refuses the list at each test. From the laws on tests.
+use mathlib.Core.Path.{_≡_, refl, sym, _∙_}
 use mathlib.Core.List.{List, [], _∷_}
-use mathlib.Core.Logic.{⊎-elim}
-use Prim.Native.Nat.{ℕ, _*_, _/_, _%_, _≤_, _<_}
+use mathlib.Core.Logic.{⊎-elim, _≢_}
+use Prim.Native.Nat.{ℕ, zero, suc, _+_, _*_, _/_, _%_, _≤_, _<_}
 use native.Mathlib.Omega.{arith}
-use lib.Dec.{ltb}
 use lib.ListN.{length, getD, drop}
 use Rattle.graph.specs.Finite.{ifLess, ifEqual, first}
-use Rattle.graph.proofs.Cases.{lt-or-le}
+use Rattle.graph.proofs.Cases.{lt-or-le, eq-or-ne}
 use Rattle.graph.proofs.Tests.{equal, unequal, less, no-less, fault, none}
-use Rattle.replay.specs.Replay.{kindsNumber, codeNumber, usable}
+use Rattle.replay.specs.Replay.{callNumber, wordsNumber, codeNumber, lesser, usable}
 
-pub kinds-step : (s : List ℕ) → 3 ≤ length s → kindsNumber s ≡ first (ifLess 3 (getD s 0 0) 102 0) (kindsNumber (drop 3 s))
-kinds-step [] h = absurd (omega arith)
-kinds-step (k ∷ []) h = absurd (omega arith)
-kinds-step (k ∷ u ∷ []) h = absurd (omega arith)
-kinds-step (k ∷ u ∷ w ∷ s) h = refl
+-- what the tests of one call come to
+module _ (n k u w : ℕ) where
+  pub kind-unknown : 4 < k → 102 ≡ callNumber n k u w
+  unfolding callNumber
+  kind-unknown h = let q : _≡_ {A = ℕ} 102 (ifLess 4 k 102 0) = less 4 k 102 0 h refl in fault _ _ q (λ z. omega (arith, q))
 
-pub kinds-done : (s : List ℕ) → length s < 3 → 0 ≡ kindsNumber s
-kinds-done [] h = refl
-kinds-done (k ∷ []) h = refl
-kinds-done (k ∷ u ∷ []) h = refl
-kinds-done (k ∷ u ∷ w ∷ s) h = absurd (omega arith)
+  module _ (h : k ≤ 4) where
+    kind-known : _≡_ {A = ℕ} (ifLess 4 k 102 0) 0
+    kind-known = sym (no-less 4 k 102 0 h refl)
 
--- a number of the kinds that is not 0 is 102
-unknown-by : (t : Bool) (r : ℕ) → (first (cond t 102 0) r ≡ 0 → ⊥) → ((r ≡ 0 → ⊥) → 102 ≡ r) → 102 ≡ first (cond t 102 0) r
-unfolding first
-unknown-by true r n h = refl
-unknown-by false r n h = h n
+    pub no-part : k ≢ 4 → 0 ≡ callNumber n k u w
+    unfolding callNumber
+    no-part m = none _ _ kind-known (unequal k 4 _ 0 m refl)
 
-kinds-unknown : (s : List ℕ) → (kindsNumber s ≡ 0 → ⊥) → 102 ≡ kindsNumber s
-unfolding ifLess
-kinds-unknown [] n = absurd (n refl)
-kinds-unknown (k ∷ []) n = absurd (n refl)
-kinds-unknown (k ∷ u ∷ []) n = absurd (n refl)
-kinds-unknown (k ∷ u ∷ w ∷ s) n = unknown-by (ltb 3 k) (kindsNumber s) n (kinds-unknown s)
+    pub part-outside : k ≡ 4 → n < u + w → 105 ≡ callNumber n k u w
+    unfolding callNumber
+    part-outside e m = none _ _ kind-known (equal k 4 _ 0 e (less n (u + w) 105 0 m refl))
 
-module _ (ws : List ℕ) (room : ℕ) where
+    pub part-inside : k ≡ 4 → u + w ≤ n → 0 ≡ callNumber n k u w
+    unfolding callNumber
+    part-inside e m = none _ _ kind-known (equal k 4 _ 0 e (no-less n (u + w) 105 0 m refl))
+
+module _ (n : ℕ) where
+  pub words-step : (s : List ℕ) → 3 ≤ length s → wordsNumber n s ≡ first (callNumber n (getD s 0 0) (getD s 1 0) (getD s 2 0)) (wordsNumber n (drop 3 s))
+  words-step [] h = absurd (omega arith)
+  words-step (k ∷ []) h = absurd (omega arith)
+  words-step (k ∷ u ∷ []) h = absurd (omega arith)
+  words-step (k ∷ u ∷ w ∷ s) h = refl
+
+  pub words-done : (s : List ℕ) → length s < 3 → 0 ≡ wordsNumber n s
+  words-done [] h = refl
+  words-done (k ∷ []) h = refl
+  words-done (k ∷ u ∷ []) h = refl
+  words-done (k ∷ u ∷ w ∷ s) h = absurd (omega arith)
+
+  -- a number of the words that is neither 0 nor 102 is 105
+  call-cases : (k u w : ℕ) → callNumber n k u w ≢ 0 → callNumber n k u w ≢ 102 → 105 ≡ callNumber n k u w
+  call-cases k u w z m =
+      ⊎-elim
+      (λ (h : 4 < k). absurd (m (sym (kind-unknown n k u w h))))
+      (λ (h : k ≤ 4).
+      ⊎-elim
+      (λ (e : k ≡ 4).
+      ⊎-elim
+      (λ (l : n < u + w). part-outside n k u w h e l)
+      (λ (l : u + w ≤ n). absurd (z (sym (part-inside n k u w h e l))))
+      (lt-or-le n (u + w)))
+      (λ (e : k ≢ 4). absurd (z (sym (no-part n k u w h e))))
+      (eq-or-ne k 4))
+      (lt-or-le 4 k)
+
+  first-cases : (a b : ℕ) → first a b ≢ 0 → first a b ≢ 102 → (a ≢ 0 → a ≢ 102 → 105 ≡ a) → (b ≢ 0 → b ≢ 102 → 105 ≡ b) → 105 ≡ first a b
+  unfolding first
+  first-cases zero b z m p q = q z m
+  first-cases (suc a) b z m p q = p z m
+
+  words-cases : (s : List ℕ) → wordsNumber n s ≢ 0 → wordsNumber n s ≢ 102 → 105 ≡ wordsNumber n s
+  words-cases [] z m = absurd (z refl)
+  words-cases (k ∷ []) z m = absurd (z refl)
+  words-cases (k ∷ u ∷ []) z m = absurd (z refl)
+  words-cases (k ∷ u ∷ w ∷ s) z m = first-cases (callNumber n k u w) (wordsNumber n s) z m (call-cases k u w) (words-cases s)
+
+module _ (ws : List ℕ) (n room : ℕ) where
   -- the number after each test
   whole : length ws % 3 ≡ 0 → _≡_ {A = ℕ} (ifEqual (length ws % 3) 0 0 101) 0
   whole z = sym (equal (length ws % 3) 0 0 101 z refl)
 
-  pub code-left : (length ws % 3 ≡ 0 → ⊥) → 101 ≡ codeNumber ws room
+  pub code-left : (length ws % 3 ≡ 0 → ⊥) → 101 ≡ codeNumber ws n room
   unfolding codeNumber
-  code-left n = let q : _≡_ {A = ℕ} 101 (ifEqual (length ws % 3) 0 0 101) = unequal (length ws % 3) 0 0 101 n refl in fault (ifEqual (length ws % 3) 0 0 101) _ q (λ z. omega (arith, q))
+  code-left m = let q : _≡_ {A = ℕ} 101 (ifEqual (length ws % 3) 0 0 101) = unequal (length ws % 3) 0 0 101 m refl in fault (ifEqual (length ws % 3) 0 0 101) _ q (λ z. omega (arith, q))
 
-  pub code-kinds : length ws % 3 ≡ 0 → (kindsNumber ws ≡ 0 → ⊥) → 102 ≡ codeNumber ws room
+  pub code-words : (k : ℕ) → length ws % 3 ≡ 0 → k ≡ wordsNumber n ws → k ≢ 0 → k ≡ codeNumber ws n room
   unfolding codeNumber
-  code-kinds z n = none (ifEqual (length ws % 3) 0 0 101) _ (whole z) (fault (kindsNumber ws) _ (kinds-unknown ws n) n)
+  code-words k z e m = none (ifEqual (length ws % 3) 0 0 101) _ (whole z) (fault (wordsNumber n ws) _ e (λ y. m (e ∙ y)))
 
-  pub code-short : length ws % 3 ≡ 0 → kindsNumber ws ≡ 0 → usable room < 3 * (length ws / 3) → 4 ≡ codeNumber ws room
-  unfolding codeNumber
-  code-short z k h = none (ifEqual (length ws % 3) 0 0 101) _ (whole z) (none (kindsNumber ws) _ k (less (usable room) (3 * (length ws / 3)) 4 0 h refl))
+  pub code-part : (k : ℕ) → length ws % 3 ≡ 0 → k ≡ wordsNumber n ws → k ≢ 0 → k ≢ 102 → 105 ≡ codeNumber ws n room
+  code-part k z e m l = code-words 105 z (words-cases n ws (λ y. m (e ∙ y)) (λ y. l (e ∙ y))) (λ y. omega arith)
 
-  pub code-none : length ws % 3 ≡ 0 → kindsNumber ws ≡ 0 → 3 * (length ws / 3) ≤ usable room → codeNumber ws room ≡ 0
+  pub code-short : length ws % 3 ≡ 0 → wordsNumber n ws ≡ 0 → usable room < 3 * (length ws / 3) → 4 ≡ codeNumber ws n room
   unfolding codeNumber
-  code-none z k h = sym (none (ifEqual (length ws % 3) 0 0 101) _ (whole z) (none (kindsNumber ws) _ k (no-less (usable room) (3 * (length ws / 3)) 4 0 h refl)))
+  code-short z k h = none (ifEqual (length ws % 3) 0 0 101) _ (whole z) (none (wordsNumber n ws) _ k (less (usable room) (3 * (length ws / 3)) 4 0 h refl))
+
+  pub code-none : length ws % 3 ≡ 0 → wordsNumber n ws ≡ 0 → 3 * (length ws / 3) ≤ usable room → codeNumber ws n room ≡ 0
+  unfolding codeNumber
+  code-none z k h = sym (none (ifEqual (length ws % 3) 0 0 101) _ (whole z) (none (wordsNumber n ws) _ k (no-less (usable room) (3 * (length ws / 3)) 4 0 h refl)))
 
 -- what is used is no more than there is, and not too much
-pub usable-le : (room : ℕ) → (usable room ≤ room) × (usable room ≤ 1152921504606846976)
-unfolding usable
-usable-le room =
+pub lesser-le : (a b : ℕ) → (lesser a b ≤ a) × (lesser a b ≤ b)
+unfolding lesser
+lesser-le a b =
     ⊎-elim
-    (λ (l : room < 1152921504606846976). let e : usable room ≡ room = sym (less room 1152921504606846976 _ _ l refl) in (omega (arith, e), omega (arith, e)))
-    (λ (l : 1152921504606846976 ≤ room). let e : usable room ≡ 1152921504606846976 = sym (no-less room 1152921504606846976 _ _ l refl) in (omega (arith, e), omega (arith, e)))
-    (lt-or-le room 1152921504606846976)
+    (λ (l : a < b). let e : lesser a b ≡ a = sym (less a b a b l refl) in (omega (arith, e), omega (arith, e)))
+    (λ (l : b ≤ a). let e : lesser a b ≡ b = sym (no-less a b a b l refl) in (omega (arith, e), omega (arith, e)))
+    (lt-or-le a b)

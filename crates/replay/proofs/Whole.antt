@@ -16,7 +16,7 @@ use Rattle.tagged_file.specs.Load.{blank, loadedAnswer, loadedGraph, loadCall}
 use Rattle.tagged_file.specs.declared.Loaded.{Loaded}
 use Rattle.promises.specs.Demand.{Call, Locked, withLocks, step, left, run, savings, Demand}
 use Rattle.promises.proofs.Lists.{after-load}
-use Rattle.replay.specs.Replay.{decode, answersOf, codeNumber, replayNumber, replayCall, answersAfter, savingsIn, DemandMet}
+use Rattle.replay.specs.Replay.{Lent, decode, answersOf, codeNumber, replayNumber, replayCall, answersAfter, savingsIn, DemandMet}
 
 guarded-left : (k : ℕ) (g : Graph) (ls : List ℕ) (o : LockedOutcome) → o .answer .number ≡ 0 → (guardedLocks k g ls o .answer .number ≡ 0 → ⊥)
     → left (guardedLocks k g ls o) ≡ withLocks g ls
@@ -45,7 +45,10 @@ pub at-case : (a b : Loaded) (ns os ls : List ℕ) (o : LockedOutcome) → a ≡
     → lockedOutcome (loadedAnswer b) (loadedGraph b ns os) ls ≡ o
 at-case a b ns os ls o q e = sym (ap (λ (x : Loaded). lockedOutcome (loadedAnswer x) (loadedGraph x ns os) ls) q) ∙ e
 
-module _ (file ws ns os ls sc : List ℕ) (l : List ℤ) where
+module _ (file ws ns os ls : List ℕ) (t : Lent) (l : List ℤ) where
+  abbrev n₀ : ℕ
+  n₀ = length (t .list)
+
   abbrev loaded : LockedOutcome
   loaded = loadCall file ns os ls
 
@@ -56,48 +59,48 @@ module _ (file ws ns os ls sc : List ℕ) (l : List ℤ) where
   -- the contract of a replay that answers a, leaves h and l′ for answers
   abbrev pub Met : Answer → Locked → List ℤ → List ℕ → Type 0
   Met a h l′ sc′ =
-      (lockedOutcome a (h .graph) (h .locks) ≡ replayCall file ws ns os ls sc (length l))
-      × ((l′ ≡ answersAfter file ws ns os ls sc l)
-      × (ScratchKept a sc sc′ × (a .number ≡ 0 → DemandMet (left loaded) (decode sc ws) h l′)))
+      (lockedOutcome a (h .graph) (h .locks) ≡ replayCall file ws t ns os ls (length l))
+      × ((l′ ≡ answersAfter file ws t ns os ls l)
+      × (ScratchKept a (t .scratch) sc′ × (a .number ≡ 0 → DemandMet (left loaded) (decode t ws) h l′)))
 
-  refuses : (k : ℕ) → k ≡ replayNumber file ws ns os ls (length l) → (k ≡ 0 → ⊥) → Met (refused k) (withLocks (blank ns os) ls) l sc
+  refuses : (k : ℕ) → k ≡ replayNumber file ws n₀ ns os ls (length l) → (k ≡ 0 → ⊥) → Met (refused k) (withLocks (blank ns os) ls) l (t .scratch)
   unfolding replayCall answersAfter
   refuses k e n = (
-    refused-locked k (replayNumber file ws ns os ls (length l)) (blank ns os) ls _ e (λ z. n (e ∙ z)),
-    (unequal (replayNumber file ws ns os ls (length l)) 0 _ l (λ z. n (e ∙ z)) refl, ((λ m. refl), (λ z. absurd (n z)))),
+    refused-locked k (replayNumber file ws n₀ ns os ls (length l)) (blank ns os) ls _ e (λ z. n (e ∙ z)),
+    (unequal (replayNumber file ws n₀ ns os ls (length l)) 0 _ l (λ z. n (e ∙ z)) refl, ((λ m. refl), (λ z. absurd (n z)))),
   )
 
-  pub refused-words : (k : ℕ) → k ≡ codeNumber ws (length l) → (k ≡ 0 → ⊥) → Met (refused k) (withLocks (blank ns os) ls) l sc
+  pub refused-words : (k : ℕ) → k ≡ codeNumber ws n₀ (length l) → (k ≡ 0 → ⊥) → Met (refused k) (withLocks (blank ns os) ls) l (t .scratch)
   unfolding replayNumber
-  refused-words k q n = refuses k (fault (codeNumber ws (length l)) (loaded .answer .number) q (λ z. n (q ∙ z))) n
+  refused-words k q n = refuses k (fault (codeNumber ws n₀ (length l)) (loaded .answer .number) q (λ z. n (q ∙ z))) n
 
-  pub refused-file : (r : Refusal) (ns′ os′ ls′ : List ℕ) → codeNumber ws (length l) ≡ 0 → lockedOutcome (refused (numberOf r)) (blank ns′ os′) ls′ ≡ loaded
-      → Met (refused (numberOf r)) (withLocks (blank ns′ os′) ls′) l sc
+  pub refused-file : (r : Refusal) (ns′ os′ ls′ : List ℕ) → codeNumber ws n₀ (length l) ≡ 0 → lockedOutcome (refused (numberOf r)) (blank ns′ os′) ls′ ≡ loaded
+      → Met (refused (numberOf r)) (withLocks (blank ns′ os′) ls′) l (t .scratch)
   unfolding replayNumber
   refused-file r ns′ os′ ls′ z e =
       let q : numberOf r ≡ loaded .answer .number = ap (λ (o : LockedOutcome). o .answer .number) e in
       let h : withLocks (blank ns′ os′) ls′ ≡ withLocks (blank ns os) ls = ap left e ∙ unchanged (λ y. number-some r (q ∙ y)) in
-      let m = refuses (numberOf r) (none (codeNumber ws (length l)) (loaded .answer .number) z q) (number-some r) in
-      subst (λ (d : Locked). Met (refused (numberOf r)) d l sc) (sym h) m
+      let m = refuses (numberOf r) (none (codeNumber ws n₀ (length l)) (loaded .answer .number) z q) (number-some r) in
+      subst (λ (d : Locked). Met (refused (numberOf r)) d l (t .scratch)) (sym h) m
 
-  pub replays : (i n o : ℕ) (ns′ os′ ls′ : List ℕ) (l′ : List ℤ) (sc′ : List ℕ) (h : Locked) → codeNumber ws (length l) ≡ 0
+  pub replays : (i n o : ℕ) (ns′ os′ ls′ : List ℕ) (l′ : List ℤ) (sc′ : List ℕ) (h : Locked) → codeNumber ws n₀ (length l) ≡ 0
       → lockedOutcome (accepted (i ∷ n ∷ o ∷ [])) (graphOf i n o ns′ os′) ls′ ≡ loaded
-      → h ≡ run (withLocks (graphOf i n o ns′ os′) ls′) (decode sc ws)
-      → l′ ≡ answersOf (withLocks (graphOf i n o ns′ os′) ls′) (decode sc ws) ++ drop (3 * (length ws / 3)) l
+      → h ≡ run (withLocks (graphOf i n o ns′ os′) ls′) (decode t ws)
+      → l′ ≡ answersOf (withLocks (graphOf i n o ns′ os′) ls′) (decode t ws) ++ drop (3 * (length ws / 3)) l
       → Met (accepted (i ∷ n ∷ o ∷ [])) h l′ sc′
   unfolding replayNumber replayCall answersAfter
   replays i n o ns′ os′ ls′ l′ sc′ h z e q f =
       let a : accepted (i ∷ n ∷ o ∷ []) ≡ loaded .answer = ap (λ (x : LockedOutcome). x .answer) e in
       let y : loaded .answer .number ≡ 0 = sym (ap (λ (x : Answer). x .number) a) in
-      let u : h ≡ run (left loaded) (decode sc ws) = q ∙ ap (λ (x : LockedOutcome). run (left x) (decode sc ws)) e in
-      let t : l′ ≡ answersOf (left loaded) (decode sc ws) ++ drop (3 * (length ws / 3)) l =
-      f ∙ ap (λ (x : LockedOutcome). answersOf (left x) (decode sc ws) ++ drop (3 * (length ws / 3)) l) e in
-      let m : first (codeNumber ws (length l)) (loaded .answer .number) ≡ 0 = sym (none (codeNumber ws (length l)) (loaded .answer .number) z (sym y)) in (
+      let u : h ≡ run (left loaded) (decode t ws) = q ∙ ap (λ (x : LockedOutcome). run (left x) (decode t ws)) e in
+      let v : l′ ≡ answersOf (left loaded) (decode t ws) ++ drop (3 * (length ws / 3)) l =
+      f ∙ ap (λ (x : LockedOutcome). answersOf (left x) (decode t ws) ++ drop (3 * (length ws / 3)) l) e in
+      let m : first (codeNumber ws n₀ (length l)) (loaded .answer .number) ≡ 0 = sym (none (codeNumber ws n₀ (length l)) (loaded .answer .number) z (sym y)) in (
         ap (λ (x : Answer). lockedOutcome x (h .graph) (h .locks)) a
             ∙ ap (λ (x : Locked). lockedOutcome (loaded .answer) (x .graph) (x .locks)) u
-            ∙ accepted-locked (first (codeNumber ws (length l)) (loaded .answer .number)) (blank ns os) ls _ m,
+            ∙ accepted-locked (first (codeNumber ws n₀ (length l)) (loaded .answer .number)) (blank ns os) ls _ m,
         (
-          equal (first (codeNumber ws (length l)) (loaded .answer .number)) 0 _ l m t,
-          ((λ b. absurd (b refl)), (λ b. demand-met _ h (decode sc ws) l′ _ (after-load file ns os ls y (decode sc ws)) u t)),
+          equal (first (codeNumber ws n₀ (length l)) (loaded .answer .number)) 0 _ l m v,
+          ((λ b. absurd (b refl)), (λ b. demand-met _ h (decode t ws) l′ _ (after-load file ns os ls y (decode t ws)) u v)),
         ),
       )

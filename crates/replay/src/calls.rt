@@ -5,9 +5,11 @@ ghost use Prim.Native.Nat.{_*_, _/_, _≤_};
 ghost use lib.ListN.{length, drop};
 ghost use Rattle.graph.specs.Graph.{graphOf};
 ghost use Rattle.moves.specs.Call.{savingAnswer};
+ghost use Rattle.moves.specs.Trial.{gainAnswer};
 ghost use Rattle.settling.specs.Settle.{settledAnswer};
-ghost use Rattle.promises.specs.Demand.{withLocks, run};
-ghost use Rattle.replay.specs.Replay.{callOf, decode, answersOf, Answers, Tells};
+ghost use Rattle.promises.specs.Demand.{manyAt, withLocks, run};
+ghost use Rattle.replay.specs.Replay.{lent, part, callOf, decode, answersOf, Answers, Tells};
+use crate::faults::lesser;
 
 // What a call of the list answers.
 pub struct CallAnswer {
@@ -40,7 +42,49 @@ pub fn settled_answer(answer: settling::Settled) -> CallAnswer
     }
 }
 
-// The call that three words say; kinds above 3 are refused before.
+// A saving told in one number.
+pub fn gain_answer(answer: moves::Gain) -> CallAnswer
+    ensures { λ r. ⌜ Answers (gainAnswer answer) r ⌝ }
+{
+    let number = answers::told::gain_number(answer);
+    let own = answers::told::gain_told(answer, 0);
+    CallAnswer {
+        number,
+        own,
+        others: 0,
+    }
+}
+
+// Many moves: `count` entries of the lent nodes and moves, from `start` on.
+pub fn part_call(
+    inputs: u32,
+    nodes: u32,
+    outputs: u32,
+    node_table: &mut [u32],
+    output_table: &mut [u32],
+    locks: &[u8],
+    list: &[u32],
+    bytes: &[u8],
+    start: u32,
+    count: u32,
+) -> CallAnswer
+    ensures { λ r. ⌜ Tells (withLocks (graphOf inputs nodes outputs (now («node_table» .entry)) (now («output_table» .entry))) (now (locks .entry))) (manyAt (part start count (now (list .entry))) (part start count (now (bytes .entry)))) (withLocks (graphOf inputs nodes outputs (now («node_table» .exit)) (now («output_table» .exit))) (now (locks .entry))) r ⌝ }
+{
+    let us = &list[lesser(start as usize, list.len())..];
+    let ms = &bytes[lesser(start as usize, bytes.len())..];
+    gain_answer(many::many(
+        inputs,
+        nodes,
+        outputs,
+        node_table,
+        output_table,
+        locks,
+        &us[..lesser(count as usize, us.len())],
+        &ms[..lesser(count as usize, ms.len())],
+    ))
+}
+
+// The call that three words say; kinds above 4 are refused before.
 pub fn one_call(
     inputs: u32,
     nodes: u32,
@@ -48,12 +92,14 @@ pub fn one_call(
     node_table: &mut [u32],
     output_table: &mut [u32],
     locks: &[u8],
+    list: &[u32],
+    bytes: &[u8],
     kind: u32,
     node: u32,
     word: u32,
     scratch: &mut [u32],
 ) -> CallAnswer
-    ensures { λ r. ⌜ Tells (withLocks (graphOf inputs nodes outputs (now («node_table» .entry)) (now («output_table» .entry))) (now (locks .entry))) (callOf (now (scratch .entry)) kind node word) (withLocks (graphOf inputs nodes outputs (now («node_table» .exit)) (now («output_table» .exit))) (now (locks .entry))) r ⌝ }
+    ensures { λ r. ⌜ Tells (withLocks (graphOf inputs nodes outputs (now («node_table» .entry)) (now («output_table» .entry))) (now (locks .entry))) (callOf (lent (now (scratch .entry)) (now (list .entry)) (now (bytes .entry))) kind node word) (withLocks (graphOf inputs nodes outputs (now («node_table» .exit)) (now («output_table» .exit))) (now (locks .entry))) r ⌝ }
 {
     if kind == 0 {
         return saving_answer(node_call::node_call(
@@ -90,15 +136,29 @@ pub fn one_call(
             scratch,
         ));
     }
-    settled_answer(settling::settle(
+    if kind == 3 {
+        return settled_answer(settling::settle(
+            inputs,
+            nodes,
+            outputs,
+            node_table,
+            output_table,
+            locks,
+            scratch,
+        ));
+    }
+    part_call(
         inputs,
         nodes,
         outputs,
         node_table,
         output_table,
         locks,
-        scratch,
-    ))
+        list,
+        bytes,
+        node,
+        word,
+    )
 }
 
 // Every call of the list, on what the one before left; the answers go in front.
@@ -109,13 +169,15 @@ pub fn make_calls(
     node_table: &mut [u32],
     output_table: &mut [u32],
     locks: &[u8],
+    list: &[u32],
+    bytes: &[u8],
     calls: &[u32],
     scratch: &mut [u32],
     answers: &mut [i64],
 )
     requires { ⌜ (3 * (length (now calls) / 3) ≤ length (now answers)) × (3 * (length (now calls) / 3) ≤ 1152921504606846976) ⌝ }
-    ensures graph { λ _. ⌜ withLocks (graphOf inputs nodes outputs (now («node_table» .exit)) (now («output_table» .exit))) (now (locks .entry)) ≡ run (withLocks (graphOf inputs nodes outputs (now («node_table» .entry)) (now («output_table» .entry))) (now (locks .entry))) (decode (now (scratch .entry)) (now (calls .entry))) ⌝ }
-    ensures answers { λ _. ⌜ now (answers .exit) ≡ answersOf (withLocks (graphOf inputs nodes outputs (now («node_table» .entry)) (now («output_table» .entry))) (now (locks .entry))) (decode (now (scratch .entry)) (now (calls .entry))) ++ drop (3 * (length (now (calls .entry)) / 3)) (now (answers .entry)) ⌝ }
+    ensures graph { λ _. ⌜ withLocks (graphOf inputs nodes outputs (now («node_table» .exit)) (now («output_table» .exit))) (now (locks .entry)) ≡ run (withLocks (graphOf inputs nodes outputs (now («node_table» .entry)) (now («output_table» .entry))) (now (locks .entry))) (decode (lent (now (scratch .entry)) (now (list .entry)) (now (bytes .entry))) (now (calls .entry))) ⌝ }
+    ensures answers { λ _. ⌜ now (answers .exit) ≡ answersOf (withLocks (graphOf inputs nodes outputs (now («node_table» .entry)) (now («output_table» .entry))) (now (locks .entry))) (decode (lent (now (scratch .entry)) (now (list .entry)) (now (bytes .entry))) (now (calls .entry))) ++ drop (3 * (length (now (calls .entry)) / 3)) (now (answers .entry)) ⌝ }
 {
     let mut s = calls;
     let mut at = 0;
@@ -127,6 +189,8 @@ pub fn make_calls(
             node_table,
             output_table,
             locks,
+            list,
+            bytes,
             s[0],
             s[1],
             s[2],

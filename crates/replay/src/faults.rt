@@ -1,24 +1,40 @@
-// Which number refuses the kinds of a list of calls, 0 being none; and the room for answers.
+// Which number refuses the words of a list of calls, 0 being none; and the lesser of two numbers.
 ghost use mathlib.Core.Path.{_≡_};
-ghost use Rattle.replay.specs.Replay.{usable, kindsNumber};
+ghost use Rattle.replay.specs.Replay.{lesser, callNumber, wordsNumber};
 
-// Of the room for answers, what is used at most.
-pub fn usable_room(room: usize) -> usize
-    ensures { λ r. ⌜ r ≡ usable room ⌝ }
+pub fn lesser(a: usize, b: usize) -> usize
+    ensures { λ r. ⌜ r ≡ lesser a b ⌝ }
 {
-    if room < 1152921504606846976 {
-        return room;
+    if a < b {
+        return a;
     }
-    1152921504606846976
+    b
 }
 
-pub fn kinds_number(calls: &[u32]) -> u32
-    ensures { λ r. ⌜ r ≡ kindsNumber (now (calls .entry)) ⌝ }
+// Of one call, where `length` nodes are lent for many moves.
+pub fn call_number(length: usize, kind: u32, node: u32, word: u32) -> u32
+    ensures { λ r. ⌜ r ≡ callNumber length kind node word ⌝ }
+{
+    if 4 < kind {
+        return 102;
+    }
+    if kind != 4 {
+        return 0;
+    }
+    if length < node as usize + word as usize {
+        return 105;
+    }
+    0
+}
+
+pub fn words_number(length: usize, calls: &[u32]) -> u32
+    ensures { λ r. ⌜ r ≡ wordsNumber length (now (calls .entry)) ⌝ }
 {
     let mut s = calls;
     while 3 <= s.len() {
-        if 3 < s[0] {
-            return 102;
+        let number = call_number(length, s[0], s[1], s[2]);
+        if number != 0 {
+            return number;
         }
         s = &s[3..];
     }

@@ -4,7 +4,7 @@ ghost use lib.ListN.{length};
 ghost use Rattle.graph.specs.Answer.{lockedOutcome, ScratchKept};
 ghost use Rattle.tagged_file.specs.Load.{loadCall};
 ghost use Rattle.promises.specs.Demand.{withLocks, left};
-ghost use Rattle.replay.specs.Replay.{decode, replayCall, answersAfter, replayedAnswer, replayedGraph, DemandMet};
+ghost use Rattle.replay.specs.Replay.{lent, decode, replayCall, answersAfter, replayedAnswer, replayedGraph, DemandMet};
 
 mod calls;
 mod faults;
@@ -16,6 +16,7 @@ use tagged_file::Loaded;
 pub enum CallsFault {
     LeftOver,
     UnknownKind,
+    PartOutside,
 }
 
 // What a replay answers.
@@ -29,29 +30,36 @@ pub enum Replayed {
     Refused(graph::Refusal),
 }
 
-// Each call is three words of `calls`: kind (0 node, 1 pair, 2 tree, 3 settling), node and word. Its answer is three words of
-// `answers`: the number, and both numbers of its saving.
+// Each call is three words of `calls`: kind (0 node, 1 pair, 2 tree, 3 settling, 4 many moves), node and word; many moves have in their
+// place where their part of `list` and `bytes` begins and how many entries it has. Its answer is three words of `answers`: the number,
+// and both numbers of its saving.
 pub fn replay(
     file: &[u8],
     calls: &[u32],
     node_table: &mut [u32],
     output_table: &mut [u32],
     locks: &mut [u8],
+    list: &[u32],
+    bytes: &[u8],
     scratch: &mut [u32],
     answers: &mut [i64],
 ) -> Replayed
-    ensures call { λ r. ⌜ lockedOutcome (replayedAnswer r) (replayedGraph r (now («node_table» .exit)) (now («output_table» .exit))) (now (locks .exit)) ≡ replayCall (now (file .entry)) (now (calls .entry)) (now («node_table» .entry)) (now («output_table» .entry)) (now (locks .entry)) (now (scratch .entry)) (length (now (answers .entry))) ⌝ }
-    ensures answers { λ r. ⌜ now (answers .exit) ≡ answersAfter (now (file .entry)) (now (calls .entry)) (now («node_table» .entry)) (now («output_table» .entry)) (now (locks .entry)) (now (scratch .entry)) (now (answers .entry)) ⌝ }
+    ensures call { λ r. ⌜ lockedOutcome (replayedAnswer r) (replayedGraph r (now («node_table» .exit)) (now («output_table» .exit))) (now (locks .exit)) ≡ replayCall (now (file .entry)) (now (calls .entry)) (lent (now (scratch .entry)) (now (list .entry)) (now (bytes .entry))) (now («node_table» .entry)) (now («output_table» .entry)) (now (locks .entry)) (length (now (answers .entry))) ⌝ }
+    ensures answers { λ r. ⌜ now (answers .exit) ≡ answersAfter (now (file .entry)) (now (calls .entry)) (lent (now (scratch .entry)) (now (list .entry)) (now (bytes .entry))) (now («node_table» .entry)) (now («output_table» .entry)) (now (locks .entry)) (now (answers .entry)) ⌝ }
     ensures scratch { λ r. ⌜ ScratchKept (replayedAnswer r) (now (scratch .entry)) (now (scratch .exit)) ⌝ }
-    ensures demand { λ r. ⌜ (replayedAnswer r .number ≡ 0 → DemandMet (left (loadCall (now (file .entry)) (now («node_table» .entry)) (now («output_table» .entry)) (now (locks .entry)))) (decode (now (scratch .entry)) (now (calls .entry))) (withLocks (replayedGraph r (now («node_table» .exit)) (now («output_table» .exit))) (now (locks .exit))) (now (answers .exit))) ⌝ }
+    ensures demand { λ r. ⌜ (replayedAnswer r .number ≡ 0 → DemandMet (left (loadCall (now (file .entry)) (now («node_table» .entry)) (now («output_table» .entry)) (now (locks .entry)))) (decode (lent (now (scratch .entry)) (now (list .entry)) (now (bytes .entry))) (now (calls .entry))) (withLocks (replayedGraph r (now («node_table» .exit)) (now («output_table» .exit))) (now (locks .exit))) (now (answers .exit))) ⌝ }
 {
     if calls.len() % 3 != 0 {
         return Replayed::NotCalls(CallsFault::LeftOver);
     }
-    if faults::kinds_number(calls) != 0 {
+    let number = faults::words_number(list.len(), calls);
+    if number == 102 {
         return Replayed::NotCalls(CallsFault::UnknownKind);
     }
-    let room = faults::usable_room(answers.len());
+    if number != 0 {
+        return Replayed::NotCalls(CallsFault::PartOutside);
+    }
+    let room = faults::lesser(answers.len(), 1152921504606846976);
     if room / 3 < calls.len() / 3 {
         return Replayed::Refused(graph::Refusal::ShortSlice);
     }
@@ -70,6 +78,8 @@ pub fn replay(
                 node_table,
                 output_table,
                 locks,
+                list,
+                bytes,
                 calls,
                 scratch,
                 answers,

@@ -11,6 +11,7 @@ pub fn calls_number(fault: CallsFault) -> u32
     match fault {
         CallsFault::LeftOver => 101,
         CallsFault::UnknownKind => 102,
+        CallsFault::PartOutside => 105,
     }
 }
 

@@ -79,7 +79,7 @@ module _ (n : ℕ) (ls : List ℕ) (ok : LockBytes n ls) (free : (v : ℕ) → v
 
   -- a sound step leaves such a graph
   fits : (step : Progress → Progress) (P : Graph → Type 0) → Sound step P → (p : Progress) → Fit (p .graph) → Fit (step p .graph)
-  fits step P h p f = let k = h .moves p (f .adm) .keeps in record { adm = k .admitted; size = k .same-N ∙ f .size }
+  fits step P h p f = let k = h .moves p (f .adm) .keeps .stays in record { adm = k .admitted; size = k .same-N ∙ f .size }
 
   pairs-alike : (v : ℕ) → v < n → Alike (pairsAt ls v) (pairsFreeAt v)
   unfolding pairsAt pairsFreeAt
@@ -116,7 +116,7 @@ module _ (n : ℕ) (ls : List ℕ) (ok : LockBytes n ls) (free : (v : ℕ) → v
   unfolding settleIn settleFreeIn
   settleIn-alike zero p f = refl
   settleIn-alike (suc m) p f =
-      let k = round-moves ls s p (f .adm) .keeps in
+      let k = round-moves ls s p (f .adm) .keeps .stays in
       let q : Progress = round ls s p in
       rw (← round-alike p f, ← settleIn-alike m q (record { adm = k .admitted; size = k .same-N ∙ f .size }))
 

@@ -163,7 +163,7 @@ module _ (ls : List ℕ) where
   settleIn-ended : (f s : ℕ) (p : Progress) → Admitted (p .graph) → LockBytes (p .graph .N) ls → 8 * p .graph .N ≤ s → C (p .graph) < f → EndedFrom p (settleIn f ls s p)
   settleIn-ended zero s p adm ok l h = absurd (omega arith)
   settleIn-ended (suc f) s p adm ok l h =
-      let k = round-moves s p adm .keeps in
+      let k = round-moves s p adm .keeps .stays in
       ⊎-elim
       (λ (b : C (round ls s p .graph) < C (p .graph)).
       rw (settleIn-more f s p b)

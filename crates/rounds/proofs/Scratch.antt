@@ -33,7 +33,7 @@ module _ (ls : List ℕ) (s t : ℕ) where
   unfolding each
   trees-same zero p adm l m = refl
   trees-same (suc n) p adm l m =
-      let k = trees-sound ls s n .moves p adm .keeps .same-N in
+      let k = trees-sound ls s n .moves p adm .keeps .stays .same-N in
       treeAt-same n (each (treeAt ls s) n p) (omega (arith, k)) (omega (arith, k)) ∙ ap (treeAt ls t n) (trees-same n p adm l m)
 
   round-same : (p : Progress) → Admitted (p .graph) → 8 * p .graph .N ≤ s → 8 * p .graph .N ≤ t → round ls s p ≡ round ls t p
@@ -44,7 +44,7 @@ module _ (ls : List ℕ) (s t : ℕ) where
   unfolding settleIn
   settleIn-same zero p adm l m = refl
   settleIn-same (suc f) p adm l m =
-      let k = round-moves ls s p adm .keeps in
+      let k = round-moves ls s p adm .keeps .stays in
       rw (← round-same p adm l m, settleIn-same f (round ls s p) (k .admitted) (omega (arith, k .same-N)) (omega (arith, k .same-N)))
 
 pub guarded-same : (g : Graph) (k : ℕ) (x y : Outcome) → (k ≡ 0 → x ≡ y) → guarded k g x ≡ guarded k g y

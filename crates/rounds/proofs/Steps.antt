@@ -79,12 +79,12 @@ then-sound a b P Q h k =
       saves = λ p. h .saves p + k .saves (a p);
       moves = λ p adm.
           let m = h .moves p adm in
-          let n = k .moves (a p) (m .keeps .admitted) in
+          let n = k .moves (a p) (m .keeps .stays .admitted) in
           record { sums = λ c e. n .sums c (m .sums c e); keeps = kept-then (p .graph) (a p .graph) (b (a p) .graph) (h .saves p) (k .saves (a p)) (m .keeps) (n .keeps) };
       still = λ p adm e.
           let m = h .moves p adm in
           let x = h .still p adm (omega arith) in
-          let y = k .still (a p) (m .keeps .admitted) (omega arith) in
+          let y = k .still (a p) (m .keeps .stays .admitted) (omega arith) in
           ((y .0 ∙ x .0), (x .1, rw (x .0) at (y .1)));
     }
 

@@ -1,22 +1,33 @@
-// A list of calls on a file's graph, by one replay. The words given for the calls, and the lengths of calls, scratch and answers
-// stand at the end of its case.
+// A list of calls on a file's graph, by one replay. The words given for the calls, the nodes and moves for many moves, and the lengths of
+// these three, of scratch and of answers stand at the end of its case.
 use crate::print;
 use crate::read;
 use replay::Replayed;
 
 pub fn list(file: &[u8], node_table: &mut [u32], output_table: &mut [u32], locks: &mut [u8]) {
     let mut calls = [0u32; 128];
+    let mut list = [0u32; 128];
+    let mut moves = [0u8; 128];
     let mut scratch = [77u32; 4096];
     let mut answers = [77i64; 192];
+    fill(&mut calls, &mut list, &mut moves);
     lend(
         file,
         node_table,
         output_table,
         locks,
-        &mut calls,
+        &calls,
+        &list,
+        &moves,
         &mut scratch,
         &mut answers,
     );
+}
+
+fn fill(calls: &mut [u32], list: &mut [u32], moves: &mut [u8]) {
+    read::fill_words(calls);
+    read::fill_words(list);
+    read::fill_bytes(moves);
 }
 
 fn lend(
@@ -24,12 +35,15 @@ fn lend(
     node_table: &mut [u32],
     output_table: &mut [u32],
     locks: &mut [u8],
-    calls: &mut [u32],
+    calls: &[u32],
+    list: &[u32],
+    moves: &[u8],
     scratch: &mut [u32],
     answers: &mut [i64],
 ) {
-    read::fill_words(calls);
     let calls_end = read::room_words(read::size(), calls);
+    let list_end = read::room_words(read::size(), list);
+    let moves_end = read::room_bytes(read::size(), moves);
     let scratch_end = read::room_words(read::size(), scratch);
     let answers_end = read::room_signed(read::size(), answers);
     run(
@@ -38,6 +52,8 @@ fn lend(
         output_table,
         locks,
         &calls[..calls_end],
+        &list[..list_end],
+        &moves[..moves_end],
         &mut scratch[..scratch_end],
         &mut answers[..answers_end],
     );
@@ -49,6 +65,8 @@ fn run(
     output_table: &mut [u32],
     locks: &mut [u8],
     calls: &[u32],
+    list: &[u32],
+    moves: &[u8],
     scratch: &mut [u32],
     answers: &mut [i64],
 ) {
@@ -58,6 +76,8 @@ fn run(
         node_table,
         output_table,
         locks,
+        list,
+        moves,
         scratch,
         answers,
     );

@@ -1,12 +1,13 @@
 -- `trial` meets its contract. From the laws on faults and outcomes.
 use borrow.Author.Needs.{needs}
-use mathlib.Core.Path.{sym, _∙_}
+use mathlib.Core.Path.{sym, ap, _∙_}
 use Rattle.graph.specs.Graph.{Graph, graphOf}
+use Rattle.graph.specs.Answer.{whole}
+use Rattle.graph.proofs.Answers.{refused-is, accepted-is}
 use Rattle.graph.proofs.Difference.{read-as}
 use Rattle.moves.specs.Call.{pairNumber}
 use Rattle.moves.specs.Trial.{trialCall, trialSaving}
 use Rattle.node_call.proofs.Refusing.{pair-range}
-use Rattle.node_call.proofs.Outcomes.{refused-trial, accepted-trial}
 use Rattle.node_call.proofs.trial.Statement.{statement}
 use Rattle.node_call.proofs.trial.Tie as tie
 
@@ -23,7 +24,7 @@ unfolding trialCall
 returns c =
     let n = c .before .before in
     let e = n .pair-number .ensures in
-    refused-trial _ _ _ (c .refused-by .ensures ∙ e) (λ z. c .before .if1 .taken (e ∙ z))
+    refused-is _ _ _ (c .refused-by .ensures ∙ e) (λ z. c .before .if1 .taken (e ∙ z))
 
 named-saving-requires : tie.Need-named-saving-requires
 named-saving-requires c κs = sym (c .before .pair-number .ensures) ∙ c .if1 .left
@@ -34,8 +35,8 @@ returns-2 c =
     let n = c .before .before in
     let s = n .before .before .before .before in
     let a = s .args in
-    accepted-trial (pairNumber (graph s) (s .args .locks .now) (a .node) (a .word)) (trialSaving (graph s) (s .args .locks .now) (a .node) (a .word) (a .named-move) (a .node-move)) _
-    (read-as _ (c .named-saving .ok) ∙ c .named-saving .ensures) (sym (n .pair-number .ensures) ∙ c .before .if1 .left)
+    ap whole (read-as _ (c .named-saving .ok) ∙ c .named-saving .ensures)
+    ∙ accepted-is (pairNumber (graph s) (s .args .locks .now) (a .node) (a .word)) (whole (trialSaving (graph s) (s .args .locks .now) (a .node) (a .word) (a .named-move) (a .node-move))) (sym (n .pair-number .ensures) ∙ c .before .if1 .left)
 
 pub trial-spec : {M : Type 1} → statement M
 trial-spec =

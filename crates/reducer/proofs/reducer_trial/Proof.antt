@@ -2,7 +2,7 @@
 use mathlib.Core.Path.{ap, _∙_}
 use borrow.Author.Needs.{needs}
 use Rattle.graph.proofs.Difference.{read-as}
-use Rattle.moves.specs.Trial.{Tried}
+use Rattle.graph.specs.Answer.{Answer}
 use Rattle.answers.proofs.Same.{same-gain}
 use Rattle.reducer.proofs.reducer_trial.Statement.{statement}
 use Rattle.reducer.proofs.reducer_trial.Tie as tie
@@ -11,7 +11,7 @@ returns : tie.Need-returns
 returns c =
     let told = c .before in
     let e = told .before .before .trial .ensures in
-    (c .trial-number .ensures ∙ ap (λ (t : Tried). t .number) e, read-as _ (told .trial-told .ok) ∙ told .trial-told .ensures ∙ same-gain e (read-as _ (told .before .before2 .given)))
+    (c .gain-number .ensures ∙ ap (λ (t : Answer). t .number) e, read-as _ (told .gain-told .ok) ∙ told .gain-told .ensures ∙ same-gain e (read-as _ (told .before .before2 .given)))
 
 pub reducer-trial-spec : {M : Type 1} → statement M
 reducer-trial-spec =

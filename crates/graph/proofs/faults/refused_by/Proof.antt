@@ -9,11 +9,11 @@ use Rattle.graph.proofs.faults.refused_by.Tie as tie
 past : {k n : ℕ} → k ≤ n → (n ≡ k → ⊥) → k + 1 ≤ n
 past h d = omega arith
 
-returns-13 : tie.Need-returns-13
-returns-13 c =
+returns-16 : tie.Need-returns-16
+returns-16 c =
     let r = c .match .rest in
     let p = c .before .pre in
-    let m = past (past (past (past (past (past (past (past (past (past (past (past (p .0) (r .0 .0 .0 .0 .0 .0 .0 .0 .0 .0 .0 .1)) (r .0 .0 .0 .0 .0 .0 .0 .0 .0 .0 .1)) (r .0 .0 .0 .0 .0 .0 .0 .0 .0 .1)) (r .0 .0 .0 .0 .0 .0 .0 .0 .1)) (r .0 .0 .0 .0 .0 .0 .0 .1)) (r .0 .0 .0 .0 .0 .0 .1)) (r .0 .0 .0 .0 .0 .1)) (r .0 .0 .0 .0 .1)) (r .0 .0 .0 .1)) (r .0 .0 .1)) (r .0 .1)) (r .1) in
+    let m = past (past (past (past (past (past (past (past (past (past (past (past (past (past (past (p .0) (r .0 .0 .0 .0 .0 .0 .0 .0 .0 .0 .0 .0 .0 .0 .1)) (r .0 .0 .0 .0 .0 .0 .0 .0 .0 .0 .0 .0 .0 .1)) (r .0 .0 .0 .0 .0 .0 .0 .0 .0 .0 .0 .0 .1)) (r .0 .0 .0 .0 .0 .0 .0 .0 .0 .0 .0 .1)) (r .0 .0 .0 .0 .0 .0 .0 .0 .0 .0 .1)) (r .0 .0 .0 .0 .0 .0 .0 .0 .0 .1)) (r .0 .0 .0 .0 .0 .0 .0 .0 .1)) (r .0 .0 .0 .0 .0 .0 .0 .1)) (r .0 .0 .0 .0 .0 .0 .1)) (r .0 .0 .0 .0 .0 .1)) (r .0 .0 .0 .0 .1)) (r .0 .0 .0 .1)) (r .0 .0 .1)) (r .0 .1)) (r .1) in
     omega arith
 
 pub refused-by-spec : {M : Type 1} → statement M
@@ -32,4 +32,7 @@ refused-by-spec =
     (λ c. search needs)
     (λ c. search needs)
     (λ c. search needs)
-    returns-13)
+    (λ c. search needs)
+    (λ c. search needs)
+    (λ c. search needs)
+    returns-16)

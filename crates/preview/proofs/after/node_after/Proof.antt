@@ -1,14 +1,16 @@
 -- `node_after` meets its contract: an XOR's third word adds nothing. From what its words add.
+use mathlib.Core.Path.{sym, _∙_}
 use native.Mathlib.Omega.{arith}
-use Rattle.preview.proofs.AfterMoves.{edge-two, edge-third, edge-none, no-word, two-after, three-after}
+use Rattle.graph.proofs.Edge.{edge-early, third-majority, third-xor}
+use Rattle.preview.proofs.AfterMoves.{no-word, two-after, three-after}
 use Rattle.preview.proofs.after.node_after.Statement.{statement}
 use Rattle.preview.proofs.after.node_after.Tie as tie
 
 word-after-requires : tie.Need-word-after-requires
-word-after-requires c κs = let p = c .before .before .before .pre in (p .0, p .1, omega arith, edge-two _ _ _ (omega arith))
+word-after-requires c κs = let p = c .before .before .before .pre in (p .0, p .1, omega arith, edge-early _ _ (λ e. omega arith))
 
 word-after-requires-2 : tie.Need-word-after-requires-2
-word-after-requires-2 c κs = let p = c .before .before .before .before .pre in (p .0, p .1, omega arith, edge-two _ _ _ (omega arith))
+word-after-requires-2 c κs = let p = c .before .before .before .before .pre in (p .0, p .1, omega arith, edge-early _ _ (λ e. omega arith))
 
 is-xor-requires : tie.Need-is-xor-requires
 is-xor-requires c κs =
@@ -25,7 +27,7 @@ returns c =
     let x = c .before .is-xor .ensures (a .inputs) (a .nodes) (a .outputs) (a .output-table .now) in
     let p = c .before .before .before .word-after .ensures in
     let q = c .before .before .word-after2 .ensures in
-    (two-after _ _ _ _ _ (no-word _ _ (st .pre .0) _ (st .pre .1) (edge-none _ _ _ x (c .if1 .taken))) (p .0) (q .0), omega (arith, p .1, q .1))
+    (two-after _ _ _ _ _ (no-word _ _ (st .pre .0) _ (st .pre .1) (third-xor _ _ (sym x ∙ c .if1 .taken))) (p .0) (q .0), omega (arith, p .1, q .1))
 
 add-result-2 : tie.Need-add-result-2
 add-result-2 c = omega (arith, c .before .before .word-after2 .ensures .1, c .before .before .before .word-after .ensures .1)
@@ -35,7 +37,7 @@ word-after-requires-3 c κs =
     let st = c .before .before .before .before .before .before .before in
     let a = st .args in
     let x = c .before .is-xor .ensures (a .inputs) (a .nodes) (a .outputs) (a .output-table .now) in
-    (st .pre .0, st .pre .1, omega arith, edge-third _ _ _ x (c .if1 .left))
+    (st .pre .0, st .pre .1, omega arith, third-majority _ _ (sym x ∙ c .if1 .left))
 
 add-result-3 : tie.Need-add-result-3
 add-result-3 c = omega (arith, c .before .before .before .word-after2 .ensures .1, c .before .before .before .before .word-after .ensures .1, c .word-after3 .ensures .1)

@@ -9,11 +9,11 @@ use Rattle.preview.proofs.after.seen_at.Tie as tie
 returns : tie.Need-returns
 returns c = (seen-low _ _ _ (omega arith), omega arith)
 
-move-at-requires : tie.Need-move-at-requires
-move-at-requires c κs = node-in _ _ (c .before .before .before .before .pre .0) _ _ (omega arith) (omega arith) refl
+byte-at-requires : tie.Need-byte-at-requires
+byte-at-requires c κs = node-in _ _ (c .before .before .before .before .pre .0) _ _ (omega arith) (omega arith) refl
 
 returns-2 : tie.Need-returns-2
-returns-2 c = (seen-still _ _ _ _ _ (omega arith) (omega arith) refl (c .before .move-at .ensures) (c .if2 .taken), omega arith)
+returns-2 c = (seen-still _ _ _ _ _ (omega arith) (omega arith) refl (c .before .byte-at .ensures) (c .if2 .taken), omega arith)
 
 is-xor-requires : tie.Need-is-xor-requires
 is-xor-requires c κs =
@@ -23,13 +23,13 @@ is-xor-requires c κs =
 flag-of-requires : tie.Need-flag-of-requires
 flag-of-requires c κs =
     let st = c .before .before .before .before .before .before .before in
-    (move-row _ _ (st .pre .0) _ _ _ (omega arith) (c .before .before .move-at .ensures) (c .is-xor .ensures (st .args .inputs) (st .args .nodes) (st .args .outputs) (st .args .output-table .now)), omega arith)
+    (move-row _ _ (st .pre .0) _ _ _ (omega arith) (c .before .before .byte-at .ensures) (c .is-xor .ensures (st .args .inputs) (st .args .nodes) (st .args .outputs) (st .args .output-table .now)), omega arith)
 
 returns-3 : tie.Need-returns-3
 returns-3 c =
     let a = c .before .before .before .before .before .before .before .before .args in
     let f = c .flag-of .ensures in
-    (seen-turned _ _ _ _ _ _ _ (omega arith) (omega arith) refl (c .before .before .before .move-at .ensures) (c .before .is-xor .ensures (a .inputs) (a .nodes) (a .outputs) (a .output-table .now)) (f .0), f .1)
+    (seen-turned _ _ _ _ _ _ _ (omega arith) (omega arith) refl (c .before .before .before .byte-at .ensures) (c .before .is-xor .ensures (a .inputs) (a .nodes) (a .outputs) (a .output-table .now)) (f .0), f .1)
 
 pub seen-at-spec : {M : Type 1} → statement M
 seen-at-spec =
@@ -39,7 +39,7 @@ seen-at-spec =
     (λ c. search needs)
     (λ c. search needs)
     (λ c. search needs)
-    move-at-requires
+    byte-at-requires
     returns-2
     is-xor-requires
     flag-of-requires

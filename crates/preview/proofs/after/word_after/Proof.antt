@@ -4,8 +4,8 @@ use Rattle.preview.proofs.AfterMoves.{move-row, word-after, word-names}
 use Rattle.preview.proofs.after.word_after.Statement.{statement}
 use Rattle.preview.proofs.after.word_after.Tie as tie
 
-move-at-requires : tie.Need-move-at-requires
-move-at-requires c κs = let p = c .before .before .before .pre in omega (arith, p .0 .enough)
+byte-at-requires : tie.Need-byte-at-requires
+byte-at-requires c κs = let p = c .before .before .before .pre in omega (arith, p .0 .enough)
 
 is-xor-requires : tie.Need-is-xor-requires
 is-xor-requires c κs =
@@ -16,7 +16,7 @@ flag-of-requires : tie.Need-flag-of-requires
 flag-of-requires c κs =
     let st = c .before .before .before .before .before in
     let a = st .args in
-    (move-row _ _ (st .pre .0) _ _ _ (omega arith) (c .before .move-at .ensures) (c .is-xor .ensures (a .inputs) (a .nodes) (a .outputs) (a .output-table .now)), omega arith)
+    (move-row _ _ (st .pre .0) _ _ _ (omega arith) (c .before .byte-at .ensures) (c .is-xor .ensures (a .inputs) (a .nodes) (a .outputs) (a .output-table .now)), omega arith)
 
 mul-word-at : tie.Need-mul-word-at
 mul-word-at c = let p = c .before .before .before .before .before .before .pre in omega (arith, p .0 .admitted .few-nodes)
@@ -39,13 +39,13 @@ returns c =
     let p = st .pre in
     let e = c .edge-after .ensures in
     let x = c .before .before .before .is-xor .ensures (a .inputs) (a .nodes) (a .outputs) (a .output-table .now) in
-    (word-after _ _ (p .0) _ _ _ _ _ _ _ (p .1) (p .2) (p .3) (c .before .word-at .ensures) (c .before .before .before .before .move-at .ensures) x (c .before .before .flag-of .ensures .0) (e .0), e .1)
+    (word-after _ _ (p .0) _ _ _ _ _ _ _ (p .1) (p .2) (p .3) (c .before .word-at .ensures) (c .before .before .before .before .byte-at .ensures) x (c .before .before .flag-of .ensures .0) (e .0), e .1)
 
 pub word-after-spec : {M : Type 1} → statement M
 word-after-spec =
     tie.close
     (tie.spec
-    move-at-requires
+    byte-at-requires
     is-xor-requires
     flag-of-requires
     mul-word-at

@@ -1,0 +1,4 @@
+pub mod Halving
+pub mod Refusing
+pub mod Sweeping
+pub mod EveryOrder

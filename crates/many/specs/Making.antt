@@ -1,0 +1,53 @@
+-- Moves looked up in a rising list and made word by word, in one sweep of each table: what the inner functions ask of each other, and
+-- no promise to a caller.
+use mathlib.Core.List.{List, []}
+use Prim.Native.Nat.{ℕ, _*_, _≤_, _<_}
+use lib.ListN.{length, getD}
+use Rattle.graph.specs.Graph.{Graph, graphOf}
+use Rattle.graph.specs.Admission.{Admitted}
+use Rattle.graph.specs.Turned.{turnedTable, upTo}
+use Rattle.moves.specs.Rows.{kindMoves}
+use Rattle.moves.specs.Apply.{Choice, none, put, turns, outputTurns}
+
+-- indices rise
+abbrev pub Rises : List ℕ → Type 0
+Rises us = (i j : ℕ) → i < j → j < length us → getD us i 0 < getD us j 0
+
+-- k is the place of u in a rising list, or where it would stand
+pub record Stands (us : List ℕ) (u k : ℕ) : Type 0 where
+  pub within : k ≤ length us
+  pub before : (i : ℕ) → i < k → getD us i 0 < u
+  pub after : (i : ℕ) → k ≤ i → i < length us → u ≤ getD us i 0
+
+-- a list that can be made: it rises, and each move is one that its node's kind has
+pub record Listed (g : Graph) (us ms : List ℕ) : Type 0 where
+  pub rises : Rises us
+  pub enough : length us ≤ length ms
+  pub have : (j : ℕ) → j < length us → getD ms j 0 < kindMoves g (getD us j 0)
+
+-- its moves as a choice
+abbrev pub chosen : List ℕ → List ℕ → Choice
+chosen us ms = put none us ms
+
+-- a graph of nodes alone
+abbrev pub bare : ℕ → ℕ → List ℕ → Graph
+bare i n ns = graphOf i n 0 ns []
+
+-- slices in which an entry's node can be looked at
+pub record Rooms (i n : ℕ) (ns ls : List ℕ) : Type 0 where
+  pub few-inputs : i ≤ 4096
+  pub few-nodes : n ≤ 100000
+  pub long-nodes : 3 * n ≤ length ns
+  pub enough-locks : n ≤ length ls
+
+-- a node table on which it can be made
+pub record Ready (i n : ℕ) (ns us ms : List ℕ) : Type 0 where
+  pub admitted : Admitted (bare i n ns)
+  pub listed : Listed (bare i n ns) us ms
+
+-- both tables, with their words below place j turned as a choice turns them
+unfoldable pub nodesTo : ℕ → ℕ → List ℕ → Choice → ℕ → List ℕ
+nodesTo i n ns m j = turnedTable ns (upTo j (turns (bare i n ns) m))
+
+unfoldable pub outputsTo : Graph → Choice → ℕ → List ℕ
+outputsTo g m j = turnedTable (g .outputs) (upTo j (outputTurns g m))

@@ -1,0 +1,139 @@
+// Which number refuses a list of moves; 0 is none.
+ghost use mathlib.Core.Path.{_≡_};
+ghost use mathlib.Core.List.{List};
+ghost use Prim.Native.Nat.{ℕ, _*_, _≤_, _<_};
+ghost use lib.ListN.{length};
+ghost use Rattle.graph.specs.Finite.{ifLess, ifEqual};
+ghost use Rattle.graph.specs.Graph.{graphOf};
+ghost use Rattle.moves.specs.Rows.{arity};
+ghost use Rattle.many.specs.Many.{risingFault, entryNumber, listNumber, manyNumber};
+ghost use Rattle.many.specs.Making.{Rooms};
+use graph::faults::content_number;
+use graph::faults::first_fault;
+use graph::faults::room_number;
+use graph::table::byte_at;
+use moves::faults::node_fault;
+use moves::rows;
+
+// 14 where entry j is not above the entry before.
+pub fn rising_fault(list: &[u32], j: usize) -> u32
+    requires { ⌜ j < length (now list) ⌝ }
+    ensures { λ r. ⌜ r ≡ risingFault (now (list .entry)) j ⌝ }
+{
+    if j == 0 {
+        return 0;
+    }
+    if list[j - 1] < list[j] {
+        return 0;
+    }
+    14
+}
+
+// 15 where a kind lacks move m.
+pub fn move_fault(xor: bool, m: u32) -> u32
+    ensures { λ r. ⌜ r ≡ ifLess m (arity xor) 0 15 ⌝ }
+{
+    if m < 2 {
+        return 0;
+    }
+    if 4 <= m {
+        return 15;
+    }
+    if xor {
+        return 0;
+    }
+    15
+}
+
+// 16 where a locked node would have a move other than 0.
+pub fn locked_fault(lock: u8, m: u32) -> u32
+    ensures { λ r. ⌜ r ≡ ifEqual lock 1 (ifEqual m 0 0 16) 0 ⌝ }
+{
+    if lock != 1 {
+        return 0;
+    }
+    if m == 0 {
+        return 0;
+    }
+    16
+}
+
+pub fn entry_number(
+    inputs: u32,
+    nodes: u32,
+    node_table: &[u32],
+    locks: &[u8],
+    list: &[u32],
+    bytes: &[u8],
+    j: usize,
+) -> u32
+    requires { ⌜ Rooms inputs nodes (now «node_table») (now locks) × (j < length (now list)) × (length (now list) ≤ length (now bytes)) ⌝ }
+    ensures { λ r. ⌜ ((o : ℕ) (os : List ℕ) → r ≡ entryNumber (graphOf inputs nodes o (now («node_table» .entry)) os) (now (locks .entry)) (now (list .entry)) (now (bytes .entry)) j) ⌝ }
+{
+    let u = list[j];
+    let place = first_fault(node_fault(inputs, nodes, u), rising_fault(list, j));
+    if place != 0 {
+        return place;
+    }
+    let m = byte_at(bytes, j);
+    let v = (u - (inputs + 1)) as usize;
+    first_fault(
+        move_fault(rows::is_xor(node_table, v), m),
+        locked_fault(locks[v], m),
+    )
+}
+
+pub fn list_number(
+    inputs: u32,
+    nodes: u32,
+    node_table: &[u32],
+    locks: &[u8],
+    list: &[u32],
+    bytes: &[u8],
+) -> u32
+    requires { ⌜ Rooms inputs nodes (now «node_table») (now locks) × (length (now list) ≤ length (now bytes)) ⌝ }
+    ensures { λ r. ⌜ ((o : ℕ) (os : List ℕ) → r ≡ listNumber (graphOf inputs nodes o (now («node_table» .entry)) os) (now (locks .entry)) (now (list .entry)) (now (bytes .entry))) ⌝ }
+{
+    let mut j: usize = 0;
+    while j < list.len() {
+        let fault = entry_number(inputs, nodes, node_table, locks, list, bytes, j);
+        if fault != 0 {
+            return fault;
+        }
+        j += 1;
+    }
+    0
+}
+
+pub fn many_number(
+    inputs: u32,
+    nodes: u32,
+    outputs: u32,
+    node_table: &[u32],
+    output_table: &[u32],
+    locks: &[u8],
+    list: &[u32],
+    bytes: &[u8],
+) -> u32
+    ensures { λ r. ⌜ r ≡ manyNumber (graphOf inputs nodes outputs (now («node_table» .entry)) (now («output_table» .entry))) (now (locks .entry)) (now (list .entry)) (now (bytes .entry)) ⌝ }
+{
+    let room = room_number(
+        inputs,
+        nodes,
+        outputs,
+        node_table.len(),
+        output_table.len(),
+        locks.len(),
+    );
+    if room != 0 {
+        return room;
+    }
+    if bytes.len() < list.len() {
+        return 4;
+    }
+    let content = content_number(inputs, nodes, outputs, node_table, output_table, locks);
+    if content != 0 {
+        return content;
+    }
+    list_number(inputs, nodes, node_table, locks, list, bytes)
+}
