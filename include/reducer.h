@@ -17,8 +17,9 @@
  *   The locks are a byte a node in index order, byte v for node I + 1 + v: 1 for a locked node, which must not turn, and 0 for a
  *   free one. Every function that takes a graph takes its locks after its tables and tests them, also where nothing turns. A
  *   locked node has only move 0 in every call, and the best moves are the best of those that leave locked nodes at move 0; its
- *   own words may still turn, by moves of the nodes that they name. A call may name a locked node, and a tree call a locked root.
- *   Only reducer_load, reducer_import and reducer_replay change locks: they fill them.
+ *   own words may still turn, by moves of the nodes that they name. A call may name a locked node, and a tree call a locked root;
+ *   reducer_many refuses a move other than 0 at one. Only reducer_load, reducer_import and reducer_replay change locks: they fill
+ *   them.
  *
  *   Tables and locks may be longer than the graph: only the first 3 * N words of the node table, the first O of the output table
  *   and the first N locks are looked at or changed.
@@ -29,14 +30,17 @@
  *   settling's figures and savings through its last two. A refused call has changed nothing: tables, locks, scratch, results,
  *   moves, buffer, answers and that last number or those arrays are as they were. The first fault is returned, in the order of
  *   the numbers 3, 4, 5, 13, 7, 8, 9, all literals being tested before any lock; loading meets its file from front to back,
- *   importing its text line by line, each line being tested for 10, 11, 12, 3, 4, 5 in that order, and a replay its calls and
- *   answers before its file.
+ *   importing its text line by line, each line being tested for 10, 11, 12, 3, 4, 5 in that order, many moves their list entry by
+ *   entry, after 3, 4, 5 and 13, each entry being tested for 7, 14, 15, 16 in that order, and a replay its calls and answers
+ *   before its file.
  *   Scratch holds nothing of use before or after a call.
  *
  *   A saving is two numbers, of which either may be below 0: how many complemented edges fewer there are, first among the words
  *   of the nodes that the call names, then among all other edges, words of other nodes and outputs. Together they are the
  *   complemented edges before less those after. A node call names its node, a pair call its node and the one that the word
- *   names, a tree call and its preview all nodes of the tree. A call that saves nothing has 0 for both.
+ *   names, a tree call and its preview all nodes of the tree. A call that saves nothing has 0 for both. The saving of many moves
+ *   (reducer_many) is one number. They are made as they are given, and so may leave more complemented edges than there were: the
+ *   saving is then below 0.
  *
  * What a caller owes
  *
@@ -83,12 +87,13 @@ enum reducer_kind {
     REDUCER_NODE_CALL = 0,
     REDUCER_PAIR_CALL = 1,
     REDUCER_TREE_CALL = 2,
-    REDUCER_SETTLE_CALL = 3
+    REDUCER_SETTLE_CALL = 3,
+    REDUCER_MANY_CALL = 4
 };
 
 /*
- * What is returned. 1 to 9 are the refusals of document 01, 10 to 13 those that document 02 adds; 101 and 102 are a replay's own
- * and of neither document.
+ * What is returned. 1 to 9 are the refusals of document 01, 10 to 16 those that document 02 adds; 101, 102 and 105 are a replay's
+ * own and of neither document.
  */
 enum reducer_number {
     REDUCER_OK = 0,
@@ -98,13 +103,13 @@ enum reducer_number {
     REDUCER_WRONG_FIELD = 2,
     /* I, N or O above its limit */
     REDUCER_OVER_LIMIT = 3,
-    /* a lent table, slice of locks, input or result slice too short */
+    /* a lent table, slice of locks, input or result slice too short; fewer moves than nodes (preview, many moves) */
     REDUCER_SHORT_SLICE = 4,
     /* a literal naming an index not allowed there */
     REDUCER_BAD_LITERAL = 5,
     /* bytes after the end field */
     REDUCER_EXTRA_BYTES = 6,
-    /* not a node, not a root (tree call, preview), or no such word of the node */
+    /* not a node (in a list too), not a root (tree call, preview), or no such word of the node */
     REDUCER_NO_SUCH_NODE = 7,
     /* scratch too short */
     REDUCER_SHORT_SCRATCH = 8,
@@ -118,10 +123,18 @@ enum reducer_number {
     REDUCER_WRONG_NUMBERING = 12,
     /* a lock byte above 1, or in a file a field 06 whose index is no node's or not above the one before */
     REDUCER_BAD_LOCK = 13,
+    /* an index of a list of nodes that is not above the one before */
+    REDUCER_NOT_RISING = 14,
+    /* a move number that the node's kind lacks: a majority has moves 0 and 1, an XOR 0 to 3 */
+    REDUCER_NO_SUCH_MOVE = 15,
+    /* a move other than 0 at a locked node */
+    REDUCER_MOVE_OF_LOCKED = 16,
     /* words of the list are left over: their number is not a multiple of 3 */
     REDUCER_LEFT_OVER = 101,
-    /* a call of the list has a kind above 3 */
-    REDUCER_UNKNOWN_KIND = 102
+    /* a call of the list has a kind above 4 */
+    REDUCER_UNKNOWN_KIND = 102,
+    /* a many call's part reaches past the end of the list of nodes */
+    REDUCER_PART_OUTSIDE = 105
 };
 
 /*
@@ -270,18 +283,40 @@ uint32_t reducer_settle(uint32_t inputs, uint32_t nodes, uint32_t outputs,
                         int64_t savings[2]);
 
 /*
+ * Makes many moves together, all of them or none: at node list[k] the move moves[k]. The list has indices of nodes, each above
+ * the one before. A majority's move 1 turns its three words and every reader, an XOR's move 1 both words, its move 2 word 1 and
+ * every reader, its move 3 word 2 and every reader; move 0 turns nothing, and an edge that two moves turn ends as it was. The graph
+ * is the one that the moves give one by one, in every order. A locked node may stand in the list with move 0. The bytes that
+ * reducer_preview tells, with all nodes as the list, make the moves of reducer_tree. moves may be longer than the list: the rest is
+ * not read. saving is the number of complemented edges before less that after, below 0 where there are more. No scratch is needed.
+ * Refusals: 3, 4 (tables, locks, or fewer moves than entries of the list), 5, 13, then entry by entry 7, 14, 15, 16.
+ */
+uint32_t reducer_many(uint32_t inputs, uint32_t nodes, uint32_t outputs,
+                      uint32_t *node_table, size_t node_table_length,
+                      uint32_t *output_table, size_t output_table_length,
+                      const uint8_t *locks, size_t locks_length,
+                      const uint32_t *list, size_t list_length,
+                      const uint8_t *moves, size_t moves_length,
+                      int64_t *saving);
+
+/*
  * Loads a tagged file and makes a list of calls on the loaded graph and locks, each on what the one before left. A call is three
- * words: its kind, a node's index and a word, of which those that the kind does not want are not looked at. Its answer is three
- * words at the front of answers: the number that its own function would return, and both numbers of its saving, for settling
- * those of its savings; a refused call saves nothing, changes nothing, and the list goes on. All calls are lent the same scratch.
- * numbers are I, N and O. Refusals: 101, 102, 4 (fewer than three words of answers a call), then those of reducer_load; then no
- * call is made.
+ * words: its kind, a node's index and a word, of which those that the kind does not want are not looked at. The two words of
+ * REDUCER_MANY_CALL are a start and a count instead: its list are so many entries of list from the start on, and its moves those at
+ * the same places of moves, as far as there are any; the call itself is refused by 4 where these are too few.
+ *
+ * A call's answer is three words at the front of answers: the number that its own function would return, and both numbers of its
+ * saving, for settling those of its savings, and for many moves their saving and 0; a refused call saves nothing, changes nothing,
+ * and the list goes on. All calls are lent the same scratch. numbers are I, N and O. Refusals: 101, then call by call 102 and 105,
+ * then 4 (fewer than three words of answers a call), then those of reducer_load; then no call is made.
  */
 uint32_t reducer_replay(const uint8_t *file, size_t file_length,
                         const uint32_t *calls, size_t calls_length,
                         uint32_t *node_table, size_t node_table_length,
                         uint32_t *output_table, size_t output_table_length,
                         uint8_t *locks, size_t locks_length,
+                        const uint32_t *list, size_t list_length,
+                        const uint8_t *moves, size_t moves_length,
                         uint32_t *scratch, size_t scratch_length,
                         int64_t *answers, size_t answers_length,
                         uint32_t numbers[3]);

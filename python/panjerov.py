@@ -7,7 +7,7 @@
     open("settled.bin", "wb").write(graph.write())
 
 import_aiger and Graph.export_aiger do the same for ASCII AIGER, the text of and-inverter tools. Graph.lock locks a node that is laid
-out already: no call turns it, and its file says so.
+out already: no call turns it, and its file says so. Graph.many makes moves that the caller has chosen, all of them or none.
 
 Every call is one of the proved library's. A call that cannot be made raises: Refused, with the number of the refusal, where
 the library refuses it; TypeError or ValueError where an argument is not of the kind that the library takes. Either way
@@ -23,17 +23,17 @@ import operator
 import os
 import subprocess
 from pathlib import Path
-from typing import Iterable, List, NamedTuple, Sequence, Tuple, Type
+from typing import Iterable, List, NamedTuple, Sequence, Tuple, Type, Union
 
 __all__ = [
     "Graph", "Preview", "Refused", "Saving", "Settled", "Told", "load", "import_aiger", "field", "replay",
-    "NODE", "PAIR", "TREE", "SETTLE", "MARK", "MOST_INPUTS", "MOST_NODES", "MOST_OUTPUTS",
+    "NODE", "PAIR", "TREE", "SETTLE", "MANY", "MARK", "MOST_INPUTS", "MOST_NODES", "MOST_OUTPUTS",
 ]
 
 #: The third word of an XOR node.
 MARK = 4294967295
 #: The kinds of calls in a list.
-NODE, PAIR, TREE, SETTLE = range(4)
+NODE, PAIR, TREE, SETTLE, MANY = range(5)
 #: Limits of a graph.
 MOST_INPUTS = 4096
 MOST_NODES = 100000
@@ -43,7 +43,7 @@ _WHY = {
     1: "the bytes end within a field",
     2: "a field has not the tag or the length that is due",
     3: "there are too many inputs, nodes or outputs",
-    4: "a table, slice of locks, input or result slice is too short",
+    4: "a table or a slice of locks, inputs, results or moves is too short",
     5: "a literal names an index that is not allowed there",
     6: "there are bytes after the end field",
     7: "there is no such node, root or word",
@@ -53,12 +53,16 @@ _WHY = {
     11: "there are latches",
     12: "M is not I + A, or inputs or gate numbers do not rise by 2 from literal 2",
     13: "a lock byte is above 1, or a lock of a file is at no node or not above the one before",
+    14: "an index of the list is not above the one before",
+    15: "a node of this kind has no such move",
+    16: "a move other than 0 is at a locked node",
     102: "a call of the list has a kind that is none",
+    105: "a many call's part reaches past the end of the list",
 }
 
 
 class Refused(Exception):
-    """A call that the library refuses. `number` is 1 to 13, or 102 of a replay; nothing has changed."""
+    """A call that the library refuses. `number` is 1 to 16, or 102 or 105 of a replay; nothing has changed."""
 
     def __init__(self, number: int) -> None:
         super().__init__(f"refused {number}: {_WHY.get(number, 'for no known cause')}")
@@ -97,7 +101,7 @@ class Preview(NamedTuple):
 
 
 class Told(NamedTuple):
-    """What a call of a list answers: 0 or the number that refuses it, and what it saves."""
+    """What a call of a list answers: 0 or the number that refuses it, and what it saves; many moves save it all as own."""
 
     number: int
     saving: Saving
@@ -157,7 +161,8 @@ _trial = _function("reducer_trial", _GRAPH + [_U32] * 4 + [ctypes.c_void_p])
 _tree = _function("reducer_tree", _GRAPH + [_U32] + _WORDS + [ctypes.c_void_p])
 _preview = _function("reducer_preview", _GRAPH + [_U32] + _WORDS * 2 + [ctypes.c_void_p])
 _settle = _function("reducer_settle", _GRAPH + _WORDS + [ctypes.c_void_p] * 2)
-_replay = _function("reducer_replay", _WORDS * 7 + [ctypes.c_void_p])
+_many = _function("reducer_many", _GRAPH + _WORDS * 2 + [ctypes.c_void_p])
+_replay = _function("reducer_replay", _WORDS * 9 + [ctypes.c_void_p])
 
 
 def _number(value: int, bits: int, what: str) -> int:
@@ -197,6 +202,13 @@ def _bytes(value: bytes, what: str):
     array = _array(ctypes.c_uint8, len(value))
     ctypes.memmove(array, value, len(value))
     return array, len(value)
+
+
+def _moves(values: Union[bytes, Iterable[int]]):
+    """Moves, as bytes or as numbers of a byte each, as an array, and how many they are."""
+    if isinstance(values, (bytes, bytearray, memoryview)):
+        return _bytes(values, "moves")
+    return _numbers(values, ctypes.c_uint8, "moves")
 
 
 def _accept(number: int) -> None:
@@ -259,21 +271,25 @@ def import_aiger(text: bytes) -> "Graph":
     return _graph(numbers[0], tables)
 
 
-def replay(file: bytes, calls: Iterable[Sequence[int]]) -> Tuple["Graph", List[Told]]:
+def replay(
+    file: bytes, calls: Iterable[Sequence[int]], indices: Iterable[int] = (), moves: Union[bytes, Iterable[int]] = b""
+) -> Tuple["Graph", List[Told]]:
     """The graph that a tagged file holds after a list of calls, each of which gets its locks, and what each call answers.
 
-    A call is its kind (NODE, PAIR, TREE or SETTLE), a node and a word; those that a kind does not want are not looked at. A
-    call that is refused changes nothing, and the list goes on.
+    A call is its kind (NODE, PAIR, TREE or SETTLE), a node and a word; those that a kind does not want are not looked at. Of the
+    kind MANY it is the kind, a start and a count: that part of indices and of moves is made, as Graph.many does. A call that is
+    refused changes nothing, and the list goes on.
     """
     array, length = _bytes(file, "file")
     listed = [tuple(call) for call in calls]
     if any(len(call) != 3 for call in listed):
         raise ValueError("each of calls must be a kind, a node and a word")
     words, count = _numbers([word for call in listed for word in call], _U32, "calls")
+    many = [*_numbers(indices, _U32, "indices"), *_moves(moves)]
     tables = _room(bytes(file))
     scratch_words, answer_words = 8 * tables[5], 3 * len(listed)
     scratch, answers, numbers = _array(_U32, scratch_words), _array(_I64, answer_words), (_U32 * 3)()
-    _accept(_replay(array, length, words, count, *tables, scratch, scratch_words, answers, answer_words, numbers))
+    _accept(_replay(array, length, words, count, *tables, *many, scratch, scratch_words, answers, answer_words, numbers))
     told = [Told(answers[at], Saving(answers[at + 1], answers[at + 2])) for at in range(0, answer_words, 3)]
     return _graph(numbers[0], tables), told
 
@@ -437,6 +453,14 @@ class Graph:
         number = _number(root, 32, "root")
         _accept(_preview(*lent, number, moves, lent[1], _array(_U32, room), room, saving))
         return Preview(Saving(*saving), bytes(moves[: lent[1]]))
+
+    def many(self, indices: Iterable[int], moves: Union[bytes, Iterable[int]]) -> int:
+        """Makes many moves, all of them or none: at each node of indices, which rise, the move at the same place. What they save, less
+        than 0 where they lose. The moves of a Preview are made by the indices of all nodes."""
+        lent, saving = self._lent(), _I64()
+        _accept(_many(*lent, *_numbers(indices, _U32, "indices"), *_moves(moves), ctypes.byref(saving)))
+        self._take(lent)
+        return saving.value
 
     def settle(self) -> Settled:
         """Makes rounds of tree, node and pair calls until one saves nothing."""

@@ -230,6 +230,51 @@ class Good(unittest.TestCase):
             self.assertEqual(graph.settle(), (1, edges, edges, 0, 0))
             self.assertEqual(graph, before)
 
+    def test_many(self) -> None:
+        graph = Graph(3, [2, 4, 6], [8])
+        self.assertEqual((graph.many([4], [1]), graph), (-4, Graph(3, [3, 5, 7], [9])))
+        self.assertEqual((graph.many((4,), b"\1"), graph), (4, Graph(3, [2, 4, 6], [8])))
+        self.assertEqual((graph.many([], []), graph.many([4], [0]), graph), (0, 0, Graph(3, [2, 4, 6], [8])))
+        p2 = [3, 5, 6, 13, 8, 11]
+        graph = Graph(5, p2, [14])
+        self.assertEqual((graph.many([6, 7], [1, 0]), graph), (2, Graph(5, [2, 4, 7, 12, 8, 11], [14])))
+        # The edge between the two is turned twice, and moves past the last index are not read.
+        graph = Graph(5, p2, [14])
+        self.assertEqual((graph.many(iter([6, 7]), bytes([1, 1, 9])), graph), (0, Graph(5, [2, 4, 7, 13, 9, 10], [15])))
+        # A locked node with move 0: its first word turns with the node that it names.
+        graph = Graph(5, p2, [14], [7])
+        self.assertEqual((graph.many([6, 7], [1, 0]), graph), (2, Graph(5, [2, 4, 7, 12, 8, 11], [14], [7])))
+
+    def test_many_by_words(self) -> None:
+        """Held to words turned one by one, to each move by itself in another order, and to the tree call of a preview."""
+        generator = random.Random(7)
+        lost = 0
+        for _ in range(1000):
+            graph = random_graph(generator)
+            first, count = graph.inputs + 1, len(graph.nodes) // 3
+            kinds = [4 if third == MARK else 2 for third in graph.nodes[2::3]]
+            every = [0 if first + at in graph.locked else generator.randrange(kinds[at]) for at in range(count)]
+            chosen = [at for at in range(count) if generator.random() < 0.6]
+            moves = [move if at in chosen else 0 for at, move in enumerate(every)]
+            whole, single = copied(graph), copied(graph)
+            saved = whole.many([first + at for at in chosen], [every[at] for at in chosen])
+            self.assertEqual(whole, made(graph, bytes(moves)))
+            self.assertEqual(saved, graph.complemented_edges() - whole.complemented_edges())
+            generator.shuffle(chosen)
+            self.assertEqual(sum(single.many([first + at], [every[at]]) for at in chosen), saved)
+            self.assertEqual(single, whole)
+            lost += saved < 0
+            for root in range(first, first + count):
+                try:
+                    told, called = graph.preview(root), copied(graph)
+                except Refused:
+                    continue  # no root
+                called.tree_call(root)
+                applied = copied(graph)
+                self.assertEqual(applied.many(range(first, first + count), told.moves), told.saving.total)
+                self.assertEqual(applied, called)
+        self.assertGreater(lost, 100)
+
     def test_trials(self) -> None:
         graph = Graph(5, [3, 5, 6, 12, 9, 10], [15])
         moves = [(0, 0), (0, 1), (1, 0), (1, 1), (0, 2), (2**32 - 1, 1)]
@@ -279,6 +324,16 @@ class Good(unittest.TestCase):
             self.assertEqual(panjerov.replay(lost, [first, (tree, 4, 0)])[1], [(0, (-1, 3)), (0, (0, 0))])
         self.assertEqual(panjerov.replay(p1().write(), []), (p1(), []))
 
+    def test_replay_of_many(self) -> None:
+        """P1 settled, its move taken back, and settled again; parts of a list with their moves."""
+        many, settle = panjerov.MANY, (panjerov.SETTLE, 0, 0)
+        calls = [settle, (many, 1, 1), settle, (many, 0, 1), (many, 0, 2), (many, 1, 2), (many, 3, 0), (many, 2, 1)]
+        graph, told = panjerov.replay(p1().write(), calls, [5, 4, 4], [0, 1])
+        self.assertEqual(graph, Graph(3, [2, 4, 6], [8]))
+        none, short, settled = (7, (0, 0)), (4, (0, 0)), (0, (3, 1))
+        self.assertEqual(told, [settled, (0, (-4, 0)), settled, none, none, short, (0, (0, 0)), short])
+        self.assertEqual(panjerov.replay(p1().write(), [(many, 0, 1)], [4], b"\1\7"), (Graph(3, [2, 4, 6], [8]), [(0, (4, 0))]))
+
     def test_replay_call_by_call(self) -> None:
         generator = random.Random(2)
         for _ in range(300):
@@ -289,10 +344,18 @@ class Good(unittest.TestCase):
             locked = [index for index in range(4, end // 2) if generator.random() < 0.2]
             graph = Graph(3, nodes, [generator.randrange(end) for _ in range(2)], locked)
             calls = [(generator.randrange(4), generator.randrange(3, end // 2), generator.randrange(4)) for _ in range(6)]
-            after, told = panjerov.replay(graph.write(), calls)
+            # Some indices stand twice or are no node's, some moves are none of a majority's, and there may be too few.
+            indices = sorted(generator.randrange(4, end // 2 + 1) for _ in range(9))
+            moves = [generator.choice([0, 0, 1, 1, 2]) for _ in range(generator.randrange(6, 12))]
+            for _ in range(4):
+                start = generator.randrange(10)
+                calls.insert(generator.randrange(7), (panjerov.MANY, start, generator.randrange(10 - start)))
+            after, told = panjerov.replay(graph.write(), calls, indices, moves)
             for (kind, node, word), answer in zip(calls, told):
                 try:
-                    if kind == panjerov.SETTLE:
+                    if kind == panjerov.MANY:
+                        saving = (graph.many(indices[node : node + word], moves[node : node + word]), 0)
+                    elif kind == panjerov.SETTLE:
                         settled = graph.settle()
                         saving = (settled.own, settled.others)
                     else:
@@ -354,6 +417,9 @@ class Good(unittest.TestCase):
         self.assertEqual(graph, previewed)
         self.assertEqual(previewed.tree_call(104096), told.saving)
         self.assertEqual(made(graph, told.moves), previewed)
+        applied = Graph(4096, nodes, graph.outputs)
+        self.assertEqual(applied.many(range(4097, 104097), told.moves), told.saving.total)
+        self.assertEqual(applied, previewed)
         settled = graph.settle()
         self.assertLess(settled.after, settled.before)
         self.assertEqual(graph.complemented_edges(), settled.after)
@@ -406,9 +472,51 @@ class Bad(unittest.TestCase):
         self.refused(3, Graph(0, [0] * 300003, []), "write")
         self.refused(3, Graph(2**32 - 1, [], []), "export_aiger")
         self.refused(3, Graph(0, [0] * 300003, []), "export_aiger")
+        self.refused(3, Graph(0, [0] * 300003, []), "many", [0], [])
+        self.refused(4, Graph(3, [2, 4, 8], [8]), "many", [3], [])
+        self.refused(5, Graph(3, [2, 4, 8], [8]), "many", [3], [9])
         for call in ["settle", "write", "export_aiger", "complemented_edges"]:
             self.refused(5, Graph(3, [2, 4, 8], [8]), call)
             self.refused(5, Graph(3, [2, 4, 6], [10]), call)
+
+    def test_lists_of_moves(self) -> None:
+        """Node 3 is a majority, nodes 4 and 5 are XORs, and node 4 is locked."""
+        graph = Graph(2, [2, 5, 4, 6, 3, MARK, 8, 7, MARK], [10, 9], [4])
+        for number, indices, moves in [
+            (4, [3, 4, 5], [1, 0]),
+            (4, [9], []),
+            (7, [2], [9]),
+            (7, [3, 6], [1, 9]),
+            (7, [3, 2**32 - 1], [1, 0]),
+            (7, [3, 2], [1, 0]),
+            (14, [5, 3], [1, 9]),
+            (14, [3, 3], [1, 1]),
+            (14, [3, 5, 4], [1, 0, 1]),
+            (15, [3], [2]),
+            (15, [4], [4]),
+            (15, [3, 5], [1, 255]),
+            (16, [3, 4], [1, 1]),
+            (16, [4], [2]),
+            (16, [3, 4, 9], [1, 3, 0]),
+        ]:
+            self.refused(number, graph, "many", indices, moves)
+        for error, indices, moves in [
+            (ValueError, [3], [256]),
+            (ValueError, [3], [-1]),
+            (ValueError, [2**32], [0]),
+            (TypeError, ["3"], [0]),
+            (TypeError, [3], [1.0]),
+            (TypeError, [3], "1"),
+            (TypeError, b"\3", [1]),
+            (TypeError, 3, [1]),
+            (TypeError, [3], 1),
+        ]:
+            before = repr(graph)
+            with self.assertRaises(error):
+                graph.many(indices, moves)
+            self.assertEqual(repr(graph), before)
+        with self.assertRaisesRegex(Refused, "refused 16: a move other than 0 is at a locked node"):
+            graph.many([4], [1])
 
     def test_files(self) -> None:
         file = p1().write()
@@ -500,12 +608,18 @@ class Bad(unittest.TestCase):
         file = p1().write()
         for number, bad, calls in [
             (1, file[:39], []),
-            (102, file, [(4, 4, 0)]),
+            (102, file, [(5, 4, 0)]),
             (102, b"", [(9, 0, 0)]),
+            (105, file, [(4, 0, 3)]),
+            (105, b"", [(4, 3, 0)]),
+            (105, b"", [(4, 2, 1), (5, 0, 0)]),
+            (105, b"", [(4, 1, 2**32 - 1)]),
+            (102, b"", [(5, 0, 0), (4, 2, 1)]),
+            (1, b"", [(4, 2, 0)]),
             (6, file + b"\0", [(0, 4, 0)]),
         ]:
             with self.assertRaises(Refused) as caught:
-                panjerov.replay(bad, calls)
+                panjerov.replay(bad, calls, [4, 4], [1, 1])
             self.assertEqual(caught.exception.number, number)
         for error, calls in [
             (ValueError, [(0, 4)]),
@@ -515,6 +629,9 @@ class Bad(unittest.TestCase):
         ]:
             with self.assertRaises(error):
                 panjerov.replay(file, calls)
+        for error, indices, moves in [(ValueError, [-1], []), (TypeError, "4", []), (ValueError, [4], [256]), (TypeError, [4], "1")]:
+            with self.assertRaises(error):
+                panjerov.replay(file, [], indices, moves)
 
     def test_any_bytes(self) -> None:
         generator = random.Random(1)

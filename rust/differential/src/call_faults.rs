@@ -1,4 +1,4 @@
-//! Every call but the preview with every choice of some faults. Its number is known without any implementation: the first in the
+//! Every call but the preview and many moves with every choice of some faults. Its number is known without any implementation: the first in the
 //! order 3, 4, 5, 13, 7, 8, 9 of those faults that the call can have. Each is lent what it must leave where it is refused.
 
 use crate::lists::differ;
@@ -118,7 +118,7 @@ fn evaluated(asked: &Asked, scratch: usize) -> Result<u32, String> {
 
 fn stepped(g: &Graph, call: Call, scratch: usize) -> Result<u32, String> {
     let mut lent = g.clone();
-    match raw::step(&mut lent, call, scratch)? {
+    match raw::step(&mut lent, &call, scratch)? {
         Answer::Refused(number) => {
             differ("the tables and locks after a refusal", &lent, g)?;
             Ok(number)

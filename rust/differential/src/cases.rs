@@ -7,7 +7,7 @@ use reference::graph::{check_room, Graph, Room, MARK};
 use reference::random::Random;
 
 /// A call, and by how many words its scratch is longer than it needs to be; by how many shorter, if less than 0.
-#[derive(Clone, Copy, Debug, PartialEq, Eq)]
+#[derive(Clone, Debug, PartialEq, Eq)]
 pub struct Step {
     pub call: Call,
     pub spare: i64,
@@ -26,8 +26,36 @@ impl Step {
             Call::Pair(v, word) => Call::Pair(lower(v), word),
             Call::Tree(v) => Call::Tree(lower(v)),
             Call::Settle => Call::Settle,
+            Call::Many { ref list, ref moves } => many_without(list, moves, gone),
         };
         Step { call, ..*self }
+    }
+
+    /// The same call with an entry less, or a move less where there are more than entries.
+    fn smaller(&self) -> Vec<Step> {
+        let Call::Many { list, moves } = &self.call else { return vec![] };
+        let without = |at: usize| {
+            let (mut list, mut moves) = (list.clone(), moves.clone());
+            if at < list.len() {
+                list.remove(at);
+            }
+            if at < moves.len() {
+                moves.remove(at);
+            }
+            Step { call: Call::Many { list, moves }, ..*self }
+        };
+        (0..list.len().max(moves.len())).map(without).collect()
+    }
+}
+
+/// The entries of other nodes, those above the one that is no more lowered.
+fn many_without(list: &[u32], moves: &[u8], gone: u32) -> Call {
+    let kept = |at: &usize| list.get(*at) != Some(&gone);
+    let lower = |v: u32| if v > gone { v - 1 } else { v };
+    let places: Vec<usize> = (0..list.len().max(moves.len())).filter(kept).collect();
+    Call::Many {
+        list: places.iter().filter_map(|&at| list.get(at)).map(|&v| lower(v)).collect(),
+        moves: places.iter().filter_map(|&at| moves.get(at)).copied().collect(),
     }
 }
 
@@ -175,6 +203,13 @@ impl Shrink for Case {
             let mut next = self.clone();
             next.steps.remove(at);
             all.push(next);
+        }
+        for (at, step) in self.steps.iter().enumerate() {
+            for smaller in step.smaller() {
+                let mut next = self.clone();
+                next.steps[at] = smaller;
+                all.push(next);
+            }
         }
         for (graph, gone) in smaller_graphs(&self.graph) {
             if let Some(gone) = gone {

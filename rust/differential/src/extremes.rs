@@ -164,9 +164,9 @@ pub fn check(extreme: &Extreme, seed: u64) -> Result<u64, String> {
 fn check_one(extreme: &Extreme, start: Graph) -> Result<(), String> {
     let scratch = 8 * start.nodes as usize;
     let mut g = start.clone();
-    let got = (raw::step(&mut g, Call::Settle, scratch)?, g);
+    let got = (raw::step(&mut g, &Call::Settle, scratch)?, g);
     let mut g = start.clone();
-    same("plain Rust", &got, &(plain_step(&mut g, Call::Settle, scratch), g))?;
+    same("plain Rust", &got, &(plain_step(&mut g, &Call::Settle, scratch), g))?;
     if extreme.by_reference {
         let mut fast = Fast::new(start.clone());
         same("the reference", &got, &(Answer::Settled(fast.settle()), fast.g))?;

@@ -2,6 +2,7 @@
 //! where a call is refused.
 
 use crate::cases::Case;
+use crate::many;
 use crate::previews;
 use crate::raw::{self, Tables};
 use reference::calls::{self, Call};
@@ -56,7 +57,7 @@ fn with_tables(g: &Graph) -> Vec<Graph> {
     rooms(g.nodes as usize, g.outputs as usize).into_iter().map(resize).collect()
 }
 
-fn check_calls(g: &Graph, call: Call) -> Result<u64, String> {
+fn check_calls(g: &Graph, call: &Call) -> Result<u64, String> {
     let mut done = 0;
     let scratches: Vec<usize> = match call {
         Call::Tree(_) | Call::Settle => around(8 * g.nodes as usize).collect(),
@@ -72,9 +73,24 @@ fn check_calls(g: &Graph, call: Call) -> Result<u64, String> {
         done += 1;
     }
     match call {
-        Call::Tree(root) => Ok(done + check_previews(g, root)?),
+        Call::Tree(root) => Ok(done + check_previews(g, *root)?),
+        Call::Many { list, moves } => Ok(done + check_moves(g, list, moves)?),
         _ => Ok(done),
     }
+}
+
+/// Many moves on what may be no graph, with moves of all lengths around the list's, and with each front part of the list.
+fn check_moves(g: &Graph, list: &[u32], moves: &[u8]) -> Result<u64, String> {
+    let mut done = 0;
+    for length in around(list.len()) {
+        let _ = many::check_one(g, list, &resized(moves, length, 200))?;
+        done += 1;
+    }
+    for end in 0..list.len() {
+        let _ = many::check_one(g, &list[..end], moves)?;
+        done += 1;
+    }
+    Ok(done)
 }
 
 /// Previews of what may be no graph, with a byte and a word of scratch too few, just enough, and more.
@@ -186,7 +202,7 @@ pub fn check_lengths(case: &Case) -> Result<u64, String> {
         same("results", &got, &due)?;
         done += 3 + check_exporting("from tables of other lengths", &g)?;
         for step in &case.steps {
-            done += check_calls(&g, step.call)?;
+            done += check_calls(&g, &step.call)?;
         }
     }
     Ok(done)
@@ -292,7 +308,7 @@ fn check_bad(case: &Case, bad: &Graph, what: &str) -> Result<u64, String> {
     same(&format!("the buffer after writing {what}"), &got, &due)?;
     let mut done = 2 + check_exporting(what, bad)?;
     for step in &case.steps {
-        done += check_calls(bad, step.call)?;
+        done += check_calls(bad, &step.call)?;
     }
     Ok(done)
 }

@@ -8,10 +8,43 @@ use crate::raw;
 use crate::savings;
 use reference::calls::{self, Answer, Call};
 use reference::fast::Fast;
+use reference::generate::moves_of;
 use reference::graph::{complemented_edges, Graph};
 use reference::random::Random;
 use reference::settling::Settled;
 use reference::{evaluation, file};
+
+/// One thing of a list of moves made wrong, at times into what is still right.
+fn damage(random: &mut Random, g: &Graph, list: &mut Vec<u32>, moves: &mut Vec<u8>) {
+    let at = random.below(list.len() as u32) as usize;
+    let end = g.inputs + g.nodes;
+    match random.below(9) {
+        0 => list[at] = [0, g.inputs, end + 1, u32::MAX][random.below(4) as usize],
+        1 => list[at] = random.below(end + 2),
+        2 => list.swap(at, random.below(g.nodes) as usize % at.max(1)),
+        3 => {
+            list.insert(at, list[at]);
+            moves.insert(at.min(moves.len()), 0);
+        }
+        4 => moves.truncate(at),
+        5 => moves.extend((0..random.between(1, 3)).map(|_| random.below(256) as u8)),
+        6 if at < moves.len() => moves[at] = random.between(4, 255) as u8,
+        _ if at < moves.len() => moves[at] = random.between(1, 4) as u8,
+        _ => {}
+    }
+}
+
+/// A list of moves, mostly one that is accepted; else with faults.
+pub fn random_many(random: &mut Random, g: &Graph) -> Call {
+    let share = random.between(1, 3);
+    let (mut list, mut moves) = moves_of(random, g, share);
+    if !list.is_empty() && random.one_in(3) {
+        for _ in 0..random.between(1, 3) {
+            damage(random, g, &mut list, &mut moves);
+        }
+    }
+    Call::Many { list, moves }
+}
 
 /// A call that is mostly sensible.
 pub fn random_call(random: &mut Random, g: &Graph) -> Call {
@@ -22,11 +55,12 @@ pub fn random_call(random: &mut Random, g: &Graph) -> Call {
         _ if g.nodes == 0 => end,
         _ => random.between(g.inputs + 1, end),
     };
-    match random.below(8) {
+    match random.below(10) {
         0 | 1 => Call::Node(node),
         2 | 3 => Call::Pair(node, if random.one_in(10) { random.below(6) } else { random.between(1, 3) }),
         4..=6 => Call::Tree(node),
-        _ => Call::Settle,
+        7 => Call::Settle,
+        _ => random_many(random, g),
     }
 }
 
@@ -57,7 +91,7 @@ pub fn check_list(case: &Case) -> Result<(), String> {
     let mut due = case.graph.clone();
     let mut got = case.graph.clone();
     for (at, step) in case.steps.iter().enumerate() {
-        let (call, scratch) = (step.call, step.scratch(&case.graph));
+        let (call, scratch) = (&step.call, step.scratch(&case.graph));
         let answer = raw::step(&mut got, call, scratch)?;
         differ(&format!("call {at}, {call:?}"), &answer, &calls::step(&mut due, call, scratch))?;
         differ(&format!("the graph after call {at}, {call:?}"), &got, &due)?;
@@ -72,7 +106,7 @@ pub fn check_readings(case: &Case) -> Result<(), String> {
     let mut g = case.graph.clone();
     let before = check_reading(&g, &words)?;
     for step in &case.steps {
-        raw::step(&mut g, step.call, step.scratch(&case.graph))?;
+        raw::step(&mut g, &step.call, step.scratch(&case.graph))?;
     }
     let after = check_reading(&g, &words)?;
     differ("the outputs after the list", &after, &before)
@@ -125,9 +159,9 @@ fn saving(result: Result<reducer::Saving, u32>) -> Answer {
 }
 
 /// One call by the plain implementation.
-pub fn plain_step(g: &mut Graph, call: Call, scratch: usize) -> Answer {
+pub fn plain_step(g: &mut Graph, call: &Call, scratch: usize) -> Answer {
     let t = &mut tables(g);
-    match call {
+    match *call {
         Call::Node(v) => saving(plain::calls::node_call(t, v)),
         Call::Pair(v, word) => saving(plain::calls::pair_call(t, v, word)),
         Call::Tree(root) => saving(plain::sweeps::tree_call(t, root, scratch)),
@@ -135,6 +169,9 @@ pub fn plain_step(g: &mut Graph, call: Call, scratch: usize) -> Answer {
             let reducer::Settled { rounds, before, after, own, others } = settled;
             Answer::Settled(Settled { rounds, before, after, own, others })
         }),
+        Call::Many { ref list, ref moves } => {
+            plain::many::many(t, list, moves).map_or_else(Answer::Refused, Answer::Total)
+        }
     }
 }
 
@@ -143,7 +180,7 @@ pub fn check_plain(case: &Case) -> Result<(), String> {
     let mut due = case.graph.clone();
     let mut got = case.graph.clone();
     for (at, step) in case.steps.iter().enumerate() {
-        let (call, scratch) = (step.call, step.scratch(&case.graph));
+        let (call, scratch) = (&step.call, step.scratch(&case.graph));
         let answer = plain_step(&mut got, call, scratch);
         differ(&format!("plain: call {at}, {call:?}"), &answer, &calls::step(&mut due, call, scratch))?;
         differ(&format!("plain: the graph after call {at}"), &got, &due)?;
@@ -156,7 +193,7 @@ pub fn check_large(case: &Case) -> Result<(), String> {
     let mut due = case.graph.clone();
     let mut got = case.graph.clone();
     for (at, step) in case.steps.iter().enumerate() {
-        let (call, scratch) = (step.call, step.scratch(&case.graph));
+        let (call, scratch) = (&step.call, step.scratch(&case.graph));
         let answer = raw::step(&mut got, call, scratch)?;
         differ(&format!("call {at}, {call:?}"), &answer, &plain_step(&mut due, call, scratch))?;
         if got != due {
@@ -186,7 +223,7 @@ pub fn check_large(case: &Case) -> Result<(), String> {
 /// Settling of graphs of hundreds of nodes, against the other implementation's fast form.
 pub fn check_settled(case: &Case) -> Result<(), String> {
     let mut got = case.graph.clone();
-    let answer = raw::step(&mut got, Call::Settle, 8 * case.graph.nodes as usize)?;
+    let answer = raw::step(&mut got, &Call::Settle, 8 * case.graph.nodes as usize)?;
     let mut fast = Fast::new(case.graph.clone());
     let due = fast.settle();
     differ("settling", &answer, &Answer::Settled(due))?;

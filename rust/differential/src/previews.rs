@@ -80,7 +80,7 @@ pub fn all_met() -> Result<(), String> {
 /// That the tree call on a copy answers the same, and ends where the moves lead, made one by one.
 fn check_call(g: &Graph, root: u32, scratch: usize, answer: Result<Saving, u32>, told: &[u8]) -> Result<(), String> {
     let mut called = g.clone();
-    let due = raw::step(&mut called, Call::Tree(root), scratch)?;
+    let due = raw::step(&mut called, &Call::Tree(root), scratch)?;
     differ(&format!("the preview at {root}"), &answer.map_or_else(Answer::Refused, Answer::Saving), &due)?;
     let mut moved = g.clone();
     if answer.is_ok() {
@@ -181,7 +181,7 @@ fn check_plain(g: &Graph, root: u32, due: &Told) -> Result<(), String> {
 fn check_by_fast(g: &Graph, fast: &mut Fast, root: u32) -> Result<(), String> {
     let got = check_kept(g, root)?;
     let mut called = g.clone();
-    let due = raw::step(&mut called, Call::Tree(root), 8 * g.nodes as usize)?;
+    let due = raw::step(&mut called, &Call::Tree(root), 8 * g.nodes as usize)?;
     differ(&format!("the preview at {root}"), &got.answer.map_or_else(Answer::Refused, Answer::Saving), &due)?;
     if !fast.is_root(root) {
         differ(&format!("the preview at {root}, which is no root"), &got.answer, &Err(7))?;

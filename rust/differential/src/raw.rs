@@ -6,6 +6,7 @@ use reducer::raw;
 use reference::calls::{Answer, Call};
 use reference::graph::{Graph, Room};
 use reference::moves::Saving;
+use reference::replay::Words;
 use reference::settling::Settled;
 
 use crate::savings;
@@ -15,10 +16,10 @@ const LONG_CANARY: usize = 0xa5a5_a5a5_a5a5;
 const SIGNED_CANARY: i64 = -0x5a5a_5a5a_5a5a;
 
 /// The numbers that a call can return, 0 for an accepted one.
-pub const NUMBERS: [u32; 16] = [0, 1, 2, 3, 4, 5, 6, 7, 8, 9, 10, 11, 12, 13, 101, 102];
+pub const NUMBERS: [u32; 20] = [0, 1, 2, 3, 4, 5, 6, 7, 8, 9, 10, 11, 12, 13, 14, 15, 16, 101, 102, 105];
 
 /// How often each of them was returned.
-pub static MET: [AtomicU64; 16] = [const { AtomicU64::new(0) }; 16];
+pub static MET: [AtomicU64; 20] = [const { AtomicU64::new(0) }; 20];
 
 /// What a call answered, or what was wrong with how it answered.
 pub type Answered<T> = Result<Result<T, u32>, String>;
@@ -355,6 +356,29 @@ pub fn settle(g: &mut Graph, scratch: &mut [u32]) -> Answered<Settled> {
         .map(|([rounds, before, after], [own, others])| Settled { rounds, before, after, own, others }))
 }
 
+pub fn many(g: &mut Graph, list: &[u32], moves: &[u8]) -> Answered<i64> {
+    let mut saving = SIGNED_CANARY;
+    let number = unsafe {
+        raw::reducer_many(
+            g.inputs,
+            g.nodes,
+            g.outputs,
+            g.node_table.as_mut_ptr(),
+            g.node_table.len(),
+            g.output_table.as_mut_ptr(),
+            g.output_table.len(),
+            g.locks.as_mut_ptr(),
+            g.locks.len(),
+            list.as_ptr(),
+            list.len(),
+            moves.as_ptr(),
+            moves.len(),
+            &mut saving,
+        )
+    };
+    answered(number, saving, SIGNED_CANARY)
+}
+
 /// What a replay is lent beside the file and the calls.
 #[derive(Clone, Debug, PartialEq, Eq)]
 pub struct Lent {
@@ -363,7 +387,8 @@ pub struct Lent {
     pub answers: Vec<i64>,
 }
 
-pub fn replay(file: &[u8], calls: &[u32], lent: &mut Lent) -> Answered<(u32, u32, u32)> {
+pub fn replay(file: &[u8], words: Words, lent: &mut Lent) -> Answered<(u32, u32, u32)> {
+    let Words { calls, list, moves } = words;
     let canary = [CANARY; 3];
     let mut numbers = canary;
     let number = unsafe {
@@ -378,6 +403,10 @@ pub fn replay(file: &[u8], calls: &[u32], lent: &mut Lent) -> Answered<(u32, u32
             lent.tables.output_table.len(),
             lent.tables.locks.as_mut_ptr(),
             lent.tables.locks.len(),
+            list.as_ptr(),
+            list.len(),
+            moves.as_ptr(),
+            moves.len(),
             lent.scratch.as_mut_ptr(),
             lent.scratch.len(),
             lent.answers.as_mut_ptr(),
@@ -389,13 +418,14 @@ pub fn replay(file: &[u8], calls: &[u32], lent: &mut Lent) -> Answered<(u32, u32
 }
 
 /// One call of a list, with so many words of scratch, which a refused call must leave.
-pub fn step(g: &mut Graph, call: Call, scratch: usize) -> Result<Answer, String> {
+pub fn step(g: &mut Graph, call: &Call, scratch: usize) -> Result<Answer, String> {
     let mut lent = vec![CANARY; scratch];
-    let answer = match call {
+    let answer = match *call {
         Call::Node(v) => node(g, v)?.map(Answer::Saving),
         Call::Pair(v, word) => pair(g, v, word)?.map(Answer::Saving),
         Call::Tree(root) => tree(g, root, &mut lent)?.map(Answer::Saving),
         Call::Settle => settle(g, &mut lent)?.map(Answer::Settled),
+        Call::Many { ref list, ref moves } => many(g, list, moves)?.map(Answer::Total),
     };
     match answer {
         Ok(answer) => Ok(answer),

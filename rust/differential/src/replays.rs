@@ -5,17 +5,19 @@ use crate::files::{damaged_file, FileCase};
 use crate::lists::{differ, random_call};
 use crate::raw::{self, Lent, Tables};
 use crate::shrink::Shrink;
-use reference::calls::{self, Call};
+use reference::calls::Call;
 use reference::file;
 use reference::graph::{Graph, Number};
 use reference::random::Random;
-use reference::vectors::answer::told;
+use reference::replay::{replay, Words};
 
-/// A file, the words of a list of calls, and how many words of scratch and of answers are lent.
+/// A file, the words of a list of calls, the nodes and moves of its many calls, and how many words of scratch and of answers are lent.
 #[derive(Clone, Debug)]
 pub struct ReplayCase {
     pub file: FileCase,
     pub words: Vec<u32>,
+    pub list: Vec<u32>,
+    pub moves: Vec<u8>,
     pub scratch: usize,
     pub answers: usize,
 }
@@ -29,29 +31,71 @@ impl Shrink for ReplayCase {
                 all.push(ReplayCase { words: [&self.words[..at], &self.words[end..]].concat(), ..self.clone() });
             }
         }
+        for end in 0..self.list.len() {
+            all.push(ReplayCase { list: self.list[..end].to_vec(), ..self.clone() });
+        }
+        for end in 0..self.moves.len() {
+            all.push(ReplayCase { moves: self.moves[..end].to_vec(), ..self.clone() });
+        }
         all.extend(self.file.smaller().into_iter().map(|file| ReplayCase { file, ..self.clone() }));
         all
     }
 
     fn show(&self) -> String {
         let file = self.file.show();
-        format!("{file}calls {:?}; {} words of scratch, {} of answers\n", self.words, self.scratch, self.answers)
+        let ReplayCase { words, list, moves, scratch, answers, .. } = self;
+        format!(
+            "{file}calls {words:?}, list {list:?}, moves {moves:?}; {scratch} words of scratch, {answers} of answers\n"
+        )
     }
 }
 
-fn words_of(random: &mut Random, call: Call) -> [u32; 3] {
-    // What a kind does not want is anything.
-    let mut any = || random.below(9);
-    match call {
-        Call::Node(node) => [0, node, any()],
-        Call::Pair(node, word) => [1, node, word],
-        Call::Tree(root) => [2, root, any()],
-        Call::Settle => [3, any(), any()],
+impl ReplayCase {
+    fn words(&self) -> Words<'_> {
+        Words { calls: &self.words, list: &self.list, moves: &self.moves }
+    }
+
+    /// The words of a call; the entries of many moves are put behind the list.
+    fn put(&mut self, random: &mut Random, call: Call) {
+        // What a kind does not want is anything.
+        let mut any = || random.below(9);
+        let words = match call {
+            Call::Node(node) => [0, node, any()],
+            Call::Pair(node, word) => [1, node, word],
+            Call::Tree(root) => [2, root, any()],
+            Call::Settle => [3, any(), any()],
+            Call::Many { list, mut moves } => {
+                let start = self.list.len();
+                moves.resize(list.len(), 0);
+                self.list.extend(&list);
+                self.moves.extend(moves);
+                [4, start as u32, list.len() as u32]
+            }
+        };
+        self.words.extend(words);
+    }
+
+    /// Another part of the list for one of the calls, within it or past its end.
+    fn part(&mut self, random: &mut Random, outside: bool) {
+        let length = self.list.len() as u32;
+        let start = random.below(length + 1);
+        let inside = [4, start, random.below(length - start + 1)];
+        let past = [
+            [4, start, length - start + 1],
+            [4, length + 1, 0],
+            [4, 1, u32::MAX],
+            [4, u32::MAX, start],
+            [4, u32::MAX, u32::MAX],
+            [4, random.below(1 << 20), length + 1],
+        ];
+        let part = if outside { past[random.below(6) as usize] } else { inside };
+        let call = 3 * random.below(self.words.len() as u32 / 3) as usize;
+        self.words[call..call + 3].copy_from_slice(&part);
     }
 }
 
-/// Mostly a whole file and a list that can be made; else a damaged one, words left over, a kind that is none, or too few
-/// words lent.
+/// Mostly a whole file and a list that can be made; else a damaged one, words left over, a kind that is none, a part that is outside, or
+/// too few words lent.
 pub fn random_replay(seed: u64) -> ReplayCase {
     let mut random = Random::new(seed);
     let g = random_graph(&mut random, 6, 7, 4);
@@ -60,57 +104,49 @@ pub fn random_replay(seed: u64) -> ReplayCase {
     } else {
         FileCase { bytes: file::file_of(&g), room: g.room() }
     };
-    let count = random.below(9);
-    let mut words = Vec::new();
-    for _ in 0..count {
-        let call = random_call(&mut random, &g);
-        words.extend(words_of(&mut random, call));
-    }
-    let mut answers = 3 * count as usize + random.below(4) as usize;
-    match random.below(16) {
-        0 => words.extend((0..random.between(1, 2)).map(|_| 0)),
-        1 if count > 0 => words[3 * random.below(count) as usize] = random.between(4, 6),
-        2 if count > 0 => words[3 * random.below(count) as usize] = u32::MAX,
-        3 if count > 0 => answers = random.below(3 * count) as usize,
-        4 => answers = 0,
-        _ => {}
-    }
     // Enough for trees and settling, or a word too little.
     let needed = 8 * g.nodes as usize;
     let scratch = if random.one_in(6) { needed.saturating_sub(1) } else { needed + random.below(3) as usize };
-    ReplayCase { file, words, scratch, answers }
+    let mut case = ReplayCase { file, words: vec![], list: vec![], moves: vec![], scratch, answers: 0 };
+    let count = random.below(9);
+    for _ in 0..count {
+        let call = random_call(&mut random, &g);
+        case.put(&mut random, call);
+    }
+    case.answers = 3 * count as usize + random.below(4) as usize;
+    damage(&mut random, &mut case, count);
+    case
 }
 
-fn call_of(words: &[u32]) -> Option<Call> {
-    match words[0] {
-        0 => Some(Call::Node(words[1])),
-        1 => Some(Call::Pair(words[1], words[2])),
-        2 => Some(Call::Tree(words[1])),
-        3 => Some(Call::Settle),
-        _ => None,
+fn damage(random: &mut Random, case: &mut ReplayCase, count: u32) {
+    if count > 0 && random.one_in(4) {
+        case.part(random, false);
+    }
+    match random.below(8) {
+        0 => case.moves.truncate(random.below(case.moves.len() as u32 + 1) as usize),
+        1 => case.moves.push(random.below(256) as u8),
+        _ => {}
+    }
+    for _ in 0..2 {
+        match random.below(24) {
+            0 => case.words.extend((0..random.between(1, 2)).map(|_| 0)),
+            1 if count > 0 => case.words[3 * random.below(count) as usize] = random.between(5, 7),
+            2 if count > 0 => case.words[3 * random.below(count) as usize] = u32::MAX,
+            3 if count > 0 => case.answers = random.below(3 * count) as usize,
+            4 => case.answers = 0,
+            5 if count > 0 => case.part(random, true),
+            _ => {}
+        }
     }
 }
 
 /// The calls made one by one.
 fn one_by_one(case: &ReplayCase, lent: &mut Lent) -> Result<(u32, u32, u32), Number> {
-    if case.words.len() % 3 != 0 {
-        return Err(101);
-    }
-    let list: Option<Vec<Call>> = case.words.chunks(3).map(call_of).collect();
-    let list = list.ok_or(102u32)?;
-    if lent.answers.len() < 3 * list.len() {
-        return Err(4);
-    }
-    let Tables { node_table, output_table, locks } = &mut lent.tables;
-    let numbers = file::load(&case.file.bytes, node_table, output_table, locks)?;
-    let mut g = lent.tables.clone().graph(numbers);
-    for (at, &call) in list.iter().enumerate() {
-        let answer = calls::step(&mut g, call, case.scratch);
-        lent.answers[3 * at..3 * at + 3].copy_from_slice(&told(answer));
-    }
+    let mut g = lent.tables.clone().graph((0, 0, 0));
+    let answer = replay(&case.file.bytes, case.words(), &mut g, case.scratch, &mut lent.answers);
     let Graph { node_table, output_table, locks, .. } = g;
     lent.tables = Tables { node_table, output_table, locks };
-    Ok(numbers)
+    answer
 }
 
 /// What is answered, and every slice; scratch is free after an accepted replay.
@@ -121,7 +157,7 @@ pub fn check_replay(case: &ReplayCase) -> Result<(), String> {
         answers: vec![-0xcafe_0004; case.answers],
     };
     let mut got = due.clone();
-    let answer = raw::replay(&case.file.bytes, &case.words, &mut got)?;
+    let answer = raw::replay(&case.file.bytes, case.words(), &mut got)?;
     differ("the replay", &answer, &one_by_one(case, &mut due))?;
     if answer.is_ok() {
         got.scratch.clone_from(&due.scratch);

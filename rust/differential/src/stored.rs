@@ -4,7 +4,7 @@ use crate::lists::differ;
 use crate::raw;
 use reference::calls::{step, Call};
 use reference::evaluation::evaluate;
-use reference::vectors::case::{Case, EVALUATE, NODE, PAIR, TREE};
+use reference::vectors::case::{Case, EVALUATE, MANY, NODE, PAIR, TREE};
 use reference::vectors::{cases, SEED};
 
 fn check_evaluation(case: &Case) -> Result<(), String> {
@@ -22,11 +22,12 @@ fn check_call(case: &Case) -> Result<(), String> {
         NODE => Call::Node(case.x),
         PAIR => Call::Pair(case.x, case.y),
         TREE => Call::Tree(case.x),
+        MANY => Call::Many { list: case.list.clone(), moves: case.moves.clone() },
         _ => Call::Settle,
     };
     let (mut got, mut due) = (case.g.clone(), case.g.clone());
-    let answer = raw::step(&mut got, call, case.scratch as usize)?;
-    differ(&format!("{call:?}"), &answer, &step(&mut due, call, case.scratch as usize))?;
+    let answer = raw::step(&mut got, &call, case.scratch as usize)?;
+    differ(&format!("{call:?}"), &answer, &step(&mut due, &call, case.scratch as usize))?;
     differ(&format!("the tables after {call:?}"), &got, &due)
 }
 

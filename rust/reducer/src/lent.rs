@@ -8,7 +8,7 @@ use crate::{Refusal, ReplayRefusal, Saving, Settled, Size};
 pub(crate) fn answer<T>(number: u32, value: T) -> Result<T, Refusal> {
     match number {
         0 => Ok(value),
-        refused => Err(Refusal::from_number(refused).expect("the library answers 0 to 13")),
+        refused => Err(Refusal::from_number(refused).expect("the library answers 0 to 16")),
     }
 }
 
@@ -361,14 +361,50 @@ pub fn settle(
     answer(number, Settled { rounds, before, after, own, others })
 }
 
-/// Loads a file and makes a list of calls, three words each ([`crate::Call::words`]), on the loaded graph and locks. The answers are
-/// three words a call: the refusal's number, or 0, and what the call saves, own and others.
+/// Many moves, all made or none: at each node of a list of rising indices the move at the same place. What they save; below 0 where
+/// they lose. Moves past the list's end are not read.
+pub fn many(
+    size: Size,
+    node_table: &mut [u32],
+    output_table: &mut [u32],
+    locks: &[u8],
+    list: &[u32],
+    moves: &[u8],
+) -> Result<i64, Refusal> {
+    let mut saving = 0i64;
+    let number = unsafe {
+        raw::reducer_many(
+            size.inputs,
+            size.nodes,
+            size.outputs,
+            node_table.as_mut_ptr(),
+            node_table.len(),
+            output_table.as_mut_ptr(),
+            output_table.len(),
+            locks.as_ptr(),
+            locks.len(),
+            list.as_ptr(),
+            list.len(),
+            moves.as_ptr(),
+            moves.len(),
+            &mut saving,
+        )
+    };
+    answer(number, saving)
+}
+
+/// Loads a file and makes a list of calls, three words each ([`crate::Call::words`]), on the loaded graph and locks; many calls take
+/// parts of `list` and `moves`. The answers are three words a call: the refusal's number, or 0, and what the call saves, own and
+/// others; many moves save one number, and 0 after it.
+#[allow(clippy::too_many_arguments)]
 pub fn replay(
     file: &[u8],
     calls: &[u32],
     node_table: &mut [u32],
     output_table: &mut [u32],
     locks: &mut [u8],
+    list: &[u32],
+    moves: &[u8],
     scratch: &mut [u32],
     answers: &mut [i64],
 ) -> Result<Size, ReplayRefusal> {
@@ -385,6 +421,10 @@ pub fn replay(
             output_table.len(),
             locks.as_mut_ptr(),
             locks.len(),
+            list.as_ptr(),
+            list.len(),
+            moves.as_ptr(),
+            moves.len(),
             scratch.as_mut_ptr(),
             scratch.len(),
             answers.as_mut_ptr(),
@@ -395,6 +435,7 @@ pub fn replay(
     match number {
         101 => Err(ReplayRefusal::LeftOver),
         102 => Err(ReplayRefusal::UnknownKind),
+        105 => Err(ReplayRefusal::PartOutside),
         _ => answer(number, Size { inputs: numbers[0], nodes: numbers[1], outputs: numbers[2] })
             .map_err(ReplayRefusal::Refused),
     }

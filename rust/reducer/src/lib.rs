@@ -18,6 +18,8 @@
 //!
 //! A node that is already laid out is locked ([`Graph::lock`]): no call turns it, and its file says so.
 //!
+//! [`Graph::many`] makes moves that the caller has chosen, all of them or none.
+//!
 //! The module [`lent`] has the same calls on slices that the caller lends, without a heap.
 
 use std::fmt;
@@ -44,13 +46,13 @@ pub enum Refusal {
     WrongField = 2,
     /// There are too many inputs, nodes or outputs.
     OverLimit = 3,
-    /// A lent table, slice of locks, input or result slice is too short.
+    /// A lent table, slice of locks, input or result slice is too short, or there are fewer moves than nodes.
     ShortSlice = 4,
     /// A literal names an index that is not allowed there.
     BadLiteral = 5,
     /// There are bytes after the end field.
     ExtraBytes = 6,
-    /// That is not a node, not a root (tree call, preview), or no such word of the node.
+    /// That is not a node (in a list too), not a root (tree call, preview), or no such word of the node.
     NoSuchNode = 7,
     /// The scratch is too short.
     ShortScratch = 8,
@@ -64,10 +66,16 @@ pub enum Refusal {
     WrongNumbering = 12,
     /// A lock byte is above 1, or a field 06 of a file has an index that is no node's or not above the one before.
     BadLock = 13,
+    /// An index of a list of nodes is not above the one before.
+    NotRising = 14,
+    /// A move number is one that the node's kind lacks.
+    NoSuchMove = 15,
+    /// A move other than 0 is at a locked node.
+    MoveOfLocked = 16,
 }
 
 impl Refusal {
-    /// The refusal's number, 1 to 13.
+    /// The refusal's number, 1 to 16.
     pub fn number(self) -> u32 {
         self as u32
     }
@@ -88,6 +96,9 @@ impl Refusal {
             11 => Some(Refusal::HasLatches),
             12 => Some(Refusal::WrongNumbering),
             13 => Some(Refusal::BadLock),
+            14 => Some(Refusal::NotRising),
+            15 => Some(Refusal::NoSuchMove),
+            16 => Some(Refusal::MoveOfLocked),
             _ => None,
         }
     }
@@ -99,7 +110,7 @@ impl fmt::Display for Refusal {
             Refusal::MissingBytes => "the bytes end within a field",
             Refusal::WrongField => "a field has not the tag or the length that is due",
             Refusal::OverLimit => "there are too many inputs, nodes or outputs",
-            Refusal::ShortSlice => "a table, slice of locks, input or result slice is too short",
+            Refusal::ShortSlice => "a table or a slice of locks, inputs, results or moves is too short",
             Refusal::BadLiteral => "a literal names an index that is not allowed there",
             Refusal::ExtraBytes => "there are bytes after the end field",
             Refusal::NoSuchNode => "there is no such node, root or word",
@@ -109,6 +120,9 @@ impl fmt::Display for Refusal {
             Refusal::HasLatches => "there are latches",
             Refusal::WrongNumbering => "M is not I + A, or inputs or gate numbers do not rise by 2 from literal 2",
             Refusal::BadLock => "a lock byte is above 1, or a lock of a file is at no node or not above the one before",
+            Refusal::NotRising => "an index of the list is not above the one before",
+            Refusal::NoSuchMove => "a node of this kind has no such move",
+            Refusal::MoveOfLocked => "a move other than 0 is at a locked node",
         };
         write!(f, "refused {}: {why}", self.number())
     }
@@ -164,7 +178,7 @@ pub struct Preview {
     pub moves: Vec<u8>,
 }
 
-/// A call of a list.
+/// A call of a list of calls.
 #[derive(Clone, Copy, Debug, PartialEq, Eq, Hash)]
 pub enum Call {
     /// Of this node.
@@ -174,27 +188,38 @@ pub enum Call {
     /// Of the tree of this root.
     Tree(u32),
     Settle,
+    /// Of many nodes: so many entries, from a start on, of the list and the moves that the replay is given.
+    Many {
+        start: u32,
+        count: u32,
+    },
 }
 
 impl Call {
-    /// The three words that say the call: kind, node and word.
+    /// The three words that say the call: kind, node and word; of many moves kind, start and count.
     pub fn words(self) -> [u32; 3] {
         match self {
             Call::Node(node) => [0, node, 0],
             Call::Pair(node, word) => [1, node, word],
             Call::Tree(root) => [2, root, 0],
             Call::Settle => [3, 0, 0],
+            Call::Many { start, count } => [4, start, count],
         }
     }
 }
+
+/// A graph after a list of calls, and what each of them saved or was refused by.
+pub type Replayed = (Graph, Vec<Result<Saving, Refusal>>);
 
 /// Why a replay is refused.
 #[derive(Clone, Copy, Debug, PartialEq, Eq, Hash)]
 pub enum ReplayRefusal {
     /// The words of the list are not three a call.
     LeftOver,
-    /// A call of the list has a kind above 3.
+    /// A call of the list has a kind above 4.
     UnknownKind,
+    /// A many call's part reaches past the end of the list of nodes.
+    PartOutside,
     /// The slice of answers is too short, or the file is refused.
     Refused(Refusal),
 }
@@ -301,8 +326,9 @@ impl Graph {
         Ok(Graph { size, node_table, output_table, locks })
     }
 
-    /// The graph that a tagged file holds after a list of calls, with what each call saved or was refused by.
-    pub fn replay(file: &[u8], calls: &[Call]) -> Result<(Graph, Vec<Result<Saving, Refusal>>), Refusal> {
+    /// The graph that a tagged file holds after a list of calls, with what each call saved or was refused by. Many calls take parts of
+    /// `list` and `moves`; what they save is told as their own.
+    pub fn replay(file: &[u8], calls: &[Call], list: &[u32], moves: &[u8]) -> Result<Replayed, ReplayRefusal> {
         let words: Vec<u32> = calls.iter().flat_map(|call| call.words()).collect();
         let nodes = head_number(file, 7, MOST_NODES);
         let mut node_table = vec![0; 3 * nodes];
@@ -310,12 +336,17 @@ impl Graph {
         let mut locks = vec![0; nodes];
         let mut scratch = vec![0; scratch_words(nodes as u32)];
         let mut answers = vec![0; 3 * calls.len()];
-        let replayed =
-            lent::replay(file, &words, &mut node_table, &mut output_table, &mut locks, &mut scratch, &mut answers);
-        let size = replayed.map_err(|refusal| match refusal {
-            ReplayRefusal::Refused(refusal) => refusal,
-            own => unreachable!("calls are three words, and of a known kind: {own:?}"),
-        })?;
+        let size = lent::replay(
+            file,
+            &words,
+            &mut node_table,
+            &mut output_table,
+            &mut locks,
+            list,
+            moves,
+            &mut scratch,
+            &mut answers,
+        )?;
         let told = |three: &[i64]| lent::answer(three[0] as u32, Saving { own: three[1], others: three[2] });
         let told = answers.chunks_exact(3).map(told).collect();
         Ok((Graph { size, node_table, output_table, locks }, told))
@@ -410,6 +441,12 @@ impl Graph {
             &mut scratch,
         )?;
         Ok(Preview { saving, moves })
+    }
+
+    /// Makes many moves, all of them or none: at each node of a list of rising indices the move at the same place. What they save,
+    /// below 0 where they lose. The moves of a [`Preview`] are made by the list of all nodes.
+    pub fn many(&mut self, list: &[u32], moves: &[u8]) -> Result<i64, Refusal> {
+        lent::many(self.size, &mut self.node_table, &mut self.output_table, &self.locks, list, moves)
     }
 
     /// Makes rounds of tree, node and pair calls until one saves nothing.

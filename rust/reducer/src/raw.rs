@@ -186,6 +186,23 @@ extern "C" {
         savings: *mut [i64; 2],
     ) -> u32;
 
+    pub fn reducer_many(
+        inputs: u32,
+        nodes: u32,
+        outputs: u32,
+        node_table: *mut u32,
+        node_table_length: usize,
+        output_table: *mut u32,
+        output_table_length: usize,
+        locks: *const u8,
+        locks_length: usize,
+        list: *const u32,
+        list_length: usize,
+        moves: *const u8,
+        moves_length: usize,
+        saving: *mut i64,
+    ) -> u32;
+
     pub fn reducer_replay(
         file: *const u8,
         file_length: usize,
@@ -197,6 +214,10 @@ extern "C" {
         output_table_length: usize,
         locks: *mut u8,
         locks_length: usize,
+        list: *const u32,
+        list_length: usize,
+        moves: *const u8,
+        moves_length: usize,
         scratch: *mut u32,
         scratch_length: usize,
         answers: *mut i64,

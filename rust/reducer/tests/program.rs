@@ -9,6 +9,8 @@ use std::time::{Duration, Instant};
 
 #[path = "program/locks.rs"]
 mod locks;
+#[path = "program/moves.rs"]
+mod moves;
 #[path = "program/pictures.rs"]
 mod pictures;
 #[path = "program/reports.rs"]
@@ -411,6 +413,7 @@ fn usage() {
         &["lock", "--help"],
         &["unlock", "a", "-h"],
         &["preview", "a", "7", "--help"],
+        &["apply", "--help"],
         &["picture", "--svg", "--help"],
         &["report", "--help"],
         &["help"],

@@ -134,11 +134,11 @@ fn edges_of_the_limits() {
 
 #[test]
 fn numbers_of_refusals() {
-    for number in 1..=13 {
+    for number in 1..=16 {
         assert_eq!(Refusal::from_number(number).unwrap().number(), number);
     }
     assert_eq!(Refusal::from_number(0), None);
-    assert_eq!(Refusal::from_number(14), None);
+    assert_eq!(Refusal::from_number(17), None);
 }
 
 #[test]
@@ -239,8 +239,8 @@ fn replaying_p3() {
     let calls = [Call::Node(6), Call::Node(5), Call::Pair(7, 1), Call::Tree(6), Call::Settle];
     let (nothing, refused) = (Ok(saving(0, 0)), Err(Refusal::NoSuchNode));
     let told = vec![nothing, refused, Ok(saving(1, 1)), refused, nothing];
-    assert_eq!(Graph::replay(&p3, &calls), Ok((graph(5, &[2, 4, 7, 12, 8, 11], &[14]), told)));
-    assert_eq!(Graph::replay(&p3[..9], &calls), Err(Refusal::MissingBytes));
+    assert_eq!(Graph::replay(&p3, &calls, &[], &[]), Ok((graph(5, &[2, 4, 7, 12, 8, 11], &[14]), told)));
+    assert_eq!(Graph::replay(&p3[..9], &calls, &[], &[]), Err(ReplayRefusal::Refused(Refusal::MissingBytes)));
 }
 
 /// Each call gets the locks of the file, and the graph has them after the last.
@@ -251,18 +251,21 @@ fn replaying_p2_with_locks() {
     let (nothing, two) = (Ok(saving(0, 0)), Ok(saving(2, 0)));
     let upper = locked(p2.clone(), &[7]).write().unwrap();
     let after = locked(graph(5, &[2, 4, 7, 12, 8, 11], &[14]), &[7]);
-    assert_eq!(Graph::replay(&upper, &calls), Ok((after, vec![nothing, two, nothing])));
+    assert_eq!(Graph::replay(&upper, &calls, &[], &[]), Ok((after, vec![nothing, two, nothing])));
     let lower = locked(p2, &[6]);
-    assert_eq!(Graph::replay(&lower.write().unwrap(), &calls), Ok((lower, vec![nothing; 3])));
+    assert_eq!(Graph::replay(&lower.write().unwrap(), &calls, &[], &[]), Ok((lower, vec![nothing; 3])));
 }
 
 #[test]
 fn replaying_savings_below_0() {
     let lost = graph(3, &[2, 4, 7], &[9, 9, 9]).write().unwrap();
     let told = vec![Ok(saving(-1, 3)), Ok(saving(0, 0))];
-    assert_eq!(Graph::replay(&lost, &[Call::Node(4), Call::Settle]), Ok((graph(3, &[3, 5, 6], &[8, 8, 8]), told)));
+    assert_eq!(
+        Graph::replay(&lost, &[Call::Node(4), Call::Settle], &[], &[]),
+        Ok((graph(3, &[3, 5, 6], &[8, 8, 8]), told))
+    );
     let settled = vec![Ok(saving(-1, 3)), Ok(saving(0, 0))];
-    assert_eq!(Graph::replay(&lost, &[Call::Settle, Call::Tree(4)]).unwrap().1, settled);
+    assert_eq!(Graph::replay(&lost, &[Call::Settle, Call::Tree(4)], &[], &[]).unwrap().1, settled);
 }
 
 #[test]
@@ -271,15 +274,24 @@ fn replays_refused() {
     let refused = |words: &[u32], room: usize, due: ReplayRefusal| {
         let (mut node_table, mut output_table, mut locks) = ([77; 3], [77; 1], [77; 1]);
         let (mut scratch, mut answers) = ([77; 8], vec![77; room]);
-        let got = lent::replay(&p1, words, &mut node_table, &mut output_table, &mut locks, &mut scratch, &mut answers);
+        let (list, moves) = ([4, 4], [1, 1]);
+        let tables = (&mut node_table, &mut output_table, &mut locks);
+        let got = lent::replay(&p1, words, tables.0, tables.1, tables.2, &list, &moves, &mut scratch, &mut answers);
         assert_eq!(got, Err(due));
         assert_eq!((node_table, output_table, locks), ([77; 3], [77; 1], [77; 1]));
         assert_eq!((scratch, answers), ([77; 8], vec![77; room]));
     };
     refused(&[0, 4], 9, ReplayRefusal::LeftOver);
-    refused(&[4, 4, 0, 9], 0, ReplayRefusal::LeftOver);
-    refused(&[0, 4, 0, 4, 0, 0], 0, ReplayRefusal::UnknownKind);
+    refused(&[5, 4, 0, 9], 0, ReplayRefusal::LeftOver);
+    refused(&[0, 4, 0, 5, 0, 0], 0, ReplayRefusal::UnknownKind);
+    refused(&[4, 0, 2, 4, 0, 3], 0, ReplayRefusal::PartOutside);
+    refused(&[4, 3, 0, 5, 0, 0], 0, ReplayRefusal::PartOutside);
+    refused(&[5, 0, 0, 4, 3, 0], 0, ReplayRefusal::UnknownKind);
+    refused(&[4, 2, 1], 3, ReplayRefusal::PartOutside);
+    refused(&[4, 1, u32::MAX], 3, ReplayRefusal::PartOutside);
+    refused(&[4, u32::MAX, 1], 3, ReplayRefusal::PartOutside);
     refused(&[0, 4, 0, 3, 0, 0], 5, ReplayRefusal::Refused(Refusal::ShortSlice));
+    refused(&[4, 2, 0, 3, 0, 0], 5, ReplayRefusal::Refused(Refusal::ShortSlice));
 }
 
 const MAJORITY: &[u8] = b"aag 7 3 0 1 4\n2\n4\n6\n15\n8 5 7\n10 2 9\n12 4 6\n14 11 13\n";

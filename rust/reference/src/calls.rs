@@ -1,22 +1,26 @@
 //! Lists of calls, made one after the other on one graph.
 
 use crate::graph::{Graph, Number};
+use crate::many::many;
 use crate::moves::{node_call, pair_call, tree_call_by, Saving};
 use crate::settling::{settle, Settled, MOST_TRIED};
 use crate::trees::best_within;
 
-#[derive(Clone, Copy, Debug, PartialEq, Eq)]
+#[derive(Clone, Debug, PartialEq, Eq)]
 pub enum Call {
     Node(u32),
     Pair(u32, u32),
     Tree(u32),
     Settle,
+    Many { list: Vec<u32>, moves: Vec<u8> },
 }
 
 #[derive(Clone, Copy, Debug, PartialEq, Eq)]
 pub enum Answer {
     Saving(Saving),
     Settled(Settled),
+    /// Of many moves: one number.
+    Total(i64),
     Refused(Number),
 }
 
@@ -27,9 +31,9 @@ fn saving(result: Result<Saving, Number>) -> Answer {
     }
 }
 
-pub fn step(g: &mut Graph, call: Call, scratch: usize) -> Answer {
+pub fn step(g: &mut Graph, call: &Call, scratch: usize) -> Answer {
     let find = |g: &Graph, nodes: &[u32]| best_within(MOST_TRIED, g, nodes);
-    match call {
+    match *call {
         Call::Node(node) => saving(node_call(g, node)),
         Call::Pair(node, word) => saving(pair_call(g, node, word)),
         Call::Tree(root) => saving(tree_call_by(g, root, scratch, &find)),
@@ -37,10 +41,14 @@ pub fn step(g: &mut Graph, call: Call, scratch: usize) -> Answer {
             Ok(settled) => Answer::Settled(settled),
             Err(number) => Answer::Refused(number),
         },
+        Call::Many {
+            ref list,
+            ref moves,
+        } => many(g, list, moves).map_or_else(Answer::Refused, Answer::Total),
     }
 }
 
 /// The answers, a refused call leaving the graph to the next one as it was.
 pub fn run(g: &mut Graph, calls: &[Call], scratch: usize) -> Vec<Answer> {
-    calls.iter().map(|&call| step(g, call, scratch)).collect()
+    calls.iter().map(|call| step(g, call, scratch)).collect()
 }

@@ -224,6 +224,15 @@ impl Fast {
         (saved, moves)
     }
 
+    /// The moves of a list that is accepted; C before less C after.
+    pub fn many(&mut self, list: &[u32], moves: &[u8]) -> i64 {
+        let before = self.g.c();
+        for (&node, &number) in list.iter().zip(moves) {
+            self.make(node, number.into());
+        }
+        i64::from(before) - i64::from(self.g.c())
+    }
+
     fn round(&mut self) -> Saving {
         let mut saved = Saving::default();
         for node in self.g.node_indices() {

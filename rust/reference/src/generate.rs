@@ -1,6 +1,7 @@
 //! Graphs to try, of several shapes.
 
 use crate::graph::{Graph, MARK};
+use crate::moves::moves_at;
 use crate::random::Random;
 
 #[derive(Clone, Copy, Debug, PartialEq, Eq)]
@@ -171,6 +172,19 @@ pub fn with_locks(random: &mut Random, g: Graph) -> Graph {
         3 | 4 => locked_one_in(random, g, 2),
         _ => locked_one_in(random, g, 5),
     }
+}
+
+/// A list of moves that is accepted: one in so many nodes by rising index, with a move that each has.
+pub fn moves_of(random: &mut Random, g: &Graph, many: u32) -> (Vec<u32>, Vec<u8>) {
+    let mut both = (Vec::new(), Vec::new());
+    for node in g.node_indices() {
+        if random.one_in(many) {
+            both.0.push(node);
+            both.1
+                .push(random.below(moves_at(g, node).len() as u32) as u8);
+        }
+    }
+    both
 }
 
 /// Words behind the graph in both tables, the mark among them, and bytes behind its locks, of which many are no lock.

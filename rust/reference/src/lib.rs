@@ -11,9 +11,11 @@ pub mod fast;
 pub mod file;
 pub mod generate;
 pub mod graph;
+pub mod many;
 pub mod moves;
 pub mod preview;
 pub mod random;
+pub mod replay;
 pub mod report;
 pub mod settling;
 pub mod trees;
@@ -25,6 +27,8 @@ mod aiger_tests;
 mod lock_file_tests;
 #[cfg(test)]
 mod lock_tests;
+#[cfg(test)]
+mod many_tests;
 #[cfg(test)]
 mod preview_tests;
 #[cfg(test)]

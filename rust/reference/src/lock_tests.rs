@@ -24,7 +24,7 @@ fn p3() -> Graph {
 /// The call leads from one graph to the other and saves so much; the locks stay.
 fn goes(g: &Graph, call: Call, node_table: &[u32], output_table: &[u32], own: i64, others: i64) {
     let mut got = g.clone();
-    let answer = step(&mut got, call, 8 * g.nodes as usize);
+    let answer = step(&mut got, &call, 8 * g.nodes as usize);
     assert_eq!(
         answer,
         Answer::Saving(Saving { own, others }),
@@ -60,7 +60,7 @@ fn p2_with_locks() {
         Call::Node(6),
         Call::Node(7),
     ] {
-        stays(&p2().locked_at(&[6]), call);
+        stays(&p2().locked_at(&[6]), call.clone());
         stays(&p2().locked_at(&[6, 7]), call);
     }
     // Node 7's first word turns by node 6's move, locked or not.
@@ -199,7 +199,7 @@ fn refusals_in_order() {
     let bad = with(p2(), &[2, 0]);
     for call in [Call::Node(9), Call::Pair(6, 4), Call::Tree(6), Call::Settle] {
         let mut got = bad.clone();
-        assert_eq!(step(&mut got, call, 15), Answer::Refused(13));
+        assert_eq!(step(&mut got, &call, 15), Answer::Refused(13));
         assert_eq!(got, bad);
     }
     assert_eq!(trial(&bad, 9, 4, 0, 0), Err(13));
@@ -218,7 +218,7 @@ fn refusals_in_order() {
         (Call::Tree(7), 8),
     ] {
         assert_eq!(
-            step(&mut locked.clone(), call, 15),
+            step(&mut locked.clone(), &call, 15),
             Answer::Refused(due),
             "{call:?}"
         );
@@ -344,9 +344,9 @@ fn all_nodes_locked() {
                 Call::Settle,
             ] {
                 let mut got = g.clone();
-                let answer = step(&mut got, call, 64);
+                let answer = step(&mut got, &call, 64);
                 assert_eq!(got, g);
-                match (answer, step(&mut free.clone(), call, 64)) {
+                match (answer, step(&mut free.clone(), &call, 64)) {
                     (Answer::Refused(number), due) => assert_eq!(due, Answer::Refused(number)),
                     (Answer::Saving(saving), Answer::Saving(_)) => {
                         assert_eq!(saving, Saving::default())
@@ -375,7 +375,7 @@ fn tails_of_locks() {
         let calls: Vec<Call> = g.node_indices().map(Call::Tree).collect();
         let (mut plain, mut long) = (g.clone(), tailed.clone());
         for call in calls.into_iter().chain([Call::Settle]) {
-            assert_eq!(step(&mut plain, call, 64), step(&mut long, call, 64));
+            assert_eq!(step(&mut plain, &call, 64), step(&mut long, &call, 64));
         }
         assert_eq!(plain.node_table, long.node_table);
         assert_eq!(plain.output_table, long.output_table);

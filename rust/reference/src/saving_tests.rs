@@ -10,7 +10,7 @@ use crate::vectors::samples::of;
 fn saves(g: &Graph, call: Call, own: i64, others: i64) {
     let scratch = 8 * g.nodes as usize;
     let due = Saving { own, others };
-    assert_eq!(step(&mut g.clone(), call, scratch), Answer::Saving(due));
+    assert_eq!(step(&mut g.clone(), &call, scratch), Answer::Saving(due));
     if let Call::Tree(root) = call {
         let mut moves = vec![9; g.nodes as usize];
         assert_eq!(preview(g, root, scratch, &mut moves), Ok(due));

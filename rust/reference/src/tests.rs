@@ -2,7 +2,7 @@ use crate::calls::{run, step, Answer, Call};
 use crate::evaluation::{evaluate, output_values, value_of_literal, values};
 use crate::fast::Fast;
 use crate::file::{field, field_number, file_of, load, write};
-use crate::generate::{graph, small, with_locks, with_tails, Shape, SHAPES};
+use crate::generate::{graph, moves_of, small, with_locks, with_tails, Shape, SHAPES};
 use crate::graph::{admit, complemented_edges, Graph, MARK};
 use crate::moves::{
     all_lists, best, how_many, is_root, node_call, pair_call, tree, tree_call, tree_call_by,
@@ -15,7 +15,7 @@ use crate::vectors::samples::of;
 fn goes(mut before: Graph, call: Call, after: Graph, from: u32, to: u32) {
     assert_eq!(before.c(), from);
     let scratch = 8 * before.nodes as usize;
-    match step(&mut before, call, scratch) {
+    match step(&mut before, &call, scratch) {
         Answer::Saving(saved) => assert_eq!(saved.total(), i64::from(from) - i64::from(to)),
         other => panic!("{other:?}"),
     }
@@ -170,7 +170,7 @@ fn refusals() {
     let g = of(3, &[[3, 5, 7], [8, 8, MARK]], &[10]);
     let refused = |call, scratch, number| {
         let mut after = g.clone();
-        assert_eq!(step(&mut after, call, scratch), Answer::Refused(number));
+        assert_eq!(step(&mut after, &call, scratch), Answer::Refused(number));
         assert_eq!(after, g);
     };
     for not in [0, 3, 6, MARK] {
@@ -189,10 +189,13 @@ fn refusals() {
     assert_eq!(write(&g, &mut buffer), Err(9));
     let one = of(3, &[[3, 5, 7], [8, 6, MARK]], &[10]);
     assert_eq!(
-        step(&mut one.clone(), Call::Tree(4), 16),
+        step(&mut one.clone(), &Call::Tree(4), 16),
         Answer::Refused(7)
     );
-    assert_eq!(step(&mut one.clone(), Call::Tree(4), 0), Answer::Refused(7));
+    assert_eq!(
+        step(&mut one.clone(), &Call::Tree(4), 0),
+        Answer::Refused(7)
+    );
     assert_eq!(tree(&one, 5), [5, 4]);
 }
 
@@ -360,7 +363,7 @@ fn large_trees() {
     assert!(largest > 200, "{largest}");
 }
 
-/// Calls keep values, wiring, tails and locks, report what they save, and never raise C.
+/// Calls keep values, wiring, tails and locks and report what they save; only many moves may raise C.
 #[test]
 fn what_calls_promise() {
     let mut random = Random::new(5);
@@ -371,16 +374,20 @@ fn what_calls_promise() {
         let calls: Vec<Call> = (0..8)
             .map(|_| {
                 let node = random.below(g.inputs + g.nodes + 2);
-                match random.below(8) {
+                match random.below(10) {
                     0..=2 => Call::Node(node),
                     3..=4 => Call::Pair(node, random.below(5)),
                     5..=6 => Call::Tree(node),
-                    _ => Call::Settle,
+                    7 => Call::Settle,
+                    _ => {
+                        let (list, moves) = moves_of(&mut random, &g, 2);
+                        Call::Many { list, moves }
+                    }
                 }
             })
             .collect();
         let mut now = g.clone();
-        for call in calls.iter().copied() {
+        for call in &calls {
             let before = now.clone();
             let answer = step(&mut now, call, 64);
             match answer {
@@ -392,6 +399,9 @@ fn what_calls_promise() {
                     let fall = settled.before - settled.after;
                     assert_eq!(i64::from(fall), settled.own + settled.others);
                     assert!(settled.rounds <= fall + 1);
+                }
+                Answer::Total(saved) => {
+                    assert_eq!(i64::from(before.c()), i64::from(now.c()) + saved);
                 }
                 Answer::Refused(_) => assert_eq!(before, now),
             }

@@ -8,7 +8,7 @@
 use std::time::{Duration, Instant};
 
 use reducer::{scratch_words, text_bytes, Saving, Settled, Size};
-use reference::generate::{graph, locked_one_in, Shape};
+use reference::generate::{graph, locked_one_in, moves_of, Shape};
 use reference::graph::Graph;
 use reference::random::Random;
 
@@ -46,7 +46,7 @@ fn on_processor() -> f64 {
     time[0] as f64 * 1e9 + time[1] as f64
 }
 
-/// A graph, its file, an AIGER text of as many gates as it has nodes, and the nodes and roots that calls are made at.
+/// A graph, its file, an AIGER text of as many gates as it has nodes, the nodes and roots that calls are made at, and lists of moves.
 #[derive(Clone)]
 struct Sample {
     g: Graph,
@@ -54,7 +54,13 @@ struct Sample {
     text: String,
     nodes: Vec<u32>,
     roots: Vec<u32>,
+    /// All nodes with a move that each has, and one in ten of them.
+    all: Moves,
+    tenth: Moves,
 }
+
+/// A list of nodes, and their moves.
+type Moves = (Vec<u32>, Vec<u8>);
 
 /// Nodes spread over the graph, or roots among them.
 fn spread(g: &Graph, roots: bool) -> Vec<u32> {
@@ -86,7 +92,8 @@ impl Sample {
             g = locked_one_in(&mut random, g, LOCKED_ONE_IN);
         }
         let (file, text) = (reference::file::file_of(&g), text_of_gates(&g));
-        Sample { file, text, nodes: spread(&g, false), roots: spread(&g, true), g }
+        let [all, tenth] = [1, 10].map(|share| moves_of(&mut random, &g, share));
+        Sample { file, text, nodes: spread(&g, false), roots: spread(&g, true), all, tenth, g }
     }
 
     fn size(&self) -> Size {
@@ -110,9 +117,13 @@ struct Lent {
     sums: [i64; 2],
 }
 
-/// A saving as one number: either part is less than 2 to the 20th from 0.
+/// A part of a saving, or that of many moves: it is less than 2 to the 20th from 0.
+fn part(number: i64) -> u64 {
+    (number + (1 << 20)) as u64
+}
+
+/// A saving as one number.
 fn as_one(saving: Saving) -> u64 {
-    let part = |number: i64| (number + (1 << 20)) as u64;
     part(saving.own) << 21 | part(saving.others)
 }
 
@@ -139,7 +150,7 @@ impl Lent {
 
 /// The calls as the proved library makes them. Each returns what it answers, for comparison.
 mod proved {
-    use super::{as_one, Lent, Sample};
+    use super::{as_one, part, Lent, Sample};
     use reducer::lent;
 
     pub fn load(s: &mut Sample, _: &mut Lent) -> u64 {
@@ -196,6 +207,16 @@ mod proved {
         s.roots.iter().map(call).sum()
     }
 
+    pub fn many(s: &mut Sample, _: &mut Lent) -> u64 {
+        let (size, g, (list, moves)) = (s.size(), &mut s.g, &s.all);
+        part(lent::many(size, &mut g.node_table, &mut g.output_table, &g.locks, list, moves).unwrap())
+    }
+
+    pub fn many_of_a_tenth(s: &mut Sample, _: &mut Lent) -> u64 {
+        let (size, g, (list, moves)) = (s.size(), &mut s.g, &s.tenth);
+        part(lent::many(size, &mut g.node_table, &mut g.output_table, &g.locks, list, moves).unwrap())
+    }
+
     pub fn settle(s: &mut Sample, l: &mut Lent) -> u64 {
         let (size, g) = (s.size(), &mut s.g);
         let settled = lent::settle(size, &mut g.node_table, &mut g.output_table, &g.locks, &mut l.scratch);
@@ -205,9 +226,9 @@ mod proved {
 
 /// The same calls in plain Rust.
 mod plain {
-    use super::{as_one, Lent, Sample};
+    use super::{as_one, part, Lent, Sample};
     use differential::lists::tables;
-    use differential::plain::{aiger, calls, evaluate, file, preview, settle, sweeps};
+    use differential::plain::{aiger, calls, evaluate, file, many, preview, settle, sweeps};
 
     pub fn load(s: &mut Sample, _: &mut Lent) -> u64 {
         file::load(&s.file, &mut s.g.node_table, &mut s.g.output_table, &mut s.g.locks).unwrap().1.into()
@@ -257,6 +278,14 @@ mod plain {
         s.roots.iter().map(call).sum()
     }
 
+    pub fn many(s: &mut Sample, _: &mut Lent) -> u64 {
+        part(many::many(&mut tables(&mut s.g), &s.all.0, &s.all.1).unwrap())
+    }
+
+    pub fn many_of_a_tenth(s: &mut Sample, _: &mut Lent) -> u64 {
+        part(many::many(&mut tables(&mut s.g), &s.tenth.0, &s.tenth.1).unwrap())
+    }
+
     pub fn settle(s: &mut Sample, l: &mut Lent) -> u64 {
         let settled = settle::settle(&mut tables(&mut s.g), l.scratch.len());
         l.settled(settled.unwrap())
@@ -284,7 +313,7 @@ const fn call(name: &'static str, times: usize, proved: Made, plain: Made) -> Ca
     Call { name, times, locked: false, proved, plain }
 }
 
-const CALLS: [Call; 12] = [
+const CALLS: [Call; 15] = [
     call("load", 1, proved::load, plain::load),
     call("write", 1, proved::write, plain::write),
     // Of as many ANDs as there are nodes, and to three or four for each node.
@@ -298,6 +327,10 @@ const CALLS: [Call; 12] = [
     call("tree, by sweeps", SPREAD, proved::tree, plain::tree_by_sweeps),
     // At the roots of the tree call, so that its rows are to be read beside those of "tree".
     call(PREVIEW, SPREAD, proved::preview, plain::preview),
+    // Every node listed, one in ten, and every node where a tenth is locked and has move 0.
+    call("many", 1, proved::many, plain::many),
+    call("many, a tenth listed", 1, proved::many_of_a_tenth, plain::many_of_a_tenth),
+    Call { locked: true, ..call("many, a tenth locked", 1, proved::many, plain::many) },
     call(SETTLE, 1, proved::settle, plain::settle),
     Call { locked: true, ..call(SETTLE_LOCKED, 1, proved::settle, plain::settle) },
 ];

@@ -9,18 +9,18 @@ use differential::cases::{Case, Step};
 use differential::extremes::{self, EXTREMES, LOCKED};
 use differential::shrink::hold;
 use differential::{
-    call_faults, exports, faults, files, lengths, lists, lock_fields, preview_faults, previews, raw, replays, savings,
-    stored, text_limits, texts, trials,
+    call_faults, exports, faults, files, lengths, lists, lock_fields, many, many_faults, preview_faults, previews, raw,
+    replay_faults, replays, savings, stored, text_limits, texts, trials,
 };
 use reference::calls::Call;
-use reference::generate::{graph, locked_one_in, with_locks, Shape, SHAPES};
+use reference::generate::{graph, locked_one_in, moves_of, with_locks, Shape, SHAPES};
 use reference::graph::Graph;
 use reference::random::Random;
 
 /// What one kind of test does with a seed: how many cases it tried, or what failed.
 type Kind = (&'static str, u64, fn(u64) -> Result<u64, String>);
 
-const KINDS: [Kind; 31] = [
+const KINDS: [Kind; 37] = [
     ("stored cases of single calls and evaluation", 1, stored),
     ("the plain implementation, lists of calls", 30_000, plain_lists),
     ("lists of calls on small graphs", 80_000, small_lists),
@@ -52,6 +52,12 @@ const KINDS: [Kind; 31] = [
     ("previews of trees of hundreds of nodes", 300, previewed_deep),
     ("previews on thousands of nodes", 20, previewed_large),
     ("previews at the limits", EXTREMES.len() as u64, previewed_at_limits),
+    ("many moves, together and one by one", 60_000, moved),
+    ("previews made by many moves", 20_000, applied),
+    ("many moves with every choice of faults of known numbers", 1, faulty_moves),
+    ("many moves on thousands of nodes", 20, moved_large),
+    ("many moves at the limits", EXTREMES.len() as u64, moved_at_limits),
+    ("replays with every choice of faults of known numbers", 1, faulty_replays),
 ];
 
 fn stored(_: u64) -> Result<u64, String> {
@@ -131,6 +137,8 @@ fn large(seed: u64) -> Result<u64, String> {
     let mut calls = vec![Call::Node(node(&mut random)), Call::Pair(node(&mut random), 1)];
     calls.extend((0..6).map(|_| Call::Tree(node(&mut random))));
     calls.extend([Call::Tree(4_096 + nodes), Call::Settle, Call::Pair(node(&mut random), 2)]);
+    let (list, moves) = moves_of(&mut random, &graph, 3);
+    calls.extend([Call::Many { list, moves }, Call::Settle]);
     let steps = calls.into_iter().map(|call| Step { call, spare: 0 }).collect();
     let case = Case { graph, steps, seed };
     let count = case.steps.len() as u64 + 3;
@@ -259,6 +267,39 @@ fn previewed_at_limits(seed: u64) -> Result<u64, String> {
     checked.map(|counts| counts.iter().sum()).map_err(|wrong| format!("seed {seed}: {}: {wrong}", extreme.name))
 }
 
+fn moved(seed: u64) -> Result<u64, String> {
+    let case = many::random_case(seed);
+    let lists = case.steps.len() as u64;
+    hold(seed, case, &many::check_many)?;
+    Ok(lists)
+}
+
+fn applied(seed: u64) -> Result<u64, String> {
+    let case = Case { steps: vec![], ..lists::random_case(seed, 9, 1) };
+    let count = many::check_previews(&case);
+    hold(seed, case, &many::check_previewed)?;
+    count
+}
+
+fn faulty_moves(_: u64) -> Result<u64, String> {
+    many_faults::check_faults()
+}
+
+fn moved_large(seed: u64) -> Result<u64, String> {
+    many::check_large(&large_graph(&mut Random::new(seed), seed), seed).map_err(|wrong| format!("seed {seed}: {wrong}"))
+}
+
+fn moved_at_limits(seed: u64) -> Result<u64, String> {
+    let Some(extreme) = EXTREMES.get(seed as usize) else { return Ok(0) };
+    let check = |locked| many::check_large(&extreme.graph(seed, locked), seed);
+    let checked: Result<Vec<u64>, String> = LOCKED.into_iter().map(check).collect();
+    checked.map(|counts| counts.iter().sum()).map_err(|wrong| format!("seed {seed}: {}: {wrong}", extreme.name))
+}
+
+fn faulty_replays(_: u64) -> Result<u64, String> {
+    replay_faults::check_faults()
+}
+
 fn run(kind: &Kind, only: Option<u64>) -> Result<u64, String> {
     let (name, seeds, test) = *kind;
     let start = Instant::now();
@@ -296,7 +337,7 @@ fn main() -> ExitCode {
     }
     if only.is_none() {
         let met = all_met().and_then(|()| trials::all_met()).and_then(|()| savings::all_met());
-        if let Err(wrong) = met.and_then(|()| previews::all_met()) {
+        if let Err(wrong) = met.and_then(|()| previews::all_met()).and_then(|()| many::all_met()) {
             println!("{wrong}");
             failed += 1;
         }

@@ -5,6 +5,7 @@ pub mod calls;
 pub mod decide;
 pub mod evaluate;
 pub mod file;
+pub mod many;
 pub mod preview;
 pub mod settle;
 pub mod sweeps;

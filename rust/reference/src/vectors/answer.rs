@@ -1,8 +1,8 @@
 //! The line of a case, from this package's own answers.
 
-use crate::calls::{step, Answer, Call};
 use crate::file::{field, field_number, load, write};
 use crate::graph::{admit, complemented_edges, Graph, Number};
+use crate::replay::{replay, Words};
 use crate::vectors::case::*;
 
 /// What a slice holds before a call that is to change it.
@@ -44,47 +44,20 @@ impl Line {
     }
 }
 
-/// The call that three words say.
-fn decoded(words: &[u32]) -> Option<Call> {
-    match words {
-        [0, node, _] => Some(Call::Node(*node)),
-        [1, node, word] => Some(Call::Pair(*node, *word)),
-        [2, root, _] => Some(Call::Tree(*root)),
-        [3, _, _] => Some(Call::Settle),
-        _ => None,
-    }
-}
-
 fn loaded(file: &[u8], g: &mut Graph) -> Result<(u32, u32, u32), Number> {
     load(file, &mut g.node_table, &mut g.output_table, &mut g.locks)
 }
 
-/// The number of an answer, 0 where accepted, and both parts of the saving.
-pub fn told(answer: Answer) -> [i64; 3] {
-    match answer {
-        Answer::Saving(saved) => [0, saved.own, saved.others],
-        Answer::Settled(settled) => [0, settled.own, settled.others],
-        Answer::Refused(number) => [number.into(), 0, 0],
-    }
-}
-
-/// A replay into the tables and locks of `g`: None where it is not made.
-fn replayed(case: &Case, g: &mut Graph, answers: &mut [i64]) -> Option<[u32; 3]> {
-    let calls: Option<Vec<Call>> = case.calls.chunks(3).map(decoded).collect();
-    let calls = calls.filter(|calls| 3 * calls.len() <= answers.len())?;
-    let head = loaded(&case.bytes, g).ok()?;
-    (g.inputs, g.nodes, g.outputs) = head;
-    for (call, three) in calls.iter().zip(answers.chunks_mut(3)) {
-        three.copy_from_slice(&told(step(g, *call, case.scratch as usize)));
-    }
-    Some(head.into())
-}
-
 fn listed(line: &mut Line, case: &Case, g: &mut Graph) {
     let mut answers = vec![i64::from(SCRATCH); case.result as usize];
-    let done = replayed(case, g, &mut answers);
-    line.answer(done.ok_or(1));
-    if done.is_none() {
+    let words = Words {
+        calls: &case.calls,
+        list: &case.list,
+        moves: &case.moves,
+    };
+    let done = replay(&case.bytes, words, g, case.scratch as usize, &mut answers);
+    line.answer(done.map(<[u32; 3]>::from).map_err(|_| 1));
+    if done.is_err() {
         line.words(&vec![SCRATCH; case.scratch as usize]);
     }
     line.put(answers.len() as u64);

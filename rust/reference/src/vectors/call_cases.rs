@@ -304,7 +304,7 @@ pub fn list_cases(random: &mut Random) -> Vec<Case> {
         match way {
             0 => case.calls.push(0),
             1 => drop(case.calls.pop()),
-            2 => case.calls[57] = 4,
+            2 => case.calls[57] = 5,
             3 => case.calls[0] = MARK,
             4 => case.result = 59,
             5 => case.result = 0,

@@ -17,6 +17,7 @@ pub const NODE: u32 = 8;
 pub const PAIR: u32 = 9;
 pub const TREE: u32 = 10;
 pub const SETTLE: u32 = 11;
+pub const MANY: u32 = 12;
 
 #[derive(Clone)]
 pub struct Case {
@@ -28,6 +29,9 @@ pub struct Case {
     pub bytes: Vec<u8>,
     /// The words of a list of calls, and the inputs of an evaluation.
     pub calls: Vec<u32>,
+    /// The nodes of many moves, and the moves.
+    pub list: Vec<u32>,
+    pub moves: Vec<u8>,
     pub longs: Vec<u64>,
     pub result: u32,
 }
@@ -42,6 +46,8 @@ impl Case {
             scratch: 0,
             bytes: Vec::new(),
             calls: Vec::new(),
+            list: Vec::new(),
+            moves: Vec::new(),
             longs: Vec::new(),
             result: 0,
         }
@@ -54,6 +60,7 @@ impl Case {
             PAIR => Some([1, self.x, self.y]),
             TREE => Some([2, self.x, 0]),
             SETTLE => Some([3, 0, 0]),
+            MANY => Some([4, 0, self.list.len() as u32]),
             _ => None,
         }
     }
@@ -63,7 +70,11 @@ impl Case {
         let calls = self.call()?.to_vec();
         admit(&self.g).ok()?;
         let small = self.g.outputs < 1_000;
-        small.then(|| list_of(&self.g, calls, self.scratch, 3))
+        small.then(|| Case {
+            list: self.list.clone(),
+            moves: self.moves.clone(),
+            ..list_of(&self.g, calls, self.scratch, 3)
+        })
     }
 
     /// The case as bytes, within the space that the program has.
@@ -96,10 +107,15 @@ impl Case {
                 put_words(&mut all, &[self.g.inputs, self.g.nodes, self.g.outputs])
             }
             CALLS => {
-                let calls = self.calls.len() as u32;
-                assert!(calls <= 128 && self.scratch <= 4_096 && self.result <= 128);
+                let lent = [self.calls.len(), self.list.len(), self.moves.len()];
+                assert!(lent.iter().all(|&length| length <= 128));
+                assert!(self.scratch <= 4_096 && self.result <= 128);
                 put_table(&mut all, &self.calls);
-                put_words(&mut all, &[calls, self.scratch, self.result]);
+                put_table(&mut all, &self.list);
+                put_words(&mut all, &[lent[2] as u32]);
+                all.extend(&self.moves);
+                put_words(&mut all, &lent.map(|length| length as u32));
+                put_words(&mut all, &[self.scratch, self.result]);
             }
             _ => {}
         }

@@ -7,18 +7,20 @@
 //! after the values. A list of calls shows how many words of answers it has there. A list that is not replayed has the number 1, and shows
 //! scratch before that.
 //!
-//! The program makes a node, pair, tree or settling call as a list of one; on graphs that no file has, with scratch looked at after a
+//! The program makes a node, pair, tree, settling or many call as a list of one; on graphs that no file has, with scratch looked at after a
 //! refusal, and evaluation, the same cases are run through the C interface, by rust/differential.
 
 use crate::random::Random;
 use call_cases::*;
 use case::Case;
 use file_cases::*;
+use many_cases::*;
 
 pub mod answer;
 pub mod call_cases;
 pub mod case;
 pub mod file_cases;
+pub mod many_cases;
 pub mod samples;
 
 /// The cases of the program, and those of single calls and evaluation.
@@ -35,6 +37,10 @@ pub fn cases(seed: u64) -> (Vec<Case>, Vec<Case>) {
     direct.extend(settle_cases(&mut random));
     stored.extend(direct.iter().filter_map(Case::as_list));
     stored.extend(list_cases(&mut random));
+    let many = many_cases(&mut random);
+    stored.extend(many.iter().filter_map(Case::as_list));
+    stored.extend(many_list_cases(&mut random));
+    direct.extend(many);
     (stored, direct)
 }
 

@@ -30,19 +30,36 @@ fn most_bytes() -> u64 {
     u64::from(text).max(file as u64) + 64
 }
 
-fn read_from(from: impl Read) -> io::Result<Vec<u8>> {
+fn read_from(from: impl Read, most: u64) -> io::Result<Vec<u8>> {
     let mut bytes = Vec::new();
-    from.take(most_bytes()).read_to_end(&mut bytes)?;
+    from.take(most).read_to_end(&mut bytes)?;
     Ok(bytes)
 }
 
-/// The file of this name, or standard input.
+/// The graph's file of this name, or standard input.
 pub fn read(path: Option<&Path>) -> Result<Input, String> {
+    read_front(path, most_bytes())
+}
+
+/// The most bytes of a list of moves. One with a move for as many nodes as there may be has less than a tenth; the rest is for comments.
+const MOST_OF_MOVES: u64 = 1 << 24;
+
+/// The list of moves of this name, or of standard input: all of it, since a part would be another list.
+pub fn read_moves(path: Option<&Path>) -> Result<Input, String> {
+    let input = read_front(path, MOST_OF_MOVES + 1)?;
+    match input.bytes.len() as u64 > MOST_OF_MOVES {
+        true => Err(format!("{} has more than {MOST_OF_MOVES} bytes, which no list of moves needs", input.name)),
+        false => Ok(input),
+    }
+}
+
+/// At most so many bytes of the file of this name, or of standard input.
+fn read_front(path: Option<&Path>, most: u64) -> Result<Input, String> {
     let name = path.map_or("standard input".into(), |path| path.display().to_string());
     let _reading = Progress::of(format!("reading {name}"));
     let bytes = match path {
-        Some(path) => File::open(path).and_then(read_from),
-        None => read_from(io::stdin().lock()),
+        Some(path) => File::open(path).and_then(|file| read_from(file, most)),
+        None => read_from(io::stdin().lock(), most),
     };
     match bytes {
         Ok(bytes) => Ok(Input { name, bytes }),

@@ -14,6 +14,7 @@ Reduces inversions in majority and XOR graphs. The commands:
     unlock   frees locked nodes
     show     tells sizes, kinds, complemented edges, depth and locked nodes
     preview  tells what the best moves of a tree would save, and makes none
+    apply    makes the moves that a list has, all of them or none
     picture  draws the graph, as DOT text for Graphviz, as SVG or as PNG
     report   settles the graph and gives a page with figures, pictures and the nodes that turned
 
@@ -122,13 +123,41 @@ ROOT that is none is refused.
 
 A locked node has move 0, and its line says that it is locked; the line of the tree then ends in their number.
 
-With --moves each line is a node's index and its move, for all nodes of the tree, and the first line above goes to
-standard error, with one that tells the locked nodes of the tree where there are any.
+With --moves each line is a node's index and its move, for all nodes of the tree, as `panjerov apply` takes them, and
+the first line above goes to standard error, with one that tells the locked nodes of the tree where there are any.
 
 Without ROOT all roots are told, with the sizes of their trees:
 
     roots 1
     root 7 nodes 2 majorities 2 xors 0
+";
+
+const APPLY: &str = "\
+usage: panjerov apply FILE MOVES [-o FILE] [--to tagged|aiger]
+
+Makes the moves that MOVES lists, all of them or none. MOVES is a file, or - for standard input, with a line for each
+node: its index and its move. Indices rise from line to line; blank lines and lines that begin with # are passed over.
+
+    majority   move 1 turns words 1, 2 and 3 and every reader
+    XOR        move 1 turns words 1 and 2, move 2 word 1 and every reader, move 3 word 2 and every reader
+
+Move 0 turns nothing, and an edge that two moves turn ends as it was: the order of the moves does not matter. Wiring and
+function stay the same. Such a list is what `panjerov preview FILE ROOT --moves` gives, for the best moves of a tree:
+
+    panjerov preview graph 7 --moves -o moves
+    panjerov apply graph moves -o turned
+
+A line with the figures goes to standard error. The saving is before less after, and below 0 where there are more
+complemented edges than there were; moved is how many of the nodes that are listed have a move other than 0:
+
+    inputs 5 nodes 2 outputs 1 before 4 after 2 saving 2 listed 2 moved 1
+
+A line that is not understood, an index that is no node's (refused 7) or not above the one before (14), a move that the
+node's kind lacks (15) and a move other than 0 at a locked node (16) are told with the line's number, and then nothing
+is written. The line of figures ends in the number of locked nodes where there are any (locked 2).
+
+The graph is given in the format that FILE has, or in the one that --to names. AIGER has ANDs alone: as text, each
+majority is four ANDs and each XOR three, so that nodes have other indices. Keep the tagged file for further moves.
 ";
 
 const PICTURE: &str = "\
@@ -197,6 +226,7 @@ pub fn of(command: Command) -> String {
         Command::Unlock => UNLOCK,
         Command::Show => SHOW,
         Command::Preview => PREVIEW,
+        Command::Apply => APPLY,
         Command::Picture => PICTURE,
         Command::Report => REPORT,
     };

@@ -13,7 +13,8 @@ pub enum Named {
 
 const NODES: &str = "NODES are indices and runs of them, such as 7,9-12, or all";
 
-fn number(text: &str) -> Option<u32> {
+/// A number below 2 to the 32nd, in decimal digits alone.
+pub fn number(text: &str) -> Option<u32> {
     let digits = !text.is_empty() && text.bytes().all(|byte| byte.is_ascii_digit());
     digits.then(|| text.parse().ok()).flatten()
 }
@@ -40,12 +41,13 @@ pub fn missing() -> String {
     format!("NODES is missing after FILE: {NODES}")
 }
 
-fn no_node(size: Size, index: u32) -> String {
+/// Why an index is no node's.
+pub fn no_node(size: Size, index: u32) -> String {
     let why = match size.nodes {
         0 => "there are no nodes".into(),
         nodes => format!("nodes are {} to {}", size.inputs + 1, size.inputs + nodes),
     };
-    format!("{}; {index} is no node: {why}", Refusal::NoSuchNode)
+    format!("{index} is no node: {why}")
 }
 
 /// Locks or frees the nodes that are named, of a graph that the library has admitted; none where one of them is no node.
@@ -59,7 +61,7 @@ pub fn set(graph: &mut Graph, named: &[Named], lock: bool) -> Result<(), String>
     // Between two nodes there are nodes alone.
     let none = runs().flat_map(|(first, last)| [first, last]).find(|&index| graph.is_locked(index).is_err());
     if let Some(index) = none {
-        return Err(no_node(size, index));
+        return Err(format!("{}; {}", Refusal::NoSuchNode, no_node(size, index)));
     }
     for index in runs().flat_map(|(first, last)| first..=last) {
         let done = if lock { graph.lock(index) } else { graph.unlock(index) };

@@ -1,6 +1,7 @@
-//! The program `panjerov`: settles graphs, shows, draws and reports on them, previews their trees, locks their nodes, and makes
-//! tagged files of AIGER texts and back.
+//! The program `panjerov`: settles graphs, shows, draws and reports on them, previews their trees, makes listed moves, locks their
+//! nodes, and makes tagged files of AIGER texts and back.
 
+mod apply;
 mod drawing;
 mod faults;
 mod files;
@@ -65,6 +66,12 @@ fn given(asked: &Work, input: &Input) -> Result<Given, String> {
         Command::Settle => {
             let settled = graph.settle().map_err(|refusal| refusal.to_string())?;
             formed(&graph, asked.to.unwrap_or(got), vec![figures_of(&graph, settled)])
+        }
+        Command::Apply => {
+            let moves = files::read_moves(asked.moves.as_deref())?;
+            let made = apply::make(&mut graph, &moves)?;
+            let line = format!("{} {made}{}", sizes_of(&graph), locks::words(&graph));
+            formed(&graph, asked.to.unwrap_or(got), vec![line])
         }
         Command::Import => formed(&graph, Format::Tagged, vec![]),
         Command::Export => formed(&graph, Format::Aiger, vec![]),

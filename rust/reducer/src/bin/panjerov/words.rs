@@ -18,6 +18,7 @@ pub enum Command {
     Unlock,
     Show,
     Preview,
+    Apply,
     Picture,
     Report,
 }
@@ -32,6 +33,7 @@ impl Command {
             "unlock" => Some(Command::Unlock),
             "show" => Some(Command::Show),
             "preview" => Some(Command::Preview),
+            "apply" => Some(Command::Apply),
             "picture" => Some(Command::Picture),
             "report" => Some(Command::Report),
             _ => None,
@@ -47,6 +49,7 @@ impl Command {
             Command::Unlock => "unlock",
             Command::Show => "show",
             Command::Preview => "preview",
+            Command::Apply => "apply",
             Command::Picture => "picture",
             Command::Report => "report",
         }
@@ -62,6 +65,7 @@ impl Command {
             Command::Unlock => "freeing nodes of",
             Command::Show => "looking at",
             Command::Preview => "previewing",
+            Command::Apply => "making moves on",
             Command::Picture => "drawing",
             Command::Report => "reporting on",
         }
@@ -78,7 +82,7 @@ pub struct Work {
     pub command: Command,
     pub input: Option<PathBuf>,
     pub output: Option<PathBuf>,
-    /// What settling gives; none is what it got.
+    /// The format that is given; none is that of the input.
     pub to: Option<Format>,
     /// Which nodes are locked or freed.
     pub nodes: Vec<Named>,
@@ -86,6 +90,8 @@ pub struct Work {
     pub root: Option<u32>,
     /// Whether a preview gives its moves alone.
     pub only_moves: bool,
+    /// Where the moves to make are listed; none is standard input.
+    pub moves: Option<PathBuf>,
     /// What is drawn.
     pub wanted: Wanted,
     /// What Graphviz makes of a picture; none is DOT text.
@@ -106,6 +112,7 @@ impl Work {
             nodes: Vec::new(),
             root: None,
             only_moves: false,
+            moves: None,
             wanted: Wanted::Whole,
             form: None,
             compare: false,
@@ -207,6 +214,22 @@ fn put_nodes(work: &mut Work, words: impl Iterator<Item = OsString>) -> Result<(
     Ok(())
 }
 
+/// Puts MOVES, the one word after FILE.
+fn put_moves(work: &mut Work, mut words: impl Iterator<Item = OsString>) -> Result<(), String> {
+    let word =
+        words.next().ok_or("MOVES is missing after FILE: a file with a line for each node, its index and its move")?;
+    work.moves = file(word);
+    if work.input.is_none() && work.moves.is_none() {
+        return Err("only one of FILE and MOVES can be standard input".into());
+    }
+    no_more(words)
+}
+
+/// That no word is left.
+fn no_more(mut words: impl Iterator<Item = OsString>) -> Result<(), String> {
+    words.next().map_or(Ok(()), |word| Err(format!("{} is one word too many", word.to_string_lossy())))
+}
+
 /// That what a command gives can hold locks.
 fn holds_locks(work: &Work) -> Result<(), String> {
     let name = work.command.name();
@@ -226,12 +249,15 @@ fn holds_locks(work: &Work) -> Result<(), String> {
     }
 }
 
-/// Puts the words that are no options: FILE, and after it NODES or the ROOT of a preview; or BEFORE and AFTER.
+/// Puts the words that are no options: FILE, and after it NODES, MOVES or the ROOT of a preview; or BEFORE and AFTER.
 fn put_plain(work: &mut Work, plain: Vec<OsString>) -> Result<(), String> {
     let mut plain = plain.into_iter();
     work.input = plain.next().and_then(file);
     if work.command.sets_locks() {
         return put_nodes(work, plain);
+    }
+    if work.command == Command::Apply {
+        return put_moves(work, plain);
     }
     match plain.next() {
         Some(word) if work.command == Command::Preview => work.root = Some(root_named(&word.to_string_lossy())?),
@@ -243,7 +269,7 @@ fn put_plain(work: &mut Work, plain: Vec<OsString>) -> Result<(), String> {
     if work.compare && work.input.is_none() && work.after.is_none() {
         return Err("only one of BEFORE and AFTER can be standard input".into());
     }
-    plain.next().map_or(Ok(()), |word| Err(format!("{} is one word too many", word.to_string_lossy())))
+    no_more(plain)
 }
 
 /// Puts an option of what draws, with the word after it if it takes one.
@@ -280,7 +306,7 @@ fn asked_of(command: Command, mut words: impl Iterator<Item = OsString>) -> Resu
             _ if only_files || text == "-" || !text.starts_with('-') => plain.push(word),
             "--help" | "-h" => return Ok(Asked::Help(help::of(command))),
             "-o" => put(&mut output, words.next().ok_or("-o wants a file after it")?, "-o")?,
-            "--to" if command == Command::Settle || command.sets_locks() => {
+            "--to" if matches!(command, Command::Settle | Command::Apply) || command.sets_locks() => {
                 put(&mut work.to, format_named(words.next())?, "--to")?
             }
             "--moves" if command == Command::Preview => work.only_moves = true,
@@ -369,6 +395,19 @@ mod tests {
     }
 
     #[test]
+    fn a_file_and_moves() {
+        let apply = |input: Option<&str>, moves: Option<&str>, output: Option<&str>, to| {
+            let [input, moves, output] = [input, moves, output].map(|name| name.map(PathBuf::from));
+            Ok(Asked::Work(Work { input, moves, output, to, ..Work::of(Command::Apply) }))
+        };
+        assert_eq!(of(&["apply", "a", "b"]), apply(Some("a"), Some("b"), None, None));
+        assert_eq!(of(&["apply", "a", "-", "-o", "c"]), apply(Some("a"), None, Some("c"), None));
+        assert_eq!(of(&["apply", "-o", "a", "-", "b"]), apply(None, Some("b"), Some("a"), None));
+        let tagged = apply(Some("a"), Some("-b"), None, Some(Format::Tagged));
+        assert_eq!(of(&["apply", "--to", "tagged", "--", "a", "-b"]), tagged);
+    }
+
+    #[test]
     fn what_is_drawn() {
         let picture = |input: Option<&str>, output: Option<&str>, wanted, form| {
             let (input, output) = (input.map(PathBuf::from), output.map(PathBuf::from));
@@ -445,6 +484,13 @@ mod tests {
             &["lock", "a", "7", "-o", "b.aag"],
             &["unlock", "a", "7", "-o", "b.AIG"],
             &["lock", "a", "7", "--moves"],
+            &["apply"],
+            &["apply", "a"],
+            &["apply", "-", "-"],
+            &["apply", "a", "b", "c"],
+            &["apply", "a", "b", "--moves"],
+            &["apply", "a", "b", "--to", "dot"],
+            &["apply", "a", "b", "--root", "7"],
         ] {
             assert!(of(words).is_err(), "{words:?}");
         }
