@@ -1,12 +1,45 @@
 // What is pending, written out: one sweep of each table.
 ghost use mathlib.Core.Path.{_≡_};
-ghost use Prim.Native.Nat.{_≤_, _<_};
+ghost use Prim.Native.Nat.{_-_, _≤_, _<_};
 ghost use lib.ListN.{length};
 ghost use Rattle.graph.specs.Graph.{graphOf};
 ghost use Rattle.graph.specs.Turned.{turnedTable, only, upTo};
-ghost use Rattle.state.specs.State.{dueIn, stands, Pendings, Ordered};
-use crate::now;
+ghost use Rattle.state.specs.State.{pendingAt, dueIn, stands, Pendings, Ordered};
 use graph::table;
+use moves::words::node_of;
+
+// Node v, or the last where v is none: a node in any case.
+pub fn nearest(nodes: u32, v: u32) -> u32
+    requires { ⌜ 0 < nodes ⌝ }
+    ensures { λ r. ⌜ (v < nodes → r ≡ v) × (nodes ≤ v → r ≡ nodes - 1) ⌝ }
+{
+    if v < nodes {
+        return v;
+    }
+    nodes - 1
+}
+
+// What `pending_of` tells, for a sweep. Words name inputs and nodes in no order that a processor could foresee, but hardly a turn is
+// pending: so the turn is read before it is known whether the index is a node's.
+pub fn due_of(inputs: u32, nodes: u32, u: u32, scratch: &[u32]) -> u32
+    requires { ⌜ Pendings inputs nodes (now scratch) ⌝ }
+    ensures { λ r. ⌜ (r ≡ pendingAt inputs nodes (now (scratch .entry)) u) × (r ≤ 1) ⌝ }
+{
+    let v = node_of(inputs, u);
+    if nodes == 0 {
+        return 0;
+    }
+    let w = nearest(nodes, v);
+    let at = 8 * w as usize + 2;
+    let due = scratch[at];
+    if due == 0 {
+        return 0;
+    }
+    if w != v {
+        return 0;
+    }
+    due
+}
 
 // The word at place j of a table.
 pub fn write_word(inputs: u32, nodes: u32, words: &mut [u32], j: usize, scratch: &[u32])
@@ -14,7 +47,10 @@ pub fn write_word(inputs: u32, nodes: u32, words: &mut [u32], j: usize, scratch:
     ensures { λ _. ⌜ now (words .exit) ≡ turnedTable (now (words .entry)) (only j (dueIn inputs nodes (now (scratch .entry)) (now (words .entry)) j)) ⌝ }
 {
     let u = table::index_at(words, j);
-    let t = now::pending_of(inputs, nodes, u, scratch);
+    let t = due_of(inputs, nodes, u, scratch);
+    if t == 0 {
+        return;
+    }
     table::turn_word(words, j, t);
 }
 

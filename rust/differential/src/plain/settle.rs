@@ -265,12 +265,29 @@ impl<'a> Settling<'a> {
         }
     }
 
+    /// Whether a turn of a word's readers is pending, for a sweep: hardly one is, so it is read at some node before it is known whether the
+    /// word names one. There is a node.
+    fn is_due(&self, word: u32) -> bool {
+        let v = self.node_of(word);
+        let nearest = v.min(self.kept.len() - 1);
+        self.kept[nearest].pending != 0 && nearest == v
+    }
+
     fn write_out(&mut self) {
-        for v in 0..self.kept.len() {
-            self.words[v] = self.words[v].map(|word| self.now(word));
+        if self.kept.is_empty() {
+            return;
+        }
+        for v in 0..self.words.len() {
+            for k in 0..3 {
+                if self.is_due(self.words[v][k]) {
+                    self.words[v][k] ^= 1;
+                }
+            }
         }
         for o in 0..self.outs.len() {
-            self.outs[o] = self.now(self.outs[o]);
+            if self.is_due(self.outs[o]) {
+                self.outs[o] ^= 1;
+            }
         }
     }
 }

@@ -1,0 +1,54 @@
+-- `due_of` tells what is pending for an index, and reads it at some node first. From the laws of such a reading.
+use native.Mathlib.Omega.{arith}
+use borrow.Author.Needs.{needs}
+use Rattle.state.proofs.Pending.{missed, Nearby, nearby}
+use Rattle.state.proofs.writing.due_of.Statement.{statement}
+use Rattle.state.proofs.writing.due_of.Tie as tie
+
+abbrev start : tie.After-nearest → tie.Start
+start n = n .before .before .before .before
+
+returns : tie.Need-returns
+returns c =
+    let n = c .before in
+    let a = n .before .before .args in
+    (missed (a .inputs) (a .nodes) (a .scratch .now) (a .u) (n .node-of .result) (n .node-of .ensures) (omega arith), omega arith)
+
+-- what is read
+reading : (n : tie.After-nearest)
+    → Nearby (start n .args .inputs) (start n .args .nodes) (start n .args .scratch .now) (start n .args .u) (n .before .before .node-of .result) (n .nearest .result)
+reading n =
+    let s = start n in
+    let a = s .args in
+    let v = n .before .before .node-of in
+    nearby (a .inputs) (a .nodes) (a .scratch .now) (a .u) (v .result) (n .nearest .result) (omega arith) (s .pre .few-nodes) (v .ensures) (n .nearest .ensures)
+
+shared-slice-read-due : tie.Need-shared-slice-read-due
+shared-slice-read-due c = let n = c .before in omega (arith, reading n .is-node, start n .pre .long)
+
+returns-2 : tie.Need-returns-2
+returns-2 c = (reading (c .before .before) .none (omega arith), omega arith)
+
+returns-3 : tie.Need-returns-3
+returns-3 c = (reading (c .before .before .before) .elsewhere (λ e. omega arith), omega arith)
+
+returns-4 : tie.Need-returns-4
+returns-4 c =
+    let n = c .before .before .before in
+    (reading n .there (omega arith), start n .pre .bits (n .nearest .result) (reading n .is-node))
+
+pub due-of-spec : {M : Type 1} → statement M
+due-of-spec =
+    tie.close
+    (tie.spec
+    (λ c κs. search needs)
+    returns
+    (λ c κs. search needs)
+    (λ c. search needs)
+    (λ c. search needs)
+    (λ c. search needs)
+    (λ c. search needs)
+    shared-slice-read-due
+    returns-2
+    returns-3
+    returns-4)
