@@ -17,8 +17,8 @@ use Rattle.moves.specs.Apply.{Choice, none, at, put, own, seen, turns, outputTu
 use Rattle.moves.specs.Call.{moved}
 use Rattle.moves.specs.Rows.{flag, arity, kindMoves}
 use Rattle.moves.proofs.Apply.{admitted, turns-past, turns-mark, outputTurns-past, outputTurns-at}
-use Rattle.moves.proofs.Changed.{at-same, at-other, own-at}
-use Rattle.moves.proofs.Compose.{seen-node, alike-turns, alike-outputTurns}
+use Rattle.moves.proofs.Changed.{at-same, at-other}
+use Rattle.moves.proofs.Compose.{alike-turns, alike-outputTurns}
 use Rattle.moves.proofs.Flags.{flag-bit}
 use Rattle.moves.proofs.Moves.{kind-moves, kind-pos}
 use Rattle.many.specs.Making.{Listed, Ready, bare, chosen, nodesTo, outputsTo}
@@ -43,16 +43,6 @@ module _ (g : Graph) (us ms : List ℕ) (l : Listed g us ms) where
 
   pub chosen-row : (v u k : ℕ) (x : Bool) → x ≡ isXor g v → k ≡ chosen us ms u → u ≡ node g v → k < arity x
   chosen-row v u k x q p e = rw (p, q, e, ← kind-moves g v) (chosen-has (node g v))
-
--- what a choice turns, by the move and the kind that were read
-module _ (g : Graph) (m : Choice) (v k : ℕ) (x : Bool) (q : x ≡ isXor g v) where
-  pub seen-by-move : (u f : ℕ) → g .I < u → u < node g (g .N) → v ≡ u - (g .I + 1) → k ≡ m u → f ≡ flag x k 3 → f ≡ seen g m u
-  seen-by-move u f a b e p r =
-      let w : u ≡ node g v = omega arith in
-      rw (w, seen-node g m v (omega arith), ← q, ← w, ← p) r
-
-  pub own-by-move : (i j f : ℕ) → i < 3 → j ≡ 3 * v + i → k ≡ m (node g v) → f ≡ flag x k i → f ≡ own g m j
-  own-by-move i j f h e p r = r ∙ rw (e, own-at g m v i h, ← q, ← p)
 
 -- its own node's move turns a word once or not
 pub own-bit : (g : Graph) (m : Choice) (j : ℕ) → own g m j ≤ 1

@@ -1,7 +1,7 @@
 // Which number refuses a list of moves; 0 is none.
 ghost use mathlib.Core.Path.{_≡_};
 ghost use mathlib.Core.List.{List};
-ghost use Prim.Native.Nat.{ℕ, _*_, _≤_, _<_};
+ghost use Prim.Native.Nat.{ℕ, _≤_, _<_};
 ghost use lib.ListN.{length};
 ghost use Rattle.graph.specs.Finite.{ifLess, ifEqual};
 ghost use Rattle.graph.specs.Graph.{graphOf};

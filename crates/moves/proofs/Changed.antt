@@ -1,5 +1,5 @@
 -- What one changed move changes, and what a word adds after all moves.
-use mathlib.Core.Path.{_≡_, refl, ap}
+use mathlib.Core.Path.{_≡_, refl, ap, _∙_}
 use mathlib.Core.List.{[], _∷_}
 use mathlib.Core.Bool.{Bool, true, false, not, cond, _&&_}
 use mathlib.Core.Logic.{_≢_}
@@ -51,6 +51,16 @@ module _ (g : Graph) (d : Choice) where
       let q : (3 * v + i) / 3 ≡ v = omega arith in
       let r : (3 * v + i) % 3 ≡ i = omega arith in
       rw (q, r)
+
+-- what a choice turns, by the move and the kind that were read
+module _ (g : Graph) (d : Choice) (v k : ℕ) (x : Bool) (q : x ≡ isXor g v) where
+  pub seen-by-move : (u f : ℕ) → g .I < u → u < node g (g .N) → v ≡ u - (g .I + 1) → k ≡ d u → f ≡ flag x k 3 → f ≡ seen g d u
+  seen-by-move u f a b e p r =
+      let w : u ≡ node g v = omega arith in
+      rw (w, seen-node g d v (omega arith), ← q, ← w, ← p) r
+
+  pub own-by-move : (i j f : ℕ) → i < 3 → j ≡ 3 * v + i → k ≡ d (node g v) → f ≡ flag x k i → f ≡ own g d j
+  own-by-move i j f h e p r = r ∙ rw (e, own-at g d v i h, ← q, ← p)
 
 -- move 0 turns nothing
 pub flag-zero : (x : Bool) (i : ℕ) → flag x 0 i ≡ 0

@@ -1,8 +1,7 @@
 // A saving in two parts: over the words of the nodes that a call names, and over all other edges, of which only those change that
 // name one of these nodes.
 ghost use mathlib.Core.Path.{_≡_};
-ghost use Prim.Native.Nat.{ℕ, _≤_, _<_};
-ghost use lib.ListN.{getD};
+ghost use Prim.Native.Nat.{_≤_, _<_};
 ghost use Rattle.moves.specs.Call.{savingAnswer};
 ghost use Rattle.moves.specs.Decide.{Counted};
 ghost use Rattle.moves.specs.Outside.{oddBy, betweenBy, NodeOdds, PairOdds, savedBy};

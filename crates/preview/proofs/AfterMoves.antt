@@ -1,11 +1,11 @@
 -- What a word adds once the moves that bytes tell are made, from the words as they stand. From the laws on a word after a choice.
-use mathlib.Core.Path.{_≡_, sym, ap, _∙_}
+use mathlib.Core.Path.{_≡_, refl, sym, ap, _∙_}
 use mathlib.Core.Bool.{Bool, true, false}
 use mathlib.Core.List.{List}
 use Prim.Native.Nat.{ℕ, _+_, _-_, _*_, _/_, _%_, _≤_, _<_}
 use native.Mathlib.Numerals.{add-one}
 use native.Mathlib.Omega.{arith}
-use borrow.Author.Tests.{lt-ltb, le-ltb}
+use borrow.Author.Tests.{lt-ltb}
 use lib.ListN.{length, getD}
 use Rattle.graph.specs.Count.{nodeAdds, outputAdds, readers, C}
 use Rattle.graph.specs.Turned.{turnedBy}
@@ -16,8 +16,7 @@ use Rattle.moves.specs.Apply.{Choice, seen, own, apply}
 use Rattle.moves.specs.Call.{isNode}
 use Rattle.moves.specs.Cost.{shown}
 use Rattle.moves.specs.Rows.{arity, flag}
-use Rattle.moves.proofs.Changed.{seen-none, own-at, node-adds, out-adds}
-use Rattle.moves.proofs.Compose.{seen-node}
+use Rattle.moves.proofs.Changed.{own-by-move, node-adds, out-adds}
 use Rattle.moves.proofs.Moves.{node-row}
 use Rattle.moves.proofs.Shown.{all-readers}
 use Rattle.preview.specs.Preview.{choiceIn}
@@ -37,20 +36,11 @@ module _ (g : Graph) (bs : List ℕ) where
   unfolding choiceIn
   choice-none u e = rw e
 
-  -- the readers of an input, and of a node
-  pub seen-low : (u : ℕ) → u ≤ g .I → 0 ≡ seen g d u
-  unfolding seen
-  seen-low u l = rw (le-ltb (g .I) u l)
-
-  pub seen-still : (u v m : ℕ) → g .I < u → u < g .I + 1 + g .N → v ≡ u - (g .I + 1) → m ≡ getD bs v 0 → m ≡ 0 → 0 ≡ seen g d u
-  seen-still u v m a b e q z =
-      let n : node g v ≡ u = omega (arith, e) in
-      sym (seen-none g d u (ap (choiceIn g bs) (sym n) ∙ choice-at v (omega (arith, e)) ∙ sym q ∙ z))
-
-  pub seen-turned : (u v m r : ℕ) (x : Bool) → g .I < u → u < g .I + 1 + g .N → v ≡ u - (g .I + 1) → m ≡ getD bs v 0 → x ≡ isXor g v → r ≡ flag x m 3 → r ≡ seen g d u
-  seen-turned u v m r x a b e q k s =
-      let n : g .I + 1 + v ≡ u = omega (arith, e) in
-      s ∙ rw (k, q, ← choice-at v (omega (arith, e))) (sym (seen-node g d v (omega (arith, e)))) ∙ ap (seen g d) n
+  -- the move of an index that is a node's, by the node's number
+  pub choice-of : (u v : ℕ) → g .I < u → u < node g (g .N) → v ≡ u - (g .I + 1) → choiceIn g bs u ≡ getD bs v 0
+  choice-of u v a b e =
+      let n : u ≡ node g v = omega (arith, e) in
+      ap (choiceIn g bs) n ∙ choice-at v (omega (arith, e))
 
   module _ (sa : Says g bs) where
     -- the move of a node has a row of its kind
@@ -64,7 +54,7 @@ module _ (g : Graph) (bs : List ℕ) where
     pub word-after : (v i x f m r : ℕ) (k : Bool) → v < g .N → i < 3 → isEdge g (3 * v + i) ≡ true → x ≡ word g (3 * v + i) → m ≡ getD bs v 0 → k ≡ isXor g v → f ≡ flag k m i
         → r ≡ (x + f + seen g d (x / 2)) % 2 → r ≡ nodeAdds (apply g d) (3 * v + i)
     word-after v i x f m r k l h e q p n s t =
-        let o : own g d (3 * v + i) ≡ f = own-at g d v i h ∙ rw (choice-at v l, ← p, ← n) (sym s) in
+        let o : own g d (3 * v + i) ≡ f = sym (own-by-move g d v m k n i (3 * v + i) f h refl (p ∙ sym (choice-at v l)) s) in
         t ∙ rw (node-adds g d (sa .admitted) (3 * v + i) (omega arith), e, o, ← q)
 
     pub no-word : (v : ℕ) → v < g .N → isEdge g (3 * v + 2) ≡ false → 0 ≡ nodeAdds (apply g d) (3 * v + 2)

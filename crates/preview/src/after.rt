@@ -2,7 +2,6 @@
 ghost use mathlib.Core.Path.{_≡_};
 ghost use mathlib.Core.Bool.{true};
 ghost use Prim.Native.Nat.{_+_, _*_, _/_, _%_, _≤_, _<_};
-ghost use lib.ListN.{length, getD};
 ghost use Rattle.graph.specs.Count.{nodeAdds, outputAdds, C};
 ghost use Rattle.graph.specs.Finite.{sum};
 ghost use Rattle.graph.specs.Graph.{graphOf, isEdge};

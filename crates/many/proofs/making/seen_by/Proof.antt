@@ -4,9 +4,10 @@ use native.Mathlib.Omega.{arith}
 use borrow.Author.Needs.{needs}
 use mathlib.Core.List.{[]}
 use Rattle.graph.specs.Graph.{Graph}
+use Rattle.moves.proofs.Changed.{seen-by-move}
 use Rattle.moves.proofs.Compose.{seen-low}
 use Rattle.many.specs.Making.{bare, chosen}
-use Rattle.many.proofs.Sweeping.{chosen-row, seen-by-move}
+use Rattle.many.proofs.Sweeping.{chosen-row}
 use Rattle.many.proofs.making.seen_by.Statement.{statement}
 use Rattle.many.proofs.making.seen_by.Tie as tie
 

@@ -9,8 +9,9 @@ use Rattle.graph.specs.Graph.{Graph, isXor}
 use Prim.Native.Nat.{ℕ, _+_, _*_, _<_}
 use Rattle.graph.proofs.Edge.{edge-early, third-majority, third-xor}
 use Rattle.moves.specs.Rows.{arity}
+use Rattle.moves.proofs.Changed.{own-by-move}
 use Rattle.many.specs.Making.{bare, chosen, nodesTo, Ready}
-use Rattle.many.proofs.Sweeping.{chosen-row, own-by-move, ready-next, next-xor, to-next, to-mark}
+use Rattle.many.proofs.Sweeping.{chosen-row, ready-next, next-xor, to-next, to-mark}
 use Rattle.many.proofs.making.turn_node.Statement.{statement}
 use Rattle.many.proofs.making.turn_node.Tie as tie
 
