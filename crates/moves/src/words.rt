@@ -113,6 +113,18 @@ pub fn node_of(inputs: u32, u: u32) -> u32
     std::num::wrapping_sub_u32(u, inputs + 1)
 }
 
+// Node v, or the last where v is none. Words name inputs and nodes in no order that a processor could foresee: where hardly a node has what a
+// sweep looks for, it looks there before it is known whether an index is a node's.
+pub fn nearest(nodes: u32, v: u32) -> u32
+    requires { ⌜ 0 < nodes ⌝ }
+    ensures { λ r. ⌜ (v < nodes → r ≡ v) × (nodes ≤ v → r ≡ nodes - 1) ⌝ }
+{
+    if v < nodes {
+        return v;
+    }
+    nodes - 1
+}
+
 pub fn narrow(x: usize) -> u32
     requires { ⌜ x < 1000000 ⌝ }
     ensures { λ r. ⌜ r ≡ x ⌝ }

@@ -2,11 +2,12 @@
 use mathlib.Core.Path.{_≡_, refl, sym, ap, _∙_}
 use mathlib.Core.Bool.{Bool, true, false}
 use mathlib.Core.List.{List}
+use mathlib.Core.Logic.{⊎-elim, _⊎_}
 use Prim.Native.Nat.{ℕ, _+_, _-_, _*_, _/_, _%_, _≤_, _<_}
 use native.Mathlib.Numerals.{add-one}
 use native.Mathlib.Omega.{arith}
-use borrow.Author.Tests.{lt-ltb}
-use lib.ListN.{length, getD}
+use borrow.Author.Tests.{lt-ltb, le-ltb}
+use lib.ListN.{getD}
 use Rattle.graph.specs.Count.{nodeAdds, outputAdds, readers, C}
 use Rattle.graph.specs.Turned.{turnedBy}
 use Rattle.graph.proofs.Finite.{sum-three}
@@ -18,6 +19,7 @@ use Rattle.moves.specs.Cost.{shown}
 use Rattle.moves.specs.Rows.{arity, flag}
 use Rattle.moves.proofs.Changed.{own-by-move, node-adds, out-adds}
 use Rattle.moves.proofs.Moves.{node-row}
+use Rattle.moves.proofs.NodeOf.{Nearby, nearby}
 use Rattle.moves.proofs.Shown.{all-readers}
 use Rattle.preview.specs.Preview.{choiceIn}
 use Rattle.preview.specs.Telling.{Says, threeAfter}
@@ -42,13 +44,24 @@ module _ (g : Graph) (bs : List ℕ) where
       let n : u ≡ node g v = omega (arith, e) in
       ap (choiceIn g bs) n ∙ choice-at v (omega (arith, e))
 
+  -- what is no node has move 0
+  pub choice-past : (u : ℕ) → (u ≤ g .I) ⊎ (node g (g .N) ≤ u) → choiceIn g bs u ≡ 0
+  unfolding choiceIn isNode
+  choice-past u =
+      ⊎-elim
+      (λ (h : u ≤ g .I). rw (le-ltb (g .I) u h))
+      (λ (h : node g (g .N) ≤ u). rw (lt-ltb (g .I) u (omega arith), le-ltb u (node g (g .N)) h))
+
+  -- the byte read of node w, the nearest to v, which `node_of` gives of index u
+  pub byte-nearby : (u v w : ℕ) → 0 < g .N → g .N ≤ 100000 → (g .I < u → v ≡ u - (g .I + 1)) × (u ≤ g .I → 4294000000 ≤ v)
+      → (v < g .N → w ≡ v) × (g .N ≤ v → w ≡ g .N - 1) → Nearby (g .N) (choiceIn g bs u) (λ k. getD bs k 0) v w
+  byte-nearby u v w p few is near =
+      nearby (g .I) (g .N) u v w (choiceIn g bs u) (λ k. getD bs k 0) p few is near (λ a b. choice-of u (u - (g .I + 1)) a b refl) (choice-past u)
+
   module _ (sa : Says g bs) where
     -- the move of a node has a row of its kind
     pub move-row : (v m : ℕ) (x : Bool) → v < g .N → m ≡ getD bs v 0 → x ≡ isXor g v → m < arity x
     move-row v m x l q k = rw (k, q, ← choice-at v l) (node-row g v (choiceIn g bs (node g v)) (sa .permitted v l))
-
-    pub node-in : (u v : ℕ) → g .I < u → u < g .I + 1 + g .N → v ≡ u - (g .I + 1) → v < length bs
-    node-in u v a b e = omega (arith, sa .enough)
 
     -- word i + 1 of node v that is an edge, and one that is none
     pub word-after : (v i x f m r : ℕ) (k : Bool) → v < g .N → i < 3 → isEdge g (3 * v + i) ≡ true → x ≡ word g (3 * v + i) → m ≡ getD bs v 0 → k ≡ isXor g v → f ≡ flag k m i

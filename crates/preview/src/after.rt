@@ -11,8 +11,11 @@ ghost use Rattle.preview.specs.Telling.{Says, threeAfter};
 use graph::table::byte_at;
 use graph::table::word_at;
 use moves::rows;
+use moves::words::nearest;
+use moves::words::node_of;
+use moves::words::wide;
 
-// Whether the readers of index u would be turned.
+// Whether the readers of index u would be turned. Hardly a byte tells a move other than 0.
 pub fn seen_at(
     inputs: u32,
     nodes: u32,
@@ -25,15 +28,20 @@ pub fn seen_at(
     requires { ⌜ Says (graphOf inputs nodes outputs (now «node_table») (now «output_table»)) (now bytes) × (u < inputs + 1 + nodes) ⌝ }
     ensures { λ r. ⌜ (r ≡ seen (graphOf inputs nodes outputs (now («node_table» .entry)) (now («output_table» .entry))) (choiceIn (graphOf inputs nodes outputs (now («node_table» .entry)) (now («output_table» .entry))) (now (bytes .entry))) u) × (r ≤ 1) ⌝ }
 {
-    if u <= inputs {
+    let v = node_of(inputs, u);
+    if nodes == 0 {
         return 0;
     }
-    let v = (u - (inputs + 1)) as usize;
-    let m = byte_at(bytes, v);
+    let w = nearest(nodes, v);
+    let at = wide(w);
+    let m = byte_at(bytes, at);
     if m == 0 {
         return 0;
     }
-    rows::flag_of(rows::is_xor(node_table, v), m, 3)
+    if w != v {
+        return 0;
+    }
+    rows::flag_of(rows::is_xor(node_table, at), m, 3)
 }
 
 // What a literal would add that its own node's move turns f times.

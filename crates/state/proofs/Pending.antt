@@ -1,14 +1,14 @@
 -- Pending turns read word by word, and written out. From the laws on what is pending and on sweeps.
 use mathlib.Core.Path.{_≡_, sym, ap, _∙_}
 use mathlib.Core.List.{List}
-use mathlib.Core.Logic.{⊎-elim, _≢_}
+use mathlib.Core.Logic.{⊎-elim, _⊎_}
 use Prim.Native.Nat.{ℕ, _+_, _-_, _*_, _<_, _≤_}
 use native.Mathlib.Omega.{arith}
 use Rattle.graph.specs.Graph.{Graph, graphOf}
 use Rattle.graph.specs.Turned.{turnedTable, upTo}
 use Rattle.graph.proofs.Cases.{lt-or-le}
 use Rattle.graph.proofs.Turned.{turned-both}
-use Rattle.moves.proofs.NodeOf.{node-found, node-missed}
+use Rattle.moves.proofs.NodeOf.{node-found, node-missed, Nearby, nearby}
 use Rattle.state.specs.State.{field, pendingAt, dueIn, due, outputDue, stands}
 use Rattle.state.proofs.Stands.{pending-low, pending-high, pending-node}
 
@@ -16,38 +16,23 @@ use Rattle.state.proofs.Stands.{pending-low, pending-high, pending-node
 pub pending-names : (i n : ℕ) (sc : List ℕ) (u : ℕ) → 0 < pendingAt i n sc u → u < i + 1 + n
 pending-names i n sc u p = ⊎-elim (λ (h : u < i + 1 + n). h) (λ (h : i + 1 + n ≤ u). absurd (omega (arith, pending-high i n sc u h))) (lt-or-le u (i + 1 + n))
 
+pending-none : (i n : ℕ) (sc : List ℕ) (u : ℕ) → (u ≤ i) ⊎ (i + 1 + n ≤ u) → pendingAt i n sc u ≡ 0
+pending-none i n sc u = ⊎-elim (pending-low i n sc u) (pending-high i n sc u)
+
 -- what is pending for index u, of which `node_of` gives v
 module _ (i n : ℕ) (sc : List ℕ) (u v : ℕ) (is : (i < u → v ≡ u - (i + 1)) × (u ≤ i → 4294000000 ≤ v)) where
   pub missed : n ≤ v → 0 ≡ pendingAt i n sc u
-  missed l =
-      ⊎-elim
-      (λ (h : u ≤ i). sym (pending-low i n sc u h))
-      (λ (h : i + 1 + n ≤ u). sym (pending-high i n sc u h))
-      (node-missed i n u v is l)
+  missed l = sym (pending-none i n sc u (node-missed i n u v is l))
 
   pub found : n ≤ 100000 → v < n → field sc v 2 ≡ pendingAt i n sc u
   found few l =
       let f = node-found i n u v is few l in
       ap (λ k. field sc k 2) (f .1) ∙ sym (pending-node i n sc u (f .0) (omega (arith, f .1)))
 
--- a sweep reads it at node w, the nearest to v
-pub record Nearby (i n : ℕ) (sc : List ℕ) (u v w : ℕ) : Type 0 where
-  pub is-node : w < n
-  pub none : field sc w 2 ≡ 0 → 0 ≡ pendingAt i n sc u
-  pub elsewhere : w ≢ v → 0 ≡ pendingAt i n sc u
-  pub there : w ≡ v → field sc w 2 ≡ pendingAt i n sc u
-
-pub nearby : (i n : ℕ) (sc : List ℕ) (u v w : ℕ) → 0 < n → n ≤ 100000 → (i < u → v ≡ u - (i + 1)) × (u ≤ i → 4294000000 ≤ v)
-    → (v < n → w ≡ v) × (n ≤ v → w ≡ n - 1) → Nearby i n sc u v w
-nearby i n sc u v w p few is near =
-    ⊎-elim
-    (λ (l : v < n).
-    let f = ap (λ k. field sc k 2) (near .0 l) ∙ found i n sc u v is few l in
-    record { is-node = omega (arith, near .0 l); none = λ z. sym z ∙ f; elsewhere = λ e. absurd (e (near .0 l)); there = λ e. f })
-    (λ (l : n ≤ v).
-    let m = missed i n sc u v is l in
-    record { is-node = omega (arith, near .1 l); none = λ z. m; elsewhere = λ e. m; there = λ e. absurd (omega (arith, near .1 l, e)) })
-    (lt-or-le v n)
+-- a sweep reads it of node w, the nearest to v
+pub due-nearby : (i n : ℕ) (sc : List ℕ) (u v w : ℕ) → 0 < n → n ≤ 100000 → (i < u → v ≡ u - (i + 1)) × (u ≤ i → 4294000000 ≤ v)
+    → (v < n → w ≡ v) × (n ≤ v → w ≡ n - 1) → Nearby n (pendingAt i n sc u) (λ k. field sc k 2) v w
+due-nearby i n sc u v w p few is near = nearby i n u v w (pendingAt i n sc u) (λ k. field sc k 2) p few is near (pending-node i n sc u) (pending-none i n sc u)
 
 -- both tables written
 pub written : (g : Graph) (sc ns os : List ℕ) → ns ≡ turnedTable (g .nodes) (upTo (3 * g .N) (dueIn (g .I) (g .N) sc (g .nodes)))

@@ -1,26 +1,15 @@
 // What is pending, written out: one sweep of each table.
 ghost use mathlib.Core.Path.{_≡_};
-ghost use Prim.Native.Nat.{_-_, _≤_, _<_};
+ghost use Prim.Native.Nat.{_≤_, _<_};
 ghost use lib.ListN.{length};
 ghost use Rattle.graph.specs.Graph.{graphOf};
 ghost use Rattle.graph.specs.Turned.{turnedTable, only, upTo};
 ghost use Rattle.state.specs.State.{pendingAt, dueIn, stands, Pendings, Ordered};
 use graph::table;
+use moves::words::nearest;
 use moves::words::node_of;
 
-// Node v, or the last where v is none: a node in any case.
-pub fn nearest(nodes: u32, v: u32) -> u32
-    requires { ⌜ 0 < nodes ⌝ }
-    ensures { λ r. ⌜ (v < nodes → r ≡ v) × (nodes ≤ v → r ≡ nodes - 1) ⌝ }
-{
-    if v < nodes {
-        return v;
-    }
-    nodes - 1
-}
-
-// What `pending_of` tells, for a sweep. Words name inputs and nodes in no order that a processor could foresee, but hardly a turn is
-// pending: so the turn is read before it is known whether the index is a node's.
+// What `pending_of` tells, for a sweep: hardly a turn is pending.
 pub fn due_of(inputs: u32, nodes: u32, u: u32, scratch: &[u32]) -> u32
     requires { ⌜ Pendings inputs nodes (now scratch) ⌝ }
     ensures { λ r. ⌜ (r ≡ pendingAt inputs nodes (now (scratch .entry)) u) × (r ≤ 1) ⌝ }

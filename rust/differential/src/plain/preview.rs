@@ -35,12 +35,15 @@ impl Reading<'_> {
         }
     }
 
-    /// Whether these moves turn the readers of what a word names: the mark, the constant and the inputs have none.
+    /// Whether these moves turn the readers of what a word names: the mark, the constant and the inputs have none. Hardly a node moves, so
+    /// a move is read at some node before it is known whether the word names one. There is a node.
     fn seen(&self, word: u32, moves: &[u8]) -> u32 {
         let u = self.node_of(word);
-        match moves.get(u) {
-            None | Some(0) => 0,
-            Some(&number) => flags(self.is_xor(u), number.into())[3],
+        let nearest = u.min(moves.len() - 1);
+        match moves[nearest] {
+            0 => 0,
+            _ if nearest != u => 0,
+            number => flags(self.is_xor(u), number.into())[3],
         }
     }
 
