@@ -352,8 +352,13 @@ pub fn settle(g: &mut Graph, scratch: &mut [u32]) -> Answered<Settled> {
             &mut told.1,
         )
     };
-    Ok(answered(number, told, canary)?
-        .map(|([rounds, before, after], [own, others])| Settled { rounds, before, after, own, others }))
+    Ok(answered(number, told, canary)?.map(|([rounds, before, after], [own, others])| Settled {
+        rounds,
+        before,
+        after,
+        own,
+        others,
+    }))
 }
 
 pub fn many(g: &mut Graph, list: &[u32], moves: &[u8]) -> Answered<i64> {
