@@ -5,7 +5,14 @@ use Prim.Native.Nat.{ℕ, _+_, _-_, _≤_, _<_}
 use native.Mathlib.Omega.{arith}
 use Rattle.graph.proofs.Cases.{lt-or-le}
 
-module _ (i n u r : ℕ) (is : (i < u → r ≡ u - (i + 1)) × (u ≤ i → 4294000000 ≤ r)) where
+-- what `node_of` gives of index u with i inputs, and `nearest` of v with n nodes
+abbrev pub IsNodeOf : ℕ → ℕ → ℕ → Type 0
+IsNodeOf i u v = (i < u → v ≡ u - (i + 1)) × (u ≤ i → 4294000000 ≤ v)
+
+abbrev pub IsNearest : ℕ → ℕ → ℕ → Type 0
+IsNearest n v w = (v < n → w ≡ v) × (n ≤ v → w ≡ n - 1)
+
+module _ (i n u r : ℕ) (is : IsNodeOf i u r) where
   pub node-found : n ≤ 100000 → r < n → (i < u) × (r ≡ u - (i + 1))
   node-found few l = ⊎-elim (λ (a : i < u). (a, is .0 a)) (λ (a : u ≤ i). absurd (omega (arith, is .1 a))) (lt-or-le i u)
 
@@ -20,9 +27,8 @@ pub record Nearby (n x : ℕ) (read : ℕ → ℕ) (v w : ℕ) : Type 0 where
   pub there : w ≡ v → (v < n) × (x ≡ read w)
 
 -- a node has what is read of it, and what is no node has nothing
-pub nearby : (i n u v w x : ℕ) (read : ℕ → ℕ) → 0 < n → n ≤ 100000 → (i < u → v ≡ u - (i + 1)) × (u ≤ i → 4294000000 ≤ v)
-    → (v < n → w ≡ v) × (n ≤ v → w ≡ n - 1) → (i < u → u < i + 1 + n → x ≡ read (u - (i + 1))) → ((u ≤ i) ⊎ (i + 1 + n ≤ u) → x ≡ 0)
-    → Nearby n x read v w
+pub nearby : (i n u v w x : ℕ) (read : ℕ → ℕ) → 0 < n → n ≤ 100000 → IsNodeOf i u v → IsNearest n v w → (i < u → u < i + 1 + n → x ≡ read (u - (i + 1)))
+    → ((u ≤ i) ⊎ (i + 1 + n ≤ u) → x ≡ 0) → Nearby n x read v w
 nearby i n u v w x read p few is near has lacks =
     ⊎-elim
     (λ (l : v < n).

@@ -12,7 +12,7 @@ pub enum Saving {
     Refused(graph::Refusal),
 }
 
-// What a trial answers: what two moves would save, in one number, or why it is refused.
+// What a trial and many moves answer: what the moves save, in one number, or why they are refused.
 pub enum Gain {
     Whole(i64),
     Refused(graph::Refusal),

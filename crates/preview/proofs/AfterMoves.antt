@@ -19,7 +19,7 @@ use Rattle.moves.specs.Cost.{shown}
 use Rattle.moves.specs.Rows.{arity, flag}
 use Rattle.moves.proofs.Changed.{own-by-move, node-adds, out-adds}
 use Rattle.moves.proofs.Moves.{node-row}
-use Rattle.moves.proofs.NodeOf.{Nearby, nearby}
+use Rattle.moves.proofs.NodeOf.{IsNodeOf, IsNearest, Nearby, nearby}
 use Rattle.moves.proofs.Shown.{all-readers}
 use Rattle.preview.specs.Preview.{choiceIn}
 use Rattle.preview.specs.Telling.{Says, threeAfter}
@@ -53,8 +53,8 @@ module _ (g : Graph) (bs : List ℕ) where
       (λ (h : node g (g .N) ≤ u). rw (lt-ltb (g .I) u (omega arith), le-ltb u (node g (g .N)) h))
 
   -- the byte read of node w, the nearest to v, which `node_of` gives of index u
-  pub byte-nearby : (u v w : ℕ) → 0 < g .N → g .N ≤ 100000 → (g .I < u → v ≡ u - (g .I + 1)) × (u ≤ g .I → 4294000000 ≤ v)
-      → (v < g .N → w ≡ v) × (g .N ≤ v → w ≡ g .N - 1) → Nearby (g .N) (choiceIn g bs u) (λ k. getD bs k 0) v w
+  pub byte-nearby : (u v w : ℕ) → 0 < g .N → g .N ≤ 100000 → IsNodeOf (g .I) u v → IsNearest (g .N) v w
+      → Nearby (g .N) (choiceIn g bs u) (λ k. getD bs k 0) v w
   byte-nearby u v w p few is near =
       nearby (g .I) (g .N) u v w (choiceIn g bs u) (λ k. getD bs k 0) p few is near (λ a b. choice-of u (u - (g .I + 1)) a b refl) (choice-past u)
 

@@ -8,7 +8,7 @@ use Rattle.graph.specs.Graph.{Graph, graphOf}
 use Rattle.graph.specs.Turned.{turnedTable, upTo}
 use Rattle.graph.proofs.Cases.{lt-or-le}
 use Rattle.graph.proofs.Turned.{turned-both}
-use Rattle.moves.proofs.NodeOf.{node-found, node-missed, Nearby, nearby}
+use Rattle.moves.proofs.NodeOf.{IsNodeOf, IsNearest, node-found, node-missed, Nearby, nearby}
 use Rattle.state.specs.State.{field, pendingAt, dueIn, due, outputDue, stands}
 use Rattle.state.proofs.Stands.{pending-low, pending-high, pending-node}
 
@@ -20,7 +20,7 @@ pending-none : (i n : ℕ) (sc : List ℕ) (u : ℕ) → (u ≤ i) ⊎ (i + 1 + 
 pending-none i n sc u = ⊎-elim (pending-low i n sc u) (pending-high i n sc u)
 
 -- what is pending for index u, of which `node_of` gives v
-module _ (i n : ℕ) (sc : List ℕ) (u v : ℕ) (is : (i < u → v ≡ u - (i + 1)) × (u ≤ i → 4294000000 ≤ v)) where
+module _ (i n : ℕ) (sc : List ℕ) (u v : ℕ) (is : IsNodeOf i u v) where
   pub missed : n ≤ v → 0 ≡ pendingAt i n sc u
   missed l = sym (pending-none i n sc u (node-missed i n u v is l))
 
@@ -30,8 +30,8 @@ module _ (i n : ℕ) (sc : List ℕ) (u v : ℕ) (is : (i < u → v ≡ u - (i +
       ap (λ k. field sc k 2) (f .1) ∙ sym (pending-node i n sc u (f .0) (omega (arith, f .1)))
 
 -- a sweep reads it of node w, the nearest to v
-pub due-nearby : (i n : ℕ) (sc : List ℕ) (u v w : ℕ) → 0 < n → n ≤ 100000 → (i < u → v ≡ u - (i + 1)) × (u ≤ i → 4294000000 ≤ v)
-    → (v < n → w ≡ v) × (n ≤ v → w ≡ n - 1) → Nearby n (pendingAt i n sc u) (λ k. field sc k 2) v w
+pub due-nearby : (i n : ℕ) (sc : List ℕ) (u v w : ℕ) → 0 < n → n ≤ 100000 → IsNodeOf i u v → IsNearest n v w
+    → Nearby n (pendingAt i n sc u) (λ k. field sc k 2) v w
 due-nearby i n sc u v w p few is near = nearby i n u v w (pendingAt i n sc u) (λ k. field sc k 2) p few is near (pending-node i n sc u) (pending-none i n sc u)
 
 -- both tables written
