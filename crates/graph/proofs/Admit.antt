@@ -4,10 +4,13 @@ use mathlib.Core.Bool.{true, false}
 use mathlib.Core.List.{List}
 use Prim.Native.Nat.{ℕ, _*_, _/_, _≤_, _<_}
 use mathlib.Core.Logic.{⊎-elim}
+use native.Mathlib.Omega.{arith}
 use lib.ListN.{length, getD}
 use Rattle.graph.specs.Graph.{Graph, word, output, isEdge, node}
-use Rattle.graph.specs.Admission.{roomNumber, tablesNumber, wordNumber, outputNumber, literalNumber, lockNumber, locksNumber, contentNumber, admissionNumber, Admitted, LockBytes}
+use Rattle.graph.specs.Admission.{roomNumber, tablesNumber, wordNumber, outputNumber, strayNumber, straysNumber, literalNumber, lockNumber, locksNumber, contentNumber, admissionNumber, Admitted, LockBytes}
+use Rattle.graph.specs.Literals.{held, strays}
 use Rattle.graph.proofs.Cases.{true-or-false}
+use Rattle.graph.proofs.Literals.{held-le}
 use Rattle.graph.proofs.Tests.{off, on, both, no-less, less, none, all-none, each-none}
 
 -- limits that are kept, and slices that are long enough
@@ -57,16 +60,30 @@ module _ (g : Graph) where
   unfolding outputNumber
   out-is j e = on (output g j / 2) (node g (g .N)) 4 0 e .0
 
+  stray-none : (n : ℕ) (l : List ℕ) → strayNumber n l ≡ 0 → strays n l ≡ 0
+  unfolding strayNumber
+  stray-none n l e = let h = off 0 (strays n l) 4 0 e .0 in omega arith
+
+  none-stray : (n : ℕ) (l : List ℕ) → strays n l ≡ 0 → strayNumber n l ≡ 0
+  unfolding strayNumber
+  none-stray n l e = sym (no-less 0 (strays n l) 5 0 (omega arith) refl)
+
+  pub strays-are : literalNumber g ≡ 0 → (strays (3 * g .N) (g .nodes) ≡ 0) × (strays (g .O) (g .outputs) ≡ 0)
+  unfolding literalNumber straysNumber
+  strays-are e =
+      let b = both _ _ (both _ _ e .0) in
+      (stray-none (3 * g .N) (g .nodes) (b .0), stray-none (g .O) (g .outputs) (b .1))
+
   pub literals-are : literalNumber g ≡ 0
       → ((j : ℕ) → j < 3 * g .N → isEdge g j ≡ true → word g j / 2 < node g (j / 3)) × ((j : ℕ) → j < g .O → output g j / 2 < node g (g .N))
   unfolding literalNumber
   literals-are e =
-      let b = both _ _ e in
+      let b = both _ _ (both _ _ e .1) in
       ((λ j h t. word-is j t (each-none (3 * g .N) (wordNumber g) (b .0) j h)), (λ j h. out-is j (each-none (g .O) (outputNumber g) (b .1) j h)))
 
   -- of the graph with the locks ls
   module _ (ls : List ℕ) where
-    pub tables-are : tablesNumber g ls ≡ 0 → Rooms (g .I) (g .N) (g .O) (length (g .nodes)) (length (g .outputs)) (length ls)
+    pub tables-are : tablesNumber g ls ≡ 0 → Rooms (g .I) (g .N) (g .O) (held (g .nodes)) (held (g .outputs)) (length ls)
     unfolding tablesNumber
     tables-are e = rooms _ _ _ _ _ _ e
 
@@ -78,8 +95,12 @@ module _ (g : Graph) where
           few-inputs = r .few-inputs;
           few-nodes = r .few-nodes;
           few-outputs = r .few-outputs;
-          long-nodes = r .long-nodes;
-          long-outputs = r .long-outputs;
+          long-nodes = omega (arith, r .long-nodes, held-le (g .nodes));
+          long-outputs = omega (arith, r .long-outputs, held-le (g .outputs));
+          held-nodes = r .long-nodes;
+          held-outputs = r .long-outputs;
+          clean-nodes = strays-are w .0;
+          clean-outputs = strays-are w .1;
           below = d .0;
           output-below = d .1;
         }
@@ -98,10 +119,11 @@ module _ (g : Graph) where
 
   module _ (adm : Admitted g) where
     pub literals-none : literalNumber g ≡ 0
-    unfolding literalNumber outputNumber
+    unfolding literalNumber straysNumber outputNumber
     literals-none =
-        sym (none _ _ (all-none _ _ (λ j h. word-none j (adm .below j h)))
-        (sym (all-none _ _ (λ j h. sym (less (output g j / 2) (node g (g .N)) 0 5 (adm .output-below j h) refl)))))
+        sym (none _ _ (sym (none _ _ (none-stray _ _ (adm .clean-nodes)) (sym (none-stray _ _ (adm .clean-outputs)))))
+        (none _ _ (all-none _ _ (λ j h. word-none j (adm .below j h)))
+        (sym (all-none _ _ (λ j h. sym (less (output g j / 2) (node g (g .N)) 0 5 (adm .output-below j h) refl))))))
 
     module _ (ls : List ℕ) (ok : LockBytes (g .N) ls) where
       pub tables-none : tablesNumber g ls ≡ 0
@@ -112,8 +134,8 @@ module _ (g : Graph) where
             few-inputs = adm .few-inputs;
             few-nodes = adm .few-nodes;
             few-outputs = adm .few-outputs;
-            long-nodes = adm .long-nodes;
-            long-outputs = adm .long-outputs;
+            long-nodes = adm .held-nodes;
+            long-outputs = adm .held-outputs;
             enough-locks = ok .enough;
           })
 

@@ -1,7 +1,7 @@
 -- Two graphs that differ in complement bits alone have the same kinds, edges, wiring and readers, and one is admitted where the
 -- other is. From the definitions.
 use mathlib.Core.Path.{_≡_, sym, ap, _∙_, fun-ext}
-use Prim.Native.Nat.{ℕ, _+_, _*_, _/_}
+use Prim.Native.Nat.{ℕ, _+_, _*_, _/_, _≤_}
 use lib.Dec.{eqb}
 use lib.ListN.{length}
 use Rattle.graph.specs.Admission.{Admitted}
@@ -9,6 +9,7 @@ use Rattle.graph.specs.Count.{named, outputNamed, nodeReaders, readers}
 use Rattle.graph.specs.Finite.{tab}
 use Rattle.graph.specs.Graph.{Graph, mark, word, output, isEdge, isXor, wire, outputWire, wiring}
 use Rattle.graph.proofs.Finite.{tab-same}
+use Rattle.graph.proofs.Literals.{held-same, strays-same}
 
 pub record Alike (g h : Graph) : Type 0 where
   pub same-I : h .I ≡ g .I
@@ -19,6 +20,8 @@ pub record Alike (g h : Graph) : Type 0 where
   pub wired : (j : ℕ) → word h j / 2 ≡ word g j / 2
   pub out-wired : (j : ℕ) → output h j / 2 ≡ output g j / 2
   pub marked : (j : ℕ) → eqb (word h j) mark ≡ eqb (word g j) mark
+  pub past : (j : ℕ) → 3 * g .N ≤ j → word h j ≡ word g j
+  pub out-past : (j : ℕ) → g .O ≤ j → output h j ≡ output g j
 
 pub alike-then : (g h k : Graph) → Alike g h → Alike h k → Alike g k
 alike-then g h k a b =
@@ -31,6 +34,8 @@ alike-then g h k a b =
       wired = λ j. b .wired j ∙ a .wired j;
       out-wired = λ j. b .out-wired j ∙ a .out-wired j;
       marked = λ j. b .marked j ∙ a .marked j;
+      past = λ j l. b .past j (rw (a .same-N) l) ∙ a .past j l;
+      out-past = λ j l. b .out-past j (rw (a .same-O) l) ∙ a .out-past j l;
     }
 
 pub alike-back : (g h : Graph) → Alike g h → Alike h g
@@ -44,6 +49,8 @@ alike-back g h a =
       wired = λ j. sym (a .wired j);
       out-wired = λ j. sym (a .out-wired j);
       marked = λ j. sym (a .marked j);
+      past = λ j l. sym (a .past j (rw (a .same-N) at l));
+      out-past = λ j l. sym (a .out-past j (rw (a .same-O) at l));
     }
 
 module _ (g h : Graph) (a : Alike g h) where
@@ -100,6 +107,10 @@ module _ (g h : Graph) (a : Alike g h) where
         few-outputs = rw (a .same-O) (m .few-outputs);
         long-nodes = rw (a .same-N, a .same-nodes) (m .long-nodes);
         long-outputs = rw (a .same-O, a .same-outputs) (m .long-outputs);
+        held-nodes = rw (a .same-N, held-same (h .nodes) (g .nodes) (a .same-nodes) (λ j l. a .wired j)) (m .held-nodes);
+        held-outputs = rw (a .same-O, held-same (h .outputs) (g .outputs) (a .same-outputs) (λ j l. a .out-wired j)) (m .held-outputs);
+        clean-nodes = rw (a .same-N, strays-same (3 * g .N) (h .nodes) (g .nodes) (a .past)) (m .clean-nodes);
+        clean-outputs = rw (a .same-O, strays-same (g .O) (h .outputs) (g .outputs) (a .out-past)) (m .clean-outputs);
         below = λ j l e. rw (a .same-I, a .wired j) (m .below j (rw (a .same-N) at l) (rw (alike-edge j) at e));
         output-below = λ j l. rw (a .same-I, a .same-N, a .out-wired j) (m .output-below j (rw (a .same-O) at l));
       }

@@ -8,7 +8,7 @@ use native.Mathlib.Omega.{arith}
 use lib.Dec.{ltb}
 use Rattle.graph.specs.Finite.{ifLess, ifEqual, first, firstOf}
 use Rattle.graph.specs.Graph.{Graph, isEdge}
-use Rattle.graph.specs.Admission.{roomNumber, tablesNumber, wordNumber, outputNumber, literalNumber, lockNumber, locksNumber, contentNumber, admissionNumber}
+use Rattle.graph.specs.Admission.{roomNumber, tablesNumber, wordNumber, outputNumber, strayNumber, straysNumber, literalNumber, lockNumber, locksNumber, contentNumber, admissionNumber}
 use Rattle.graph.proofs.Cases.{cond-le, eq-or-ne}
 use Rattle.graph.proofs.Tests.{equal, unequal}
 use Rattle.graph.specs.Answer.{Answer, Outcome, LockedOutcome, numberOf, IsRefusal, refused, outcome, lockedOutcome, unless, guarded, guardedLocks}
@@ -106,8 +106,11 @@ module _ (g : Graph) where
   out-le j = ifLess-le _ _ _ _ _ (omega arith) (omega arith)
 
   literal-le : literalNumber g ≤ 5
-  unfolding literalNumber
-  literal-le = first-le _ _ _ (firstOf-le _ _ _ word-le) (firstOf-le _ _ _ out-le)
+  unfolding literalNumber straysNumber strayNumber
+  literal-le =
+      first-le _ _ _
+      (first-le _ _ _ (ifLess-le _ _ _ _ _ (omega arith) (omega arith)) (ifLess-le _ _ _ _ _ (omega arith) (omega arith)))
+      (first-le _ _ _ (firstOf-le _ _ _ word-le) (firstOf-le _ _ _ out-le))
 
   module _ (ls : List ℕ) where
     pub tables-le : tablesNumber g ls ≤ 5

@@ -1,6 +1,7 @@
 -- Finite sums and tables: lengths, entries, and sums that agree but at one or two places. Assumes nothing.
 use mathlib.Core.Path.{_≡_, refl, sym, ap, _∙_}
 use mathlib.Core.Logic.{⊎-elim}
+use mathlib.Core.List.{List, [], _∷_, _++_}
 use Prim.Native.Nat.{ℕ, zero, suc, _+_, _*_, _≤_, _<_}
 use native.Mathlib.Omega.{arith}
 use native.Mathlib.Nat.{not-suc-le-zero, le-of-suc-le-suc, eq-or-lt-of-le}
@@ -52,6 +53,12 @@ pub sum-le : (f : ℕ → ℕ) → ((j : ℕ) → f j ≤ 1) → (n : ℕ) → s
 unfolding sum
 sum-le f h zero = omega arith
 sum-le f h (suc n) = omega (arith, sum-le f h n, h n)
+
+-- one entry more
+pub tab-last : (n : ℕ) (f : ℕ → ℕ) → tab (suc n) f ≡ tab n f ++ (f n ∷ [])
+unfolding tab
+tab-last zero f = refl
+tab-last (suc n) f = ap (λ (l : List ℕ). f 0 ∷ l) (tab-last n (λ j. f (suc j)))
 
 pub tab-same : (n : ℕ) (f g : ℕ → ℕ) → ((i : ℕ) → i < n → f i ≡ g i) → tab n f ≡ tab n g
 tab-same n f g h = ext-getD 0 _ _ (length-tab n f ∙ sym (length-tab n g)) (λ i k. let l : i < n = rw length-tab at k in getD-tab n f i l ∙ h i l ∙ sym (getD-tab n g i l))

@@ -12,9 +12,11 @@ use lib.ListN.{length, getD, set, length-set, List·getD-eq-default}
 use Rattle.graph.specs.Admission.{Admitted}
 use Rattle.graph.specs.Finite.{ifLess, ifEqual}
 use Rattle.graph.specs.Graph.{Graph, graphOf, mark, word, output, index, isEdge, turn}
+use Rattle.graph.specs.Literals.{held}
 use Rattle.graph.proofs.Alike.{Alike}
 use Rattle.graph.proofs.Cases.{lt-or-le, eq-or-ne, true-or-false, cond-same}
 use Rattle.graph.proofs.Finite.{length-tab, getD-tab, tab-same}
+use Rattle.graph.proofs.Literals.{held-le, held-same}
 use Rattle.graph.proofs.Tests.{less, no-less, equal, unequal}
 use Rattle.graph.proofs.Turn.{turn-half, turn-zero, turn-turn, turn-same}
 use Rattle.graph.specs.Turned.{turnedTable, turnedBy, never, only, upTo, Low}
@@ -62,6 +64,10 @@ module _ (l : List ℕ) where
   pub turned-at : (t : ℕ → ℕ) (j : ℕ) → j < length l → getD (turnedTable l t) j 0 ≡ turn (t j) (getD l j 0)
   unfolding turnedTable
   turned-at t j h = getD-tab _ _ j h
+
+  -- it holds as many literals
+  pub turned-held : (t : ℕ → ℕ) → held (turnedTable l t) ≡ held l
+  turned-held t = held-same (turnedTable l t) l (turned-length t) (λ j h. rw (turned-at t j h) (turn-half (t j) (getD l j 0)))
 
   -- a table is the turned one where its words are
   pub turned-by : (t : ℕ → ℕ) (m : List ℕ) → length m ≡ length l → ((j : ℕ) → j < length l → getD m j 0 ≡ turn (t j) (getD l j 0)) → m ≡ turnedTable l t
@@ -157,6 +163,8 @@ module _ (g : Graph) (t o : ℕ → ℕ) (adm : Admitted g) (s : Sparing g t o) 
         wired = by-wired;
         out-wired = λ j. rw (by-out j) (turn-half _ _);
         marked = by-marked;
+        past = λ j l. by-still j (s .past j l);
+        out-past = λ j l. rw (by-out j, s .out-past j l) (turn-zero _);
       }
 
 -- a sweep: the words of l below j are turned as t says
@@ -185,21 +193,24 @@ module _ (τ : ℕ → ℕ → ℕ) (l : List ℕ) where
   pub swept-length : (j : ℕ) (m : List ℕ) → SweptTo τ l j m → length m ≡ length l
   swept-length j m e = ap length e ∙ turned-length l (upTo j often)
 
+  pub swept-held : (j : ℕ) (m : List ℕ) → SweptTo τ l j m → held m ≡ held l
+  swept-held j m e = ap held e ∙ turned-held l (upTo j often)
+
   pub swept-left : (j : ℕ) (m : List ℕ) → SweptTo τ l j m → j < length l → getD m j 0 ≡ getD l j 0
   swept-left = turned-left l often
 
   -- what turning the word at place j asks
-  pub swept-turn : (n j x t : ℕ) (m : List ℕ) → j < n → n ≤ length l → Low τ n l → SweptTo τ l j m → x ≡ getD m j 0 → t ≡ τ j x → t ≤ 2
+  pub swept-turn : (n j x t : ℕ) (m : List ℕ) → j < n → n ≤ held l → Low τ n l → SweptTo τ l j m → x ≡ getD m j 0 → t ≡ τ j x → t ≤ 2
       → (t ≤ 2) × (j < length m) × ((0 < t) → index (getD m j 0) < 2147483647)
   swept-turn n j x t m h b low e r q two =
-      let k : j < length l = omega arith in
+      let k : j < length l = omega (arith, held-le l) in
       let w = swept-left j m e k in
       (two, omega (arith, swept-length j m e), (λ p. rw w (low j h (rw (q, r, w) at p))))
 
   -- what the leaves say of place j: the sweep is one place further
-  pub swept-next : (j x t : ℕ) (m k : List ℕ) → j < length l → SweptTo τ l j m → x ≡ getD m j 0 → t ≡ τ j x → k ≡ turnedTable m (only j t) → SweptTo τ l (j + 1) k
+  pub swept-next : (j x t : ℕ) (m k : List ℕ) → j < held l → SweptTo τ l j m → x ≡ getD m j 0 → t ≡ τ j x → k ≡ turnedTable m (only j t) → SweptTo τ l (j + 1) k
   swept-next j x t m k h e r q f =
-      turned-more l often j m k e (f ∙ ap (λ (y : ℕ). turnedTable m (only j y)) (q ∙ ap (λ (y : ℕ). τ j y) (r ∙ swept-left j m e h)))
+      turned-more l often j m k e (f ∙ ap (λ (y : ℕ). turnedTable m (only j y)) (q ∙ ap (λ (y : ℕ). τ j y) (r ∙ swept-left j m e (omega (arith, held-le l)))))
 
   pub swept-all : (e j : ℕ) (m : List ℕ) → j ≡ e → SweptTo τ l j m → SweptTo τ l e m
   swept-all e j m q s = rw q at s

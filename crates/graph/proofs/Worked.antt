@@ -3,11 +3,12 @@
 use mathlib.Core.Path.{_≡_, refl}
 use mathlib.Core.List.{[], _∷_}
 use Prim.Native.Nat.{ℕ}
-use Rattle.graph.specs.Finite.{ifLess, first, firstOf, sum, tab}
+use Rattle.graph.specs.Finite.{ifLess, ifEqual, first, firstOf, sum, count, tab}
 use Rattle.graph.specs.Graph.{Graph, graphOf, mark, isXor, isEdge}
 use Rattle.graph.specs.Value.{majority, exclusive, literalValue, nodeValue, values, outputValue}
 use Rattle.graph.specs.Count.{C, adds, wordAdds, nodeAdds, outputAdds}
-use Rattle.graph.specs.Admission.{roomNumber, tablesNumber, wordNumber, outputNumber, literalNumber, lockNumber, locksNumber, contentNumber, admissionNumber}
+use Rattle.graph.specs.Literals.{bitOf, held, strays}
+use Rattle.graph.specs.Admission.{roomNumber, tablesNumber, wordNumber, outputNumber, strayNumber, straysNumber, literalNumber, lockNumber, locksNumber, contentNumber, admissionNumber}
 use Rattle.graph.specs.Decimal.{decimalIn, decimal}
 
 -- one node of three words with one output
@@ -29,11 +30,11 @@ c-mark = refl
 
 -- the first node may name 7 with I = 3, and not 8, whatever its lock byte is
 pub names-7 : admissionNumber (one 3 2 4 7 8) (0 ∷ []) ≡ 0
-unfolding admissionNumber tablesNumber roomNumber contentNumber literalNumber wordNumber outputNumber locksNumber lockNumber isEdge first firstOf ifLess
+unfolding admissionNumber tablesNumber roomNumber contentNumber literalNumber wordNumber outputNumber locksNumber lockNumber isEdge first firstOf ifLess ifEqual held count sum straysNumber strayNumber strays bitOf
 names-7 = refl
 
 pub names-8 : admissionNumber (one 3 2 4 8 8) (2 ∷ []) ≡ 5
-unfolding admissionNumber tablesNumber roomNumber contentNumber literalNumber wordNumber outputNumber locksNumber lockNumber isEdge first firstOf ifLess
+unfolding admissionNumber tablesNumber roomNumber contentNumber literalNumber wordNumber outputNumber locksNumber lockNumber isEdge first firstOf ifLess ifEqual held count sum straysNumber strayNumber strays bitOf
 names-8 = refl
 
 -- 100,000 nodes are within the limits, and one more is refused before any table is looked at
@@ -47,7 +48,7 @@ nodes-100001 = refl
 
 -- a lock byte above 1 is 13, and is not looked at past the nodes; too few are 4
 pub locks-rows : (admissionNumber (one 3 2 4 7 8) (2 ∷ []) ≡ 13) × (admissionNumber (one 3 2 4 7 8) (1 ∷ 9 ∷ []) ≡ 0) × (admissionNumber (one 3 2 4 8 8) [] ≡ 4)
-unfolding admissionNumber tablesNumber roomNumber contentNumber literalNumber wordNumber outputNumber locksNumber lockNumber isEdge first firstOf ifLess
+unfolding admissionNumber tablesNumber roomNumber contentNumber literalNumber wordNumber outputNumber locksNumber lockNumber isEdge first firstOf ifLess ifEqual held count sum straysNumber strayNumber strays bitOf
 locks-rows = (refl, refl, refl)
 
 -- bit 7 to 0 of F0, CC and AA: assignment k has the inputs k / 4, k / 2 and k, and the majority is that bit of E8

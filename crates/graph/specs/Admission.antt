@@ -7,8 +7,9 @@ use Prim.Native.Nat.{ℕ, _*_, _/_, _≤_, _<_}
 use lib.ListN.{length, getD}
 use Rattle.graph.specs.Finite.{ifLess, first, firstOf}
 use Rattle.graph.specs.Graph.{Graph, node, word, output, index, isEdge}
+use Rattle.graph.specs.Literals.{held, strays}
 
--- 3: I, N or O above its limit; then 4: a lent table of so many words, or a slice of so many lock bytes, too short
+-- 3: I, N or O above its limit; then 4: a lent table that holds so many literals, or a slice of so many lock bytes, too short
 unfoldable pub roomNumber : ℕ → ℕ → ℕ → ℕ → ℕ → ℕ → ℕ
 roomNumber i n o nodeRoom outputRoom lockRoom =
     ifLess 4096 i 3
@@ -20,7 +21,7 @@ roomNumber i n o nodeRoom outputRoom lockRoom =
 
 -- the same of a graph in its tables, with the locks ls
 unfoldable pub tablesNumber : Graph → List ℕ → ℕ
-tablesNumber g ls = roomNumber (g .I) (g .N) (g .O) (length (g .nodes)) (length (g .outputs)) (length ls)
+tablesNumber g ls = roomNumber (g .I) (g .N) (g .O) (held (g .nodes)) (held (g .outputs)) (length ls)
 
 -- 5: a literal of a node names an index that is not below the node's own
 unfoldable pub wordNumber : Graph → ℕ → ℕ
@@ -30,8 +31,15 @@ wordNumber g j = cond (isEdge g j) (ifLess (index (word g j)) (node g (j / 3)) 0
 unfoldable pub outputNumber : Graph → ℕ → ℕ
 outputNumber g j = ifLess (index (output g j)) (node g (g .N)) 0 5
 
+-- 5: a bit is set past the last of n literals, in its word
+unfoldable pub strayNumber : ℕ → List ℕ → ℕ
+strayNumber n l = ifLess 0 (strays n l) 5 0
+
+unfoldable pub straysNumber : Graph → ℕ
+straysNumber g = first (strayNumber (3 * g .N) (g .nodes)) (strayNumber (g .O) (g .outputs))
+
 unfoldable pub literalNumber : Graph → ℕ
-literalNumber g = first (firstOf (3 * g .N) (wordNumber g)) (firstOf (g .O) (outputNumber g))
+literalNumber g = first (straysNumber g) (first (firstOf (3 * g .N) (wordNumber g)) (firstOf (g .O) (outputNumber g)))
 
 -- 13: a lock byte above 1; of n nodes
 unfoldable pub lockNumber : List ℕ → ℕ → ℕ
@@ -55,6 +63,10 @@ pub record Admitted (g : Graph) : Type 0 where
   pub few-outputs : g .O ≤ 4096
   pub long-nodes : 3 * g .N ≤ length (g .nodes)
   pub long-outputs : g .O ≤ length (g .outputs)
+  pub held-nodes : 3 * g .N ≤ held (g .nodes)
+  pub held-outputs : g .O ≤ held (g .outputs)
+  pub clean-nodes : strays (3 * g .N) (g .nodes) ≡ 0
+  pub clean-outputs : strays (g .O) (g .outputs) ≡ 0
   pub below : (j : ℕ) → j < 3 * g .N → isEdge g j ≡ true → index (word g j) < node g (j / 3)
   pub output-below : (j : ℕ) → j < g .O → index (output g j) < node g (g .N)
 

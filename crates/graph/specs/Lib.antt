@@ -1,5 +1,7 @@
 pub mod Finite
 pub mod Graph
+pub mod Literals
+pub mod Inner
 pub mod Turned
 pub mod Value
 pub mod Count

@@ -1,9 +1,9 @@
 ghost use mathlib.Core.Path.{_≡_};
 ghost use mathlib.Core.List.{[], _∷_};
-ghost use Rattle.graph.specs.Graph.{graphOf};
 ghost use Rattle.graph.specs.Count.{C};
 ghost use Rattle.graph.specs.Admission.{admissionNumber};
 ghost use Rattle.graph.specs.Answer.{accepted, unless, admissionAnswer, countAnswer};
+ghost use Rattle.graph.specs.Literals.{graphIn};
 
 pub mod decimal;
 pub mod edges;
@@ -50,12 +50,23 @@ pub fn admit_graph(
     nodes: u32,
     outputs: u32,
     node_table: &[u32],
+    node_bits: &[u64],
     output_table: &[u32],
+    output_bits: &[u64],
     locks: &[u8],
 ) -> Admission
-    ensures { λ r. ⌜ admissionAnswer r ≡ unless (admissionNumber (graphOf inputs nodes outputs (now («node_table» .entry)) (now («output_table» .entry))) (now (locks .entry))) (accepted []) ⌝ }
+    ensures { λ r. ⌜ admissionAnswer r ≡ unless (admissionNumber (graphIn inputs nodes outputs (now («node_table» .entry)) (now («node_bits» .entry)) (now («output_table» .entry)) (now («output_bits» .entry))) (now (locks .entry))) (accepted []) ⌝ }
 {
-    let k = faults::admission_number(inputs, nodes, outputs, node_table, output_table, locks);
+    let k = faults::admission_number(
+        inputs,
+        nodes,
+        outputs,
+        node_table,
+        node_bits,
+        output_table,
+        output_bits,
+        locks,
+    );
     if k != 0 {
         return Admission::Refused(faults::refused_by(k));
     }
@@ -68,14 +79,33 @@ pub fn complemented_edges(
     nodes: u32,
     outputs: u32,
     node_table: &[u32],
+    node_bits: &[u64],
     output_table: &[u32],
+    output_bits: &[u64],
     locks: &[u8],
 ) -> Count
-    ensures { λ r. ⌜ countAnswer r ≡ unless (admissionNumber (graphOf inputs nodes outputs (now («node_table» .entry)) (now («output_table» .entry))) (now (locks .entry))) (accepted (C (graphOf inputs nodes outputs (now («node_table» .entry)) (now («output_table» .entry))) ∷ [])) ⌝ }
+    ensures { λ r. ⌜ countAnswer r ≡ unless (admissionNumber (graphIn inputs nodes outputs (now («node_table» .entry)) (now («node_bits» .entry)) (now («output_table» .entry)) (now («output_bits» .entry))) (now (locks .entry))) (accepted (C (graphIn inputs nodes outputs (now («node_table» .entry)) (now («node_bits» .entry)) (now («output_table» .entry)) (now («output_bits» .entry))) ∷ [])) ⌝ }
 {
-    let k = faults::admission_number(inputs, nodes, outputs, node_table, output_table, locks);
+    let k = faults::admission_number(
+        inputs,
+        nodes,
+        outputs,
+        node_table,
+        node_bits,
+        output_table,
+        output_bits,
+        locks,
+    );
     if k != 0 {
         return Count::Refused(faults::refused_by(k));
     }
-    Count::Edges(edges::complemented(inputs, nodes, outputs, node_table, output_table))
+    Count::Edges(edges::complemented(
+        inputs,
+        nodes,
+        outputs,
+        node_table,
+        node_bits,
+        output_table,
+        output_bits,
+    ))
 }

@@ -3,13 +3,14 @@ use mathlib.Core.Path.{sym, _∙_}
 use borrow.Author.Needs.{needs}
 use Rattle.graph.specs.Graph.{Graph, graphOf}
 use Rattle.graph.proofs.Answers.{refused-is, accepted-is, admission-range}
+use Rattle.graph.specs.Literals.{literals}
 use Rattle.graph.proofs.admit_graph.Statement.{statement}
 use Rattle.graph.proofs.admit_graph.Tie as tie
 
 refused-by-requires : tie.Need-refused-by-requires
 refused-by-requires c κs =
-    let a = c .before .before .before .before .before .args in
-    let g : Graph = graphOf (a .inputs) (a .nodes) (a .outputs) (a .node-table .now) (a .output-table .now) in
+    let a = c .before .before .before .before .before .before .before .args in
+    let g : Graph = graphOf (a .inputs) (a .nodes) (a .outputs) (literals (a .node-table .now) (a .node-bits .now)) (literals (a .output-table .now) (a .output-bits .now)) in
     admission-range g (a .locks .now) _ (c .before .admission-number .ensures) (c .if1 .taken)
 
 returns : tie.Need-returns

@@ -7,13 +7,14 @@ use Rattle.graph.specs.Graph.{Graph, graphOf}
 use Rattle.graph.specs.Answer.{accepted}
 use Rattle.graph.proofs.Admit.{admitted}
 use Rattle.graph.proofs.Answers.{refused-is, accepted-is, admission-range}
+use Rattle.graph.specs.Literals.{literals}
 use Rattle.graph.proofs.complemented_edges.Statement.{statement}
 use Rattle.graph.proofs.complemented_edges.Tie as tie
 
 refused-by-requires : tie.Need-refused-by-requires
 refused-by-requires c κs =
-    let a = c .before .before .before .before .before .args in
-    let g : Graph = graphOf (a .inputs) (a .nodes) (a .outputs) (a .node-table .now) (a .output-table .now) in
+    let a = c .before .before .before .before .before .before .before .args in
+    let g : Graph = graphOf (a .inputs) (a .nodes) (a .outputs) (literals (a .node-table .now) (a .node-bits .now)) (literals (a .output-table .now) (a .output-bits .now)) in
     admission-range g (a .locks .now) _ (c .before .admission-number .ensures) (c .if1 .taken)
 
 returns : tie.Need-returns

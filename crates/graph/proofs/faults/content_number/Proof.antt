@@ -3,16 +3,17 @@ use mathlib.Core.Path.{_∙_}
 use borrow.Author.Needs.{needs}
 use Rattle.graph.specs.Admission.{contentNumber}
 use Rattle.graph.proofs.Admit.{tables-are}
+use Rattle.graph.specs.Literals.{literals}
 use Rattle.graph.proofs.faults.content_number.Statement.{statement}
 use Rattle.graph.proofs.faults.content_number.Tie as tie
 
 literal-number-requires : tie.Need-literal-number-requires
 literal-number-requires c κs =
-    let r = tables-are _ _ (c .before .before .before .pre) in
-    (r .few-inputs, r .few-nodes, r .long-nodes, r .long-outputs)
+    let r = tables-are _ _ (c .before .before .before .before .before .pre) in
+    (r .few-inputs, r .few-nodes, r .few-outputs, r .long-nodes, r .long-outputs)
 
 locks-number-requires : tie.Need-locks-number-requires
-locks-number-requires c κs = tables-are _ _ (c .before .before .before .before .pre) .enough-locks
+locks-number-requires c κs = tables-are _ _ (c .before .before .before .before .before .before .pre) .enough-locks
 
 returns : tie.Need-returns
 unfolding contentNumber

@@ -1,34 +1,41 @@
--- `literal_number` meets its contract: the node table's first fault, else the output table's. From its callees' contracts.
-use mathlib.Core.Path.{sym, _∙_}
-use Rattle.graph.specs.Admission.{literalNumber}
-use Rattle.graph.proofs.Tests.{fault, none}
+-- `literal_number` meets its contract: the first fault of stray bits and literals. From its callees' contracts.
+use mathlib.Core.Path.{_∙_}
+use native.Mathlib.Omega.{arith}
+use borrow.Author.Needs.{needs}
+use Rattle.graph.specs.Admission.{straysNumber, literalNumber}
+use Rattle.graph.specs.Literals.{literals}
+use Rattle.graph.proofs.Literals.{held-literals}
 use Rattle.graph.proofs.faults.literal_number.Statement.{statement}
 use Rattle.graph.proofs.faults.literal_number.Tie as tie
 
-nodes-number-requires : tie.Need-nodes-number-requires
-nodes-number-requires c κs =
-    let p = c .before .before .pre in
-    (p .0, p .1, p .2)
+stray-number-requires : tie.Need-stray-number-requires
+stray-number-requires c κs =
+    let s = c .before .before .before .before in
+    let a = s .args in
+    omega (arith, s .pre .3, held-literals (a .node-table .now) (a .node-bits .now))
+
+stray-number-requires-2 : tie.Need-stray-number-requires-2
+stray-number-requires-2 c κs =
+    let s = c .before .before .before .before .before in
+    let a = s .args in
+    omega (arith, s .pre .4, held-literals (a .output-table .now) (a .output-bits .now))
 
 returns : tie.Need-returns
-unfolding literalNumber
+unfolding literalNumber straysNumber
 returns c =
-    let a = c .before .before .before .before .args in
-    let e = c .before .nodes-number .ensures (a .outputs) (a .output-table .now) in
-    fault _ _ e (λ z. c .if1 .taken (e ∙ z))
-
-outputs-number-requires : tie.Need-outputs-number-requires
-outputs-number-requires c κs =
-    let p = c .before .before .before .before .pre in
-    (p .0, p .1, p .3)
-
-returns-2 : tie.Need-returns-2
-unfolding literalNumber
-returns-2 c =
-    let a = c .before .before .before .before .before .args in
-    let e = c .before .before .nodes-number .ensures (a .outputs) (a .output-table .now) in
-    none _ _ (sym e ∙ c .before .if1 .left) (c .outputs-number .ensures (a .node-table .now))
+    let f = c .before .before in
+    let a = f .before .before .before .before .before .before .before .args in
+    c .first-fault2 .ensures
+    ∙ rw (c .before .words-number .ensures, f .first-fault .ensures, f .before .stray-number2 .ensures (a .output-table .now), f .before .before .stray-number .ensures (a .node-table .now))
 
 pub literal-number-spec : {M : Type 1} → statement M
 literal-number-spec =
-    tie.close (tie.spec nodes-number-requires returns outputs-number-requires returns-2)
+    tie.close
+    (tie.spec
+    (λ c. search needs)
+    stray-number-requires
+    stray-number-requires-2
+    (λ c κs. search needs)
+    (λ c κs. search needs)
+    (λ c κs. search needs)
+    returns)

@@ -1,63 +1,39 @@
--- `outputs_number` meets its contract: no fault among the outputs passed. From the laws on first faults.
-use mathlib.Core.Path.{_≡_, refl, sym, ap, _∙_}
-use mathlib.Core.List.{List}
-use Prim.Native.Nat.{ℕ, _+_, _-_, _≤_}
+-- `outputs_number` meets its contract: 5 where an output is at fault. From the law of counted faults.
+use mathlib.Core.Path.{_≡_, sym, ap, _∙_}
+use Prim.Native.Nat.{ℕ, _+_}
 use native.Mathlib.Omega.{arith}
 use borrow.Author.Needs.{needs}
-use Rattle.graph.specs.Finite.{firstOf}
-use Rattle.graph.specs.Graph.{Graph, graphOf}
+use Rattle.graph.specs.Inner.{overAt}
+use Rattle.graph.specs.Literals.{literals}
+use Rattle.graph.specs.Graph.{graphOf}
 use Rattle.graph.specs.Admission.{outputNumber}
-use Rattle.graph.proofs.Steps.{out-next, stays}
+use Rattle.graph.proofs.Checked.{counted-first, over-five}
+use Rattle.graph.proofs.Literals.{held-literals}
 use Rattle.graph.proofs.faults.outputs_number.Statement.{statement}
 use Rattle.graph.proofs.faults.outputs_number.Tie as tie
 
-abbrev Inv-loop : tie.InvT-loop
-Inv-loop inputs nodes outputs output-table end j₀ j = (j ≤ outputs) × (end ≡ inputs + 1 + nodes) × ((ns : List ℕ) → firstOf j (outputNumber (graphOf inputs nodes outputs ns output-table)) ≡ 0)
+high-outputs-requires : tie.Need-high-outputs-requires
+high-outputs-requires c κs = let a = c .before .before .args in omega (arith, held-literals (a .output-table .now) (a .output-bits .now))
 
-abbrev μ-loop : tie.MeasureT-loop
-μ-loop inputs nodes outputs output-table end j₀ j = outputs - j
-
-loop-holds : tie.Need-loop-holds Inv-loop μ-loop
-unfolding firstOf
-loop-holds c = (omega arith, refl, (λ ns. refl))
-
-returns : tie.Need-returns Inv-loop μ-loop
+returns : tie.Need-returns
+unfolding outputNumber
 returns c ns =
-    let w = c .before .before in
-    let l = w .before .before in
-    let a = l .before .before .args in
-    let g : Graph = graphOf (a .inputs) (a .nodes) (a .outputs) ns (a .output-table .now) in
-    let e = out-next g (l .loop .j) _ _ (l .loop .inv .2 ns) (w .word-at .ensures) (rw (l .loop .inv .1) at (c .before .below-number .ensures)) in
-    e ∙ sym (stays (l .loop .j + 1) (a .outputs) (outputNumber g) (λ z. c .if1 .taken (e ∙ z)) (omega arith))
-
-loop-again : tie.Need-loop-again Inv-loop μ-loop
-loop-again c =
-    let w = c .before .before in
-    let l = w .before .before in
-    let a = l .before .before .args in
-    (omega arith, l .loop .inv .1, (λ ns. sym (out-next (graphOf (a .inputs) (a .nodes) (a .outputs) ns (a .output-table .now)) (l .loop .j) _ _ (l .loop .inv .2 ns) (w .word-at .ensures) (rw (l .loop .inv .1) at (c .before .below-number .ensures))) ∙ c .if1 .left))
-
-returns-2 : tie.Need-returns-2 Inv-loop μ-loop
-returns-2 c ns =
-    let l = c .before in
-    let a = l .before .before .args in
-    let g : Graph = graphOf (a .inputs) (a .nodes) (a .outputs) ns (a .output-table .now) in
-    let e : l .loop .j ≡ a .outputs = omega arith in
-    sym (l .loop .inv .2 ns) ∙ ap (λ (n : ℕ). firstOf n (outputNumber g)) e
+    let s = c .before .before .before .before in
+    let a = s .args in
+    let us = a .output-table .now in
+    let bs = a .output-bits .now in
+    let e : a .inputs + 1 + a .nodes ≡ a .inputs + a .nodes + 1 = omega arith in
+    let end = a .inputs + a .nodes + 1 in
+    c .if-any .ensures
+    ∙ rw (c .before .high-outputs .ensures)
+    (sym (counted-first (a .outputs) (outputNumber (graphOf (a .inputs) (a .nodes) (a .outputs) ns (literals us bs))) (overAt end us)
+    (λ j h. rw e (over-five us bs j (omega (arith, s .pre .3)) end (omega (arith, s .pre .0, s .pre .1))))))
 
 pub outputs-number-spec : {M : Type 1} → statement M
 outputs-number-spec =
     tie.close
     (tie.spec
-    Inv-loop
-    μ-loop
-    (λ c. omega arith)
-    (λ c. omega arith)
-    loop-holds
-    (λ c κs. omega arith)
+    (λ c. search needs)
+    high-outputs-requires
     (λ c κs. search needs)
-    returns
-    (λ c. omega arith)
-    (λ c. omega arith)
-    loop-again
-    returns-2)
+    returns)
