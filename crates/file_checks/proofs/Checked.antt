@@ -4,14 +4,16 @@ use mathlib.Core.Path.{_≡_, refl, sym, ap, _∙_}
 use mathlib.Core.List.{List, [], _∷_}
 use native.Mathlib.Omega.{arith}
 use native.Mathlib.Nat.{eq-or-lt-of-le}
-use mathlib.Core.Logic.{⊎-elim}
+use mathlib.Core.Logic.{⊎-elim, _≢_}
 use lib.ListN.{length, getD, take, drop, length-drop}
 use lib.Seq.{take-all}
 use Rattle.graph.proofs.Admit.{Rooms, rooms}
-use Rattle.graph.proofs.Tests.{equal, unequal, off, on, is, both}
+use Rattle.graph.proofs.Cases.{eq-or-ne}
+use Rattle.graph.proofs.Tests.{less, equal, unequal, off, on, is, both}
 use Rattle.file_checks.specs.Walk.{NodeRoom, LockRoom}
-use Rattle.graph.specs.Finite.{ifEqual, first}
-use Rattle.file_checks.specs.File.{be2, be4, payloadOf, dueNumber, nodeSize, headNumber, nodeFieldNumber, outputFieldNumber, lockFieldNumber, endNumber, locksWithin, lockCount, lockFieldsNumber, outputFieldsNumber, nodeFieldsNumber}
+use Rattle.graph.specs.Finite.{ifLess, ifEqual, first}
+use Rattle.graph.specs.Graph.{mark, index}
+use Rattle.file_checks.specs.File.{be2, be4, payloadOf, dueNumber, nodeSize, third, headNumber, nodeFieldNumber, outputFieldNumber, lockFieldNumber, endNumber, locksWithin, lockCount, lockFieldsNumber, outputFieldsNumber, nodeFieldsNumber}
 
 -- what an accepted field has
 pub record Due (low high : ℕ) (s : List ℕ) : Type 0 where
@@ -136,9 +138,46 @@ unfolding nodeSize
 node-room s e =
     let d = due-is 2 3 s e in
     ⊎-elim
-    (λ q. let z = size-at (getD s 0 0) 2 12 payload-two (sym q) in record { two = omega arith; whole = omega arith; three = λ n. omega arith })
-    (λ q. let z = size-at (getD s 0 0) 3 8 payload-three (omega arith) in record { two = omega arith; whole = omega arith; three = λ n. absurd (n (omega arith)) })
+    (λ q.
+    let z = size-at (getD s 0 0) 2 12 payload-two (sym q) in
+    record { two = omega arith; whole = omega arith; size = unequal (getD s 0 0) 3 11 15 (λ t. omega arith) (omega arith) })
+    (λ q.
+    let z = size-at (getD s 0 0) 3 8 payload-three (omega arith) in
+    record { two = omega arith; whole = omega arith; size = equal (getD s 0 0) 3 11 15 (omega arith) (omega arith) })
     (eq-or-lt-of-le (d .least))
+
+-- its size, by its kind
+module _ (s : List ℕ) (r : NodeRoom s) where
+  pub size-xor : getD s 0 0 ≡ 3 → nodeSize s ≡ 11
+  size-xor e = r .size ∙ sym (equal (getD s 0 0) 3 11 15 e refl)
+
+  pub size-majority : (getD s 0 0 ≡ 3 → ⊥) → nodeSize s ≡ 15
+  size-majority n = r .size ∙ sym (unequal (getD s 0 0) 3 11 15 n refl)
+
+-- the number that it ends with, from place `at` on: an XOR's second
+module _ (s : List ℕ) (at : ℕ) (e : at ≡ ifEqual (getD s 0 0) 3 7 11) where
+  ends-xor : getD s 0 0 ≡ 3 → at ≡ 7
+  ends-xor t = e ∙ sym (equal (getD s 0 0) 3 7 11 t refl)
+
+  ends-majority : getD s 0 0 ≢ 3 → at ≡ 11
+  ends-majority n = e ∙ sym (unequal (getD s 0 0) 3 7 11 n refl)
+
+  pub third-last : ifEqual (getD s 0 0) 3 mark (be4 s at) ≡ third s
+  unfolding third
+  third-last =
+      ⊎-elim
+      (λ (t : getD s 0 0 ≡ 3). sym (equal (getD s 0 0) 3 mark (be4 s at) t refl) ∙ equal (getD s 0 0) 3 mark (be4 s 11) t refl)
+      (λ (n : getD s 0 0 ≢ 3). rw (ends-majority n))
+      (eq-or-ne (getD s 0 0) 3)
+
+pub last-below : (s : List ℕ) (v at : ℕ) → at ≡ ifEqual (getD s 0 0) 3 7 11 → index (be4 s 7) < v
+    → _≡_ {A = ℕ} (ifLess (index (be4 s at)) v 0 5) (ifEqual (getD s 0 0) 3 0 (ifLess (index (be4 s 11)) v 0 5))
+last-below s v at e h =
+    ⊎-elim
+    (λ (t : getD s 0 0 ≡ 3).
+    equal (getD s 0 0) 3 0 (ifLess (index (be4 s 11)) v 0 5) t (rw (ends-xor s at e t) (sym (less (index (be4 s 7)) v 0 5 h refl))))
+    (λ (n : getD s 0 0 ≢ 3). unequal (getD s 0 0) 3 0 (ifLess (index (be4 s 11)) v 0 5) n (rw (ends-majority s at e n)))
+    (eq-or-ne (getD s 0 0) 3)
 
 pub out-passed : (s : List ℕ) (i : ℕ) → outputFieldNumber s i ≡ 0 → 7 ≤ length s
 unfolding outputFieldNumber

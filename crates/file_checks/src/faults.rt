@@ -35,10 +35,7 @@ pub fn node_number(s: &[u8], index: u32) -> u32
     if index <= bytes::four(s, 7) / 2 {
         return 5;
     }
-    if s[0] == 3 {
-        return 0;
-    }
-    if index <= bytes::four(s, 11) / 2 {
+    if index <= bytes::four(s, fields::last_place(s)) / 2 {
         return 5;
     }
     0

@@ -1,7 +1,9 @@
 // One field, at the front of the bytes that are left.
 ghost use mathlib.Core.Path.{_≡_};
-ghost use Prim.Native.Nat.{_≤_, _<_};
+ghost use Prim.Native.Nat.{_+_, _≤_};
 ghost use lib.ListN.{length, getD};
+ghost use Rattle.graph.specs.Finite.{ifEqual};
+ghost use Rattle.graph.specs.Graph.{mark};
 ghost use Rattle.file_checks.specs.File.{payloadOf, dueNumber, nodeSize, third};
 ghost use Rattle.file_checks.specs.Walk.{NodeRoom};
 use crate::bytes;
@@ -56,20 +58,41 @@ pub fn due(s: &[u8], low: u8, high: u8) -> u32
     0
 }
 
+// Whether a node's field is an XOR's decides how long it is and where its last number stands: by picking, since a jump on the kind cannot be
+// foreseen.
 pub fn node_size(s: &[u8]) -> usize
-    requires { ⌜ 0 < length (now s) ⌝ }
-    ensures { λ r. ⌜ (r ≡ nodeSize (now (s .entry))) × (r ≤ 65539) ⌝ }
+    requires { ⌜ NodeRoom (now s) ⌝ }
+    ensures { λ r. ⌜ (r ≡ nodeSize (now (s .entry))) × (r ≤ 15) ⌝ }
 {
-    3 + payload(s[0]) as usize
+    if s[0] == 3 {
+        return 11;
+    }
+    15
+}
+
+pub fn last_place(s: &[u8]) -> usize
+    requires { ⌜ NodeRoom (now s) ⌝ }
+    ensures { λ r. ⌜ (r ≡ ifEqual (getD (now (s .entry)) 0 0) 3 7 11) × (r + 4 ≤ length (now (s .entry))) ⌝ }
+{
+    if s[0] == 3 {
+        return 7;
+    }
+    11
+}
+
+// The number x, or the mark where the tag is an XOR's.
+pub fn unless_xor(tag: u8, x: u32) -> u32
+    ensures { λ r. ⌜ r ≡ ifEqual tag 3 mark x ⌝ }
+{
+    if tag == 3 {
+        return MARK;
+    }
+    x
 }
 
 pub fn third_word(s: &[u8]) -> u32
     requires { ⌜ NodeRoom (now s) ⌝ }
     ensures { λ r. ⌜ r ≡ third (now (s .entry)) ⌝ }
 {
-    let tag = s[0];
-    if tag == 3 {
-        return MARK;
-    }
-    bytes::four(s, 11)
+    unless_xor(s[0], bytes::four(s, last_place(s)))
 }

@@ -1,16 +1,17 @@
--- The fill pass: what its loops keep, and what that comes to at the end. From the laws on runs of stores.
+-- The fill pass: what its loops keep, and what that comes to at the end. From the laws of a table that is filled.
 use Prim.Native.Nat.{ℕ, zero, suc, _+_, _*_, _-_, _<_, _≤_}
 use mathlib.Core.Path.{_≡_, refl, _∙_}
-use mathlib.Core.List.{List, _++_}
+use mathlib.Core.List.{List, [], _∷_}
 use native.Mathlib.Omega.{arith}
 use lib.ListN.{length, getD, drop, set, length-set}
-use lib.Seq.{sets}
-use Rattle.tagged_file.proofs.Stores.{front}
+use Rattle.graph.specs.Inner.{wordPut, wordsPut}
+use Rattle.graph.specs.Literals.{filled}
+use Rattle.graph.proofs.Filled.{all-filled}
 use Rattle.file_checks.specs.File.{be4, third, nodeSize, nodeWords, singleWords, afterNodes, afterSingles, lockCount, lockIndices}
 use Rattle.file_checks.proofs.Checked.{lock-there}
 use Rattle.tagged_file.specs.Inner.{lockedAt}
 use Rattle.tagged_file.proofs.Named.{indices-more, indices-none}
-use Rattle.file_checks.specs.Walk.{NodeRoom, Nodes, Singles, LockRoom, Locks}
+use Rattle.file_checks.specs.Walk.{NodeThere, Nodes, OutputThere, Outputs, LockRoom, Locks}
 
 pub length-nodeWords : (n : ℕ) (s : List ℕ) → length (nodeWords n s) ≡ 3 * n
 length-nodeWords zero s = refl
@@ -20,70 +21,61 @@ pub length-singleWords : (n : ℕ) (s : List ℕ) → length (singleWords n s) �
 length-singleWords zero s = refl
 length-singleWords (suc n) s = omega (arith, length-singleWords n (drop 7 s))
 
+-- the words of the nodes that are left, put where they go, come to the whole
 pub record NodesLeft (n : ℕ) (bytes t₀ t s : List ℕ) (at left : ℕ) : Type 0 where
   pub room : Nodes left s
-  pub fits : at + 3 * left ≤ length t
-  pub same : length t ≡ length t₀
-  pub words : sets t at (nodeWords left s) ≡ sets t₀ 0 (nodeWords n bytes)
+  pub counted : at + 3 * left ≡ 3 * n
+  pub words : wordsPut at (nodeWords left s) t ≡ wordsPut 0 (nodeWords n bytes) t₀
   pub after : afterNodes left s ≡ afterNodes n bytes
 
 module _ (n : ℕ) (bytes t₀ t s : List ℕ) (at : ℕ) where
-  pub nodes-left-room : (left : ℕ) → 0 < left → NodesLeft n bytes t₀ t s at left → NodeRoom s
-  nodes-left-room zero h i = absurd (omega arith)
-  nodes-left-room (suc left) h i = i .room .0
+  pub nodes-left-there : (left : ℕ) → 0 < left → NodesLeft n bytes t₀ t s at left → NodeThere s
+  nodes-left-there zero h i = absurd (omega arith)
+  nodes-left-there (suc left) h i = i .room .0
 
-  pub nodes-left-more : (left : ℕ) → 0 < left → NodesLeft n bytes t₀ t s at left → (s′ t₁ t₂ t₃ : List ℕ) (x y z : ℕ) → s′ ≡ drop (nodeSize s) s
-      → x ≡ be4 s 3 → y ≡ be4 s 7 → z ≡ third s → t₁ ≡ set t at x → t₂ ≡ set t₁ (at + 1) y → t₃ ≡ set t₂ (at + 2) z → NodesLeft n bytes t₀ t₃ s′ (at + 3) (left - 1)
-  nodes-left-more zero h i s′ t₁ t₂ t₃ x y z es ex ey ez e₁ e₂ e₃ = absurd (omega arith)
-  nodes-left-more (suc left) h i s′ t₁ t₂ t₃ x y z es ex ey ez e₁ e₂ e₃ =
+  pub nodes-left-more : (left : ℕ) → 0 < left → NodesLeft n bytes t₀ t s at left → (s′ t′ : List ℕ) → s′ ≡ drop (nodeSize s) s
+      → t′ ≡ wordsPut at (be4 s 3 ∷ be4 s 7 ∷ third s ∷ []) t → NodesLeft n bytes t₀ t′ s′ (at + 3) (left - 1)
+  nodes-left-more zero h i s′ t′ es et = absurd (omega arith)
+  nodes-left-more (suc left) h i s′ t′ es et =
       let e : suc left - 1 ≡ left = omega arith in
-      let q₁ : at + 1 ≡ suc at = omega arith in
-      let q₂ : at + 2 ≡ suc (suc at) = omega arith in
-      let q₃ : at + 3 ≡ suc (suc (suc at)) = omega arith in
-      let d : length t₃ ≡ length t = rw (e₃, e₂, e₁, length-set, length-set, length-set) in
+      let q : at + 3 ≡ suc (suc (suc at)) = omega arith in
       record {
         room = rw (e, es) (i .room .1);
-        fits = omega (arith, i .fits);
-        same = d ∙ i .same;
-        words = rw (e, es, e₃, e₂, e₁, ex, ey, ez, q₁, q₂, q₃) (i .words);
+        counted = omega (arith, i .counted);
+        words = rw (e, es, et, q) (i .words);
         after = rw (e, es) (i .after);
       }
 
-  pub nodes-left-none : (left : ℕ) → left ≤ 0 → 3 * n ≤ length t₀ → NodesLeft n bytes t₀ t s at left
-      → (s ≡ afterNodes n bytes) × (t ≡ nodeWords n bytes ++ drop (3 * n) t₀)
-  nodes-left-none zero h f i = (i .after, i .words ∙ front (nodeWords n bytes) t₀ (3 * n) (length-nodeWords n bytes) f)
+  pub nodes-left-none : (left : ℕ) → left ≤ 0 → 3 * n ≤ length t₀ → NodesLeft n bytes t₀ t s at left → (s ≡ afterNodes n bytes) × (t ≡ filled (nodeWords n bytes) t₀)
+  nodes-left-none zero h f i = (i .after, i .words ∙ all-filled (nodeWords n bytes) t₀ (rw (length-nodeWords n bytes) f))
   nodes-left-none (suc left) h f i = absurd (omega arith)
 
 pub record OutputsLeft (n : ℕ) (bytes t₀ t s : List ℕ) (at left : ℕ) : Type 0 where
-  pub room : Singles left s
-  pub fits : at + left ≤ length t
-  pub same : length t ≡ length t₀
-  pub words : sets t at (singleWords left s) ≡ sets t₀ 0 (singleWords n bytes)
+  pub room : Outputs left s
+  pub counted : at + left ≡ n
+  pub words : wordsPut at (singleWords left s) t ≡ wordsPut 0 (singleWords n bytes) t₀
   pub after : afterSingles left s ≡ afterSingles n bytes
 
 module _ (n : ℕ) (bytes t₀ t s : List ℕ) (at : ℕ) where
-  pub outputs-left-room : (left : ℕ) → 0 < left → OutputsLeft n bytes t₀ t s at left → 7 ≤ length s
-  outputs-left-room zero h i = absurd (omega arith)
-  outputs-left-room (suc left) h i = i .room .0
+  pub outputs-left-there : (left : ℕ) → 0 < left → OutputsLeft n bytes t₀ t s at left → OutputThere s
+  outputs-left-there zero h i = absurd (omega arith)
+  outputs-left-there (suc left) h i = i .room .0
 
-  pub outputs-left-more : (left : ℕ) → 0 < left → OutputsLeft n bytes t₀ t s at left → (s′ t₁ : List ℕ) (x : ℕ) → s′ ≡ drop 7 s → x ≡ be4 s 3 → t₁ ≡ set t at x
-      → OutputsLeft n bytes t₀ t₁ s′ (at + 1) (left - 1)
-  outputs-left-more zero h i s′ t₁ x es ex e₁ = absurd (omega arith)
-  outputs-left-more (suc left) h i s′ t₁ x es ex e₁ =
+  pub outputs-left-more : (left : ℕ) → 0 < left → OutputsLeft n bytes t₀ t s at left → (s′ t′ : List ℕ) → s′ ≡ drop 7 s → t′ ≡ wordPut at (be4 s 3) t
+      → OutputsLeft n bytes t₀ t′ s′ (at + 1) (left - 1)
+  outputs-left-more zero h i s′ t′ es et = absurd (omega arith)
+  outputs-left-more (suc left) h i s′ t′ es et =
       let e : suc left - 1 ≡ left = omega arith in
-      let q₁ : at + 1 ≡ suc at = omega arith in
-      let d : length t₁ ≡ length t = rw (e₁, length-set) in
+      let q : at + 1 ≡ suc at = omega arith in
       record {
         room = rw (e, es) (i .room .1);
-        fits = omega (arith, i .fits);
-        same = d ∙ i .same;
-        words = rw (e, es, e₁, ex, q₁) (i .words);
+        counted = omega (arith, i .counted);
+        words = rw (e, es, et, q) (i .words);
         after = rw (e, es) (i .after);
       }
 
-  pub outputs-left-none : (left : ℕ) → left ≤ 0 → n ≤ length t₀ → OutputsLeft n bytes t₀ t s at left
-      → (s ≡ afterSingles n bytes) × (t ≡ singleWords n bytes ++ drop n t₀)
-  outputs-left-none zero h f i = (i .after, i .words ∙ front (singleWords n bytes) t₀ n (length-singleWords n bytes) f)
+  pub outputs-left-none : (left : ℕ) → left ≤ 0 → n ≤ length t₀ → OutputsLeft n bytes t₀ t s at left → (s ≡ afterSingles n bytes) × (t ≡ filled (singleWords n bytes) t₀)
+  outputs-left-none zero h f i = (i .after, i .words ∙ all-filled (singleWords n bytes) t₀ (rw (length-singleWords n bytes) f))
   outputs-left-none (suc left) h f i = absurd (omega arith)
 
 -- the locks that are left are set in t

@@ -7,17 +7,21 @@
 use Prim.Native.Nat.{ℕ, zero, suc, _+_, _*_, _/_, _%_, _<_, _≤_}
 use mathlib.Core.Path.{_≡_, refl, sym, ap, _∙_}
 use mathlib.Core.Bool.{true, false}
+use mathlib.Core.Logic.{⊎-elim}
 use mathlib.Core.List.{List, [], _∷_, _++_}
 use native.Mathlib.Omega.{arith}
 use borrow.Author.Tests.{eq-eqb}
 use lib.Seq.{ext-getD, length-take-le, getD-take}
 use lib.ListN.{length, getD, take, drop, length-append, List·getD-append}
+use Rattle.graph.specs.Literals.{held, filled}
+use Rattle.graph.proofs.Filled.{length-filled, filled-in, held-filled, strays-filled}
 use Rattle.graph.specs.Finite.{tab}
-use Rattle.graph.specs.Graph.{Graph, graphOf, mark, word, output, isEdge}
+use Rattle.graph.specs.Graph.{Graph, graphOf, mark, node, word, output, isEdge}
 use Rattle.graph.specs.Admission.{Admitted, LockBytes}
 use Rattle.graph.specs.Answer.{lockedOutcome, accepted}
 use Rattle.graph.proofs.Admit.{Rooms}
-use Rattle.graph.proofs.Edge.{edge-early, edge-third}
+use Rattle.graph.proofs.Cases.{true-or-false}
+use Rattle.graph.proofs.Edge.{edge-early, edge-third, edge-none}
 use Rattle.graph.proofs.Finite.{length-tab, getD-tab}
 use Rattle.graph.proofs.Tests.{both, none}
 use Rattle.graph.proofs.Answers.{accepted-locked}
@@ -42,7 +46,7 @@ abbrev pub Accepts : List ℕ → List ℕ → List ℕ → List ℕ → Type 0
 Accepts s ns os ls = loadCall s ns os ls .answer .number ≡ 0
 
 module _ (s ns os ls : List ℕ) where
-  pub no-fault : Accepts s ns os ls → fileNumber s (length ns) (length os) (length ls) ≡ 0
+  pub no-fault : Accepts s ns os ls → fileNumber s (held ns) (held os) (length ls) ≡ 0
   unfolding loadCall
   no-fault e = sym (guarded-number _ _ _ _ refl) ∙ e
 
@@ -57,15 +61,23 @@ edge-not g j t q m =
     let z : _≡_ {A = ℕ} 0 1 = cc in
     omega arith
 
+-- words that name indices in order fit
+pub short : (g : Graph) → g .I ≤ 4096 → g .N ≤ 100000 → ((j : ℕ) → j < 3 * g .N → isEdge g j ≡ true → word g j / 2 < node g (j / 3)) → (j : ℕ) → j < 3 * g .N → word g j < 1099511627776
+short g a b f j h =
+    ⊎-elim
+    (λ (e : isEdge g j ≡ true). omega (arith, a, b, f j h e))
+    (λ (e : isEdge g j ≡ false). omega (arith, edge-none g j e .1))
+    (true-or-false (isEdge g j))
+
 -- the words of the graph read, in its tables, and its lock bytes
 module _ (s ns os ls : List ℕ) where
   read-word : (j : ℕ) → j < 3 * be4 s 7 → word (graphRead s ns os) j ≡ getD (nodeWords (be4 s 7) (drop 15 s)) j 0
   unfolding graphRead
-  read-word j h = List·getD-append (nodeWords (be4 s 7) (drop 15 s)) _ 0 j (rw (length-nodeWords (be4 s 7) (drop 15 s)) h)
+  read-word j h = filled-in (nodeWords (be4 s 7) (drop 15 s)) ns j (rw (length-nodeWords (be4 s 7) (drop 15 s)) h)
 
   read-out : (j : ℕ) → j < be4 s 11 → output (graphRead s ns os) j ≡ getD (singleWords (be4 s 11) (afterNodes (be4 s 7) (drop 15 s))) j 0
   unfolding graphRead
-  read-out j h = List·getD-append (singleWords (be4 s 11) (afterNodes (be4 s 7) (drop 15 s))) _ 0 j (rw (length-singleWords (be4 s 11) (afterNodes (be4 s 7) (drop 15 s))) h)
+  read-out j h = filled-in (singleWords (be4 s 11) (afterNodes (be4 s 7) (drop 15 s))) os j (rw (length-singleWords (be4 s 11) (afterNodes (be4 s 7) (drop 15 s))) h)
 
   read-lock : (v : ℕ) → v < be4 s 7 → getD (locksRead s ls) v 0 ≡ among (lockIndices (locksFrom s)) (be4 s 3 + 1 + v)
   unfolding locksRead
@@ -73,23 +85,29 @@ module _ (s ns os ls : List ℕ) where
       let f : ℕ → ℕ = λ u. among (lockIndices (locksFrom s)) (be4 s 3 + 1 + u) in
       List·getD-append (tab (be4 s 7) f) (drop (be4 s 7) ls) 0 v (rw (length-tab (be4 s 7) f) h) ∙ getD-tab (be4 s 7) f v h
 
-  read-admitted : fileNumber s (length ns) (length os) (length ls) ≡ 0 → Admitted (graphRead s ns os)
+  read-admitted : fileNumber s (held ns) (held os) (length ls) ≡ 0 → Admitted (graphRead s ns os)
   unfolding graphRead fileNumber
   read-admitted e =
       let f = both _ _ e in
-      let p = head-passed s (length ns) (length os) (length ls) (f .0) .rooms in
+      let p = head-passed s (held ns) (held os) (length ls) (f .0) .rooms in
       let n : ℕ = be4 s 7 in
       let o : ℕ = be4 s 11 in
       let i : ℕ = be4 s 3 + 1 in
       let g : Graph = graphRead s ns os in
+      let w : (j : ℕ) → j < 3 * n → isEdge g j ≡ true → word g j / 2 < node g (j / 3) = λ j h t. rw (read-word j h) (nodes-below n o (drop 15 s) i i (f .1) j h (λ q m. edge-not g j t q (read-word j h ∙ m))) in
+      let x : (j : ℕ) → j < o → output g j / 2 < i + n = λ j h. rw (read-out j h) (outputs-below o (afterNodes n (drop 15 s)) i (i + n) (after-nodes n o (drop 15 s) i i (f .1)) j h) in
       record {
         few-inputs = p .few-inputs;
         few-nodes = p .few-nodes;
         few-outputs = p .few-outputs;
-        long-nodes = omega (arith, length-append (nodeWords n (drop 15 s)) (drop (3 * n) ns), length-nodeWords n (drop 15 s));
-        long-outputs = omega (arith, length-append (singleWords o (afterNodes n (drop 15 s))) (drop o os), length-singleWords o (afterNodes n (drop 15 s)));
-        below = λ j h t. rw (read-word j h) (nodes-below n o (drop 15 s) i i (f .1) j h (λ q m. edge-not g j t q (read-word j h ∙ m)));
-        output-below = λ j h. rw (read-out j h) (outputs-below o (afterNodes n (drop 15 s)) i (i + n) (after-nodes n o (drop 15 s) i i (f .1)) j h);
+        held-nodes = held-filled (nodeWords n (drop 15 s)) ns (3 * n) (length-nodeWords n (drop 15 s)) (λ j h. rw (read-word j h) at (short g (p .few-inputs) (p .few-nodes) w j h));
+        held-outputs = held-filled (singleWords o (afterNodes n (drop 15 s))) os o (length-singleWords o (afterNodes n (drop 15 s))) (λ j h. let t : output g j < 1099511627776 = omega (arith, p .few-inputs, p .few-nodes, x j h) in rw (read-out j h) at t);
+        clean-nodes = strays-filled (nodeWords n (drop 15 s)) ns (3 * n) (length-nodeWords n (drop 15 s));
+        clean-outputs = strays-filled (singleWords o (afterNodes n (drop 15 s))) os o (length-singleWords o (afterNodes n (drop 15 s)));
+        long-nodes = omega (arith, length-filled (nodeWords n (drop 15 s)) ns, length-nodeWords n (drop 15 s));
+        long-outputs = omega (arith, length-filled (singleWords o (afterNodes n (drop 15 s))) os, length-singleWords o (afterNodes n (drop 15 s)));
+        below = w;
+        output-below = x;
       }
 
   read-locks : LockBytes (graphRead s ns os .N) (locksRead s ls)
@@ -120,11 +138,11 @@ module _ (s ns os ls : List ℕ) where
       (c ∙ ap (λ (t : List ℕ). inOrder (nodeFieldAt (graphRead s ns os .nodes)) 0 (be4 s 7) ++ t)
       (b ∙ ap (λ (t : List ℕ). inOrder (outputFieldAt (graphRead s ns os .outputs)) 0 (be4 s 11) ++ t) a)))
 
-  read-back : Bytes s → fileNumber s (length ns) (length os) (length ls) ≡ 0 → fileOf (graphRead s ns os) (locksRead s ls) ≡ s
+  read-back : Bytes s → fileNumber s (held ns) (held os) (length ls) ≡ 0 → fileOf (graphRead s ns os) (locksRead s ls) ≡ s
   unfolding fileNumber locksFrom
   read-back h e =
       let f = both _ _ e in
-      let p = head-passed s (length ns) (length os) (length ls) (f .0) in
+      let p = head-passed s (held ns) (held os) (length ls) (f .0) in
       let n : ℕ = be4 s 7 in
       let o : ℕ = be4 s 11 in
       let i : ℕ = be4 s 3 + 1 in
@@ -140,7 +158,7 @@ module _ (s ns os ls : List ℕ) where
       (λ k b. ap (λ (j : ℕ). getD (g .outputs) j 0) (omega arith) ∙ read-out k b) in
       let c = nodes-back n o t i i (g .nodes) 0 (bytes-drop 15 s h) (omega arith) (f .1)
       (λ k b. ap (λ (j : ℕ). getD (g .nodes) j 0) (omega arith) ∙ read-word k b) in
-      parts a b c (head-back s (length ns) (length os) (length ls) h (f .0))
+      parts a b c (head-back s (held ns) (held os) (length ls) h (f .0))
 
   -- an accepted file is the file of the graph and the locks read from it
   pub written-back : Bytes s → Accepts s ns os ls → fileOf (loadCall s ns os ls .graph) (loadCall s ns os ls .locks) ≡ s
@@ -202,7 +220,7 @@ module _ (g : Graph) where
 
 -- the file of an admitted graph with its locks loads as that graph with those locks, into any tables and bytes that are long enough:
 -- their front is then the graph's, and the rest is left
-module _ (g : Graph) (ks : List ℕ) (a : Admitted g) (k : LockBytes (g .N) ks) (ns os ls : List ℕ) (long-nodes : 3 * g .N ≤ length ns) (long-outputs : g .O ≤ length os)
+module _ (g : Graph) (ks : List ℕ) (a : Admitted g) (k : LockBytes (g .N) ks) (ns os ls : List ℕ) (long-nodes : 3 * g .N ≤ held ns) (long-outputs : g .O ≤ held os)
     (enough-locks : g .N ≤ length ls) where
   small : g .I + 1 + g .N ≤ 1000000
   small = omega (arith, a .few-inputs, a .few-nodes)
@@ -216,7 +234,7 @@ module _ (g : Graph) (ks : List ℕ) (a : Admitted g) (k : LockBytes (g .N) ks) 
   nodes : List ℕ
   nodes = inOrder (nodeFieldAt (g .nodes)) 0 (g .N) ++ outputs
 
-  room : Rooms (g .I) (g .N) (g .O) (length ns) (length os) (length ls)
+  room : Rooms (g .I) (g .N) (g .O) (held ns) (held os) (length ls)
   room =
       record {
         few-inputs = a .few-inputs;
@@ -227,9 +245,9 @@ module _ (g : Graph) (ks : List ℕ) (a : Admitted g) (k : LockBytes (g .N) ks) 
         enough-locks = enough-locks;
       }
 
-  written-read : HeadRead (fileOf g ks) (length ns) (length os) (length ls) (g .I) (g .N) (g .O) nodes
+  written-read : HeadRead (fileOf g ks) (held ns) (held os) (length ls) (g .I) (g .N) (g .O) nodes
   unfolding fileOf nodes outputs locks
-  written-read = head-read (length ns) (length os) (length ls) (g .I) (g .N) (g .O) nodes room
+  written-read = head-read (held ns) (held os) (length ls) (g .I) (g .N) (g .O) nodes room
 
   locks-fine : lockFieldsNumber (lockCount locks) locks (g .I + 1) (g .I + 1 + g .N) ≡ 0
   unfolding locks
@@ -243,7 +261,7 @@ module _ (g : Graph) (ks : List ℕ) (a : Admitted g) (k : LockBytes (g .N) ks) 
       let r = nodes-number (g .nodes) (g .N) (g .I + 1) small (allowed g a) outputs (g .O) (g .I + 1) (g .N) 0 (omega arith) e in
       ap (nodeFieldsNumber (g .N) (g .O) (inOrder (nodeFieldAt (g .nodes)) 0 (g .N) ++ outputs) (g .I + 1)) (sym q) ∙ r
 
-  written-number : fileNumber (fileOf g ks) (length ns) (length os) (length ls) ≡ 0
+  written-number : fileNumber (fileOf g ks) (held ns) (held os) (length ls) ≡ 0
   unfolding fileNumber
   written-number =
       let r = written-read in
@@ -285,7 +303,7 @@ module _ (g : Graph) (ks : List ℕ) (a : Admitted g) (k : LockBytes (g .N) ks) 
       getD-tab (g .N) f v l ∙ locks-named (g .I + 1) ks (g .N) 0 v (omega (arith, small)) (omega arith) (omega arith) (k .bits v l) ∙ sym (getD-take (g .N) ks v 0 l))
 
   graph-is : graphRead (fileOf g ks) ns os
-      ≡ graphOf (g .I) (g .N) (g .O) (take (3 * g .N) (g .nodes) ++ drop (3 * g .N) ns) (take (g .O) (g .outputs) ++ drop (g .O) os)
+      ≡ graphOf (g .I) (g .N) (g .O) (filled (take (3 * g .N) (g .nodes)) ns) (filled (take (g .O) (g .outputs)) os)
   unfolding graphRead
   graph-is = let r = written-read in rw (r .inputs, r .nodes, r .outputs, r .after, nodes-are, after-is, outputs-are) refl
 
@@ -295,7 +313,7 @@ module _ (g : Graph) (ks : List ℕ) (a : Admitted g) (k : LockBytes (g .N) ks) 
 
   pub loads-written : loadCall (fileOf g ks) ns os ls
       ≡ lockedOutcome (accepted (g .I ∷ g .N ∷ g .O ∷ []))
-      (graphOf (g .I) (g .N) (g .O) (take (3 * g .N) (g .nodes) ++ drop (3 * g .N) ns) (take (g .O) (g .outputs) ++ drop (g .O) os))
+      (graphOf (g .I) (g .N) (g .O) (filled (take (3 * g .N) (g .nodes)) ns) (filled (take (g .O) (g .outputs)) os))
       (take (g .N) ks ++ drop (g .N) ls)
   unfolding loadCall
   loads-written = let r = written-read in sym (accepted-locked _ _ _ _ written-number) ∙ rw (r .inputs, r .nodes, r .outputs, graph-is, locks-is) refl
@@ -312,10 +330,10 @@ module _ (g : Graph) where
   file-free ls h = rw (unlocked (g .I + 1) ls 0 (g .N) (λ j l. h j (omega arith))) refl
 
   -- it loads as its graph, with every node free
-  pub loads-free : Admitted g → (ns os ls : List ℕ) → 3 * g .N ≤ length ns → g .O ≤ length os → g .N ≤ length ls
+  pub loads-free : Admitted g → (ns os ls : List ℕ) → 3 * g .N ≤ held ns → g .O ≤ held os → g .N ≤ length ls
       → loadCall (headField (g .I) (g .N) (g .O) ++ (inOrder (nodeFieldAt (g .nodes)) 0 (g .N) ++ (inOrder (outputFieldAt (g .outputs)) 0 (g .O) ++ endField))) ns os ls
       ≡ lockedOutcome (accepted (g .I ∷ g .N ∷ g .O ∷ []))
-      (graphOf (g .I) (g .N) (g .O) (take (3 * g .N) (g .nodes) ++ drop (3 * g .N) ns) (take (g .O) (g .outputs) ++ drop (g .O) os)) (freeLocks (g .N) ls)
+      (graphOf (g .I) (g .N) (g .O) (filled (take (3 * g .N) (g .nodes)) ns) (filled (take (g .O) (g .outputs)) os)) (freeLocks (g .N) ls)
   loads-free a ns os ls x y z =
       let ks : List ℕ = freeLocks (g .N) ls in
       rw (← file-free ks (free-at (g .N) ls)) (loads-written g ks a (free-bytes (g .N) ls) ns os ls x y z ∙ rw (free-front (g .N) ls) refl)

@@ -3,14 +3,15 @@ use Prim.Native.Nat.{ℕ}
 use mathlib.Core.Path.{_≡_, refl}
 use mathlib.Core.List.{List, [], _∷_, _++_}
 use lib.ListN.{length, take}
-use Rattle.graph.specs.Finite.{tab, ifLess, ifEqual, first, firstOf}
+use Rattle.graph.specs.Finite.{tab, ifLess, ifEqual, first, firstOf, count, sum}
 use Rattle.graph.specs.Graph.{Graph, graphOf, mark, isEdge}
-use Rattle.graph.specs.Admission.{roomNumber, tablesNumber, wordNumber, literalNumber, lockNumber, locksNumber, contentNumber, admissionNumber}
+use Rattle.graph.specs.Admission.{roomNumber, tablesNumber, wordNumber, literalNumber, lockNumber, locksNumber, contentNumber, admissionNumber, strayNumber, straysNumber}
 use Rattle.graph.specs.Admission as admission
 use Rattle.graph.specs.Answer.{accepted, lockedOutcome, guardedLocks}
 use Rattle.file_checks.specs.File.{be2, be4, payloadOf, dueNumber, fieldNumber, fieldPayload, nodeSize, third, headNumber, nodeFieldNumber, outputFieldNumber, lockFieldNumber, endNumber, lockCount, fileNumber, locksFrom, lockIndices}
 use Rattle.tagged_file.specs.Write.{big, fieldOf, headField, nodeField, outputField, lockField, endField, nodeFieldAt, outputFieldAt, lockFieldAt, fileOf, writeNumber}
 use Rattle.tagged_file.specs.Load.{graphRead, locksRead, loadCall}
+use Rattle.graph.specs.Literals.{literalOf, bitOf, held, strays, evened, cleared, filled}
 
 -- field 01 of a file with I = 3 and O = 1, and so many nodes
 abbrev pub head : ℕ → ℕ → ℕ → List ℕ
@@ -48,7 +49,7 @@ abbrev two : List ℕ → List ℕ
 two locks = nodes ++ (output ++ (locks ++ end))
 
 loads : loadCall p1 (0 ∷ 0 ∷ 0 ∷ 6 ∷ []) (0 ∷ 8 ∷ []) (1 ∷ 7 ∷ []) ≡ lockedOutcome (accepted (3 ∷ 1 ∷ 1 ∷ [])) (graphOf 3 1 1 (3 ∷ 5 ∷ 7 ∷ 6 ∷ []) (9 ∷ 8 ∷ [])) (0 ∷ 7 ∷ [])
-unfolding tab ifLess ifEqual first guardedLocks be2 be4 payloadOf dueNumber nodeSize third roomNumber headNumber nodeFieldNumber outputFieldNumber lockFieldNumber endNumber lockCount fileNumber locksFrom lockIndices graphRead locksRead loadCall
+unfolding tab ifLess ifEqual first guardedLocks be2 be4 payloadOf dueNumber nodeSize third roomNumber headNumber nodeFieldNumber outputFieldNumber lockFieldNumber endNumber lockCount fileNumber locksFrom lockIndices graphRead locksRead loadCall held count sum filled cleared evened literalOf
 loads = refl
 
 -- the lock bytes after a load: what a node's held before is gone, later ones are left
@@ -57,7 +58,7 @@ locksAfter locks = loadCall (two locks) (0 ∷ 0 ∷ 0 ∷ 0 ∷ 0 ∷ 0 ∷ [])
 
 loads-locks : (locksAfter [] ≡ 0 ∷ 0 ∷ 9 ∷ []) × (locksAfter (lock 4) ≡ 1 ∷ 0 ∷ 9 ∷ []) × (locksAfter (lock 5) ≡ 0 ∷ 1 ∷ 9 ∷ [])
     × (locksAfter (lock 4 ++ lock 5) ≡ 1 ∷ 1 ∷ 9 ∷ []) × (locksAfter (lock 5 ++ lock 4) ≡ 1 ∷ 8 ∷ 9 ∷ [])
-unfolding tab ifLess ifEqual first guardedLocks be2 be4 payloadOf dueNumber nodeSize third roomNumber headNumber nodeFieldNumber outputFieldNumber lockFieldNumber endNumber lockCount fileNumber locksFrom lockIndices graphRead locksRead loadCall
+unfolding tab ifLess ifEqual first guardedLocks be2 be4 payloadOf dueNumber nodeSize third roomNumber headNumber nodeFieldNumber outputFieldNumber lockFieldNumber endNumber lockCount fileNumber locksFrom lockIndices graphRead locksRead loadCall held count sum filled cleared evened literalOf
 loads-locks = (refl, refl, refl, refl, refl)
 
 -- the number of each file, with tables of so many words and so many lock bytes lent
@@ -167,7 +168,7 @@ abbrev written : ℕ → ℕ → ℕ → ℕ
 written z lock room = writeNumber (graphOf 3 1 1 (3 ∷ 5 ∷ z ∷ []) (9 ∷ [])) (lock ∷ []) room
 
 fits : (written 7 0 39 ≡ 9) × (written 7 0 40 ≡ 0) × (written 7 1 46 ≡ 9) × (written 7 1 47 ≡ 0) × (written 7 2 39 ≡ 13) × (written 8 2 39 ≡ 5)
-unfolding ifLess ifEqual first firstOf isEdge tablesNumber roomNumber wordNumber admission.outputNumber literalNumber lockNumber locksNumber contentNumber admissionNumber big fieldOf headField nodeField outputField lockField endField nodeFieldAt outputFieldAt lockFieldAt fileOf writeNumber
+unfolding ifLess ifEqual first firstOf isEdge tablesNumber roomNumber wordNumber admission.outputNumber literalNumber lockNumber locksNumber contentNumber admissionNumber big fieldOf headField nodeField outputField lockField endField nodeFieldAt outputFieldAt lockFieldAt fileOf writeNumber count sum held strays bitOf straysNumber strayNumber
 fits = (refl, refl, refl, refl, refl, refl)
 
 -- one field: field 05 has an empty payload and is accepted; a cut head, an unknown tag, a wrong length and a cut payload are not

@@ -2,6 +2,7 @@
 use Prim.Native.Nat.{ℕ, zero, suc, _+_, _*_, _-_, _<_, _≤_}
 use mathlib.Core.Path.{_≡_, refl, ap, _∙_}
 use mathlib.Core.List.{List, [], _∷_, _++_, append-assoc}
+use native.Mathlib.Nat.{mul-suc}
 use native.Mathlib.Omega.{arith}
 use lib.ListN.{length, length-append}
 use lib.Seq.{sets}
@@ -12,7 +13,7 @@ use Rattle.graph.proofs.Tests.{both, off}
 use Rattle.graph.proofs.Answers.{ifLess-le, first-le, admission-le}
 use Rattle.tagged_file.specs.Write.{big, fieldOf, headField, endField, nodeFieldAt, outputFieldAt, lockFieldAt, inOrder, fileOf, writeNumber, writeOutcome, writeBy, writeCall}
 use Rattle.tagged_file.proofs.Stores.{front, in-a-row}
-use Rattle.tagged_file.proofs.FieldBytes.{length-output-at, end-is}
+use Rattle.tagged_file.proofs.FieldBytes.{length-node-most, length-output-at, length-lock-at, end-is}
 use Rattle.tagged_file.proofs.Emitted.{inOrder-step}
 
 pub length-outputs : (os : List ℕ) (v n : ℕ) → length (inOrder (outputFieldAt os) v n) ≡ 7 * n
@@ -44,6 +45,21 @@ length-file g ls =
       length-head (g .I) (g .N) (g .O),
       length-end,
       length-outputs (g .outputs) 0 (g .O),
+    )
+
+-- as long as it may be
+pub length-most : (f : ℕ → List ℕ) (m v n : ℕ) → ((j : ℕ) → j < v + n → length (f j) ≤ m) → length (inOrder f v n) ≤ m * n
+length-most f m v zero h = omega arith
+length-most f m v (suc n) h =
+    omega (arith, length-append (f v) (inOrder f (v + 1) n), h v (omega arith), length-most f m (v + 1) n (λ j k. h j (omega arith)), mul-suc m n)
+
+pub file-most : (g : Graph) (ls : List ℕ) → length (fileOf g ls) ≤ 18 + 22 * g .N + 7 * g .O
+file-most g ls =
+    omega (
+      arith,
+      length-file g ls,
+      length-most (nodeFieldAt (g .nodes)) 15 0 (g .N) (λ v h. length-node-most (g .nodes) v),
+      length-most (lockFieldAt (g .I + 1) ls) 7 0 (g .N) (λ v h. length-lock-at (g .I + 1) ls v),
     )
 
 -- one node further on

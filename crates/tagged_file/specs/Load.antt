@@ -1,9 +1,10 @@
 -- What loading answers, and what it leaves in the tables and the lock bytes.
-use Prim.Native.Nat.{ℕ, _+_, _*_}
+use Prim.Native.Nat.{ℕ, _+_}
 use mathlib.Core.List.{List, [], _∷_, _++_}
 use lib.ListN.{length, drop}
 use Rattle.graph.specs.Finite.{ifEqual, tab}
 use Rattle.graph.specs.Graph.{Graph, graphOf}
+use Rattle.graph.specs.Literals.{held, filled}
 use Rattle.graph.specs.Answer.{Answer, accepted, refused, numberOf, LockedOutcome, lockedOutcome, guardedLocks}
 use Rattle.tagged_file.specs.declared.Loaded.{Loaded}
 use Rattle.tagged_file.specs.declared.Loaded.the-variants as loaded
@@ -22,12 +23,12 @@ abbrev pub loadedGraph : Loaded → List ℕ → List ℕ → Graph
 loadedGraph (loaded.Graph i n o) ns os = graphOf i n o ns os
 loadedGraph (loaded.Refused r) ns os = blank ns os
 
--- the graph that an accepted file says, in the lent tables: their first words are filled, later ones left
+-- the graph that an accepted file says, in the lent tables
 unfoldable pub graphRead : List ℕ → List ℕ → List ℕ → Graph
 graphRead s ns os =
     graphOf (be4 s 3) (be4 s 7) (be4 s 11)
-    (nodeWords (be4 s 7) (drop 15 s) ++ drop (3 * be4 s 7) ns)
-    (singleWords (be4 s 11) (afterNodes (be4 s 7) (drop 15 s)) ++ drop (be4 s 11) os)
+    (filled (nodeWords (be4 s 7) (drop 15 s)) ns)
+    (filled (singleWords (be4 s 11) (afterNodes (be4 s 7) (drop 15 s))) os)
 
 -- 1 where u is one of these, else 0
 abbrev pub among : List ℕ → ℕ → ℕ
@@ -45,5 +46,5 @@ freeLocks n ls = tab n (λ v. 0) ++ drop n ls
 -- loading the file s into the tables ns and os and the lock bytes ls
 unfoldable pub loadCall : List ℕ → List ℕ → List ℕ → List ℕ → LockedOutcome
 loadCall s ns os ls =
-    guardedLocks (fileNumber s (length ns) (length os) (length ls)) (blank ns os) ls
+    guardedLocks (fileNumber s (held ns) (held os) (length ls)) (blank ns os) ls
     (lockedOutcome (accepted (be4 s 3 ∷ be4 s 7 ∷ be4 s 11 ∷ [])) (graphRead s ns os) (locksRead s ls))

@@ -1,16 +1,19 @@
 // Writing fields at a place of the buffer, from front to back.
 ghost use mathlib.Core.Path.{_≡_};
 ghost use mathlib.Core.List.{[], _∷_, _++_};
-ghost use Prim.Native.Nat.{_+_, _*_, _≤_, _<_};
-ghost use lib.ListN.{length};
+ghost use Prim.Native.Nat.{ℕ, _+_, _≤_, _<_};
+ghost use lib.ListN.{length, getD};
 ghost use lib.Seq.{sets};
 ghost use Rattle.graph.specs.Finite.{ifEqual};
-ghost use Rattle.graph.specs.Graph.{graphOf, mark};
+ghost use Rattle.graph.specs.Graph.{index, mark};
 ghost use Rattle.graph.specs.Admission.{Admitted};
-ghost use Rattle.tagged_file.specs.Inner.{thirdBytes};
-ghost use Rattle.tagged_file.specs.Write.{big, fieldOf, nodeField, lockField, nodeFieldAt, outputFieldAt, lockFieldAt, inOrder, fileOf};
+ghost use Rattle.graph.specs.Inner.{Readable, AllReadable};
+ghost use Rattle.graph.specs.Literals.{graphIn, held, literals};
+ghost use Rattle.tagged_file.specs.Write.{big, fieldOf, lockField, nodeFieldAt, outputFieldAt, lockFieldAt, inOrder, fileOf};
 use graph::literal::MARK;
-use graph::table::word_at;
+use graph::table::edge_at;
+use graph::table::three_at;
+use graph::table::word_of;
 
 pub fn put_number(buffer: &mut [u8], at: usize, number: u32)
     requires { ⌜ at + 4 ≤ length (now buffer) ⌝ }
@@ -71,66 +74,86 @@ pub fn node_payload(z: u32) -> u8
     12
 }
 
-// A third word: the mark takes no bytes. Returns the place after it.
-pub fn put_third(buffer: &mut [u8], at: usize, z: u32) -> usize
-    requires { ⌜ at + length (thirdBytes z) ≤ length (now buffer) ⌝ }
-    ensures { λ r. ⌜ r ≡ at + length (thirdBytes z) ⌝ }
-    ensures { λ _. ⌜ now (buffer .exit) ≡ sets (now (buffer .entry)) at (thirdBytes z) ⌝ }
+// The last number of a node's field: an XOR has no third.
+pub fn last_number(y: u32, z: u32) -> u32
+    ensures { λ r. ⌜ r ≡ ifEqual z mark y z ⌝ }
 {
     if z == MARK {
-        return at;
+        return y;
     }
-    put_number(buffer, at, z);
-    at + 4
+    z
 }
 
-// Returns the place after the field. Both kinds go one way up to the third word: so each number is one store.
-pub fn put_node(buffer: &mut [u8], at: usize, x: u32, y: u32, z: u32) -> usize
-    requires { ⌜ at + length (nodeField x y z) ≤ length (now buffer) ⌝ }
-    ensures { λ r. ⌜ r ≡ at + length (nodeField x y z) ⌝ }
-    ensures { λ _. ⌜ now (buffer .exit) ≡ sets (now (buffer .entry)) at (nodeField x y z) ⌝ }
+// Node v; returns the place after its field. Each word is read when it is put, so that the bytes of a number are one store. The last number
+// is put where the payload ends, an XOR's second one a second time, so that nothing jumps on the kind.
+pub fn put_node(
+    buffer: &mut [u8],
+    at: usize,
+    node_table: &[u32],
+    node_bits: &[u64],
+    v: usize,
+) -> usize
+    requires { let ns = literals (now «node_table») (now «node_bits») in
+        ⌜ Readable ns v × (at + length (nodeFieldAt ns v) ≤ length (now buffer)) ⌝ }
+    ensures { λ r.
+        let field = nodeFieldAt (literals (now («node_table» .entry)) (now («node_bits» .entry))) v in
+        ⌜ (r ≡ at + length field) × (now (buffer .exit) ≡ sets (now (buffer .entry)) at field) ⌝ }
 {
-    put_head(buffer, at, node_tag(z), node_payload(z));
+    let three = three_at(node_table, node_bits, v);
+    let x = word_of(node_table, node_bits, v, 0, three);
     put_number(buffer, at + 3, x);
+    let y = word_of(node_table, node_bits, v, 1, three);
     put_number(buffer, at + 7, y);
-    put_third(buffer, at + 11, z)
+    let z = word_of(node_table, node_bits, v, 2, three);
+    let payload = node_payload(z);
+    let last = at + payload as usize - 1;
+    put_number(buffer, last, last_number(y, z));
+    put_head(buffer, at, node_tag(z), payload);
+    last + 4
 }
 
-pub fn put_nodes(buffer: &mut [u8], start: usize, nodes: u32, node_table: &[u32]) -> usize
-    requires { ⌜ 3 * nodes ≤ length (now «node_table») ⌝ }
-    requires { ⌜ start + length (inOrder (nodeFieldAt (now «node_table»)) 0 nodes) ≤ length (now buffer) ⌝ }
-    ensures { λ r. ⌜ r ≡ start + length (inOrder (nodeFieldAt (now («node_table» .entry))) 0 nodes) ⌝ }
-    ensures { λ _. ⌜ now (buffer .exit) ≡ sets (now (buffer .entry)) start (inOrder (nodeFieldAt (now («node_table» .entry))) 0 nodes) ⌝ }
+pub fn put_nodes(
+    buffer: &mut [u8],
+    start: usize,
+    nodes: u32,
+    node_table: &[u32],
+    node_bits: &[u64],
+) -> usize
+    requires { let ns = literals (now «node_table») (now «node_bits») in
+        ⌜ AllReadable nodes ns × (start + length (inOrder (nodeFieldAt ns) 0 nodes) ≤ length (now buffer)) ⌝ }
+    ensures { λ r.
+        let fields = inOrder (nodeFieldAt (literals (now («node_table» .entry)) (now («node_bits» .entry)))) 0 nodes in
+        ⌜ (r ≡ start + length fields) × (now (buffer .exit) ≡ sets (now (buffer .entry)) start fields) ⌝ }
 {
     let mut at = start;
-    let mut v = 0;
+    let mut v: usize = 0;
     let mut left = nodes;
     while 0 < left {
-        let word = 3 * v;
-        at = put_node(
-            buffer,
-            at,
-            word_at(node_table, word),
-            word_at(node_table, word + 1),
-            word_at(node_table, word + 2),
-        );
+        at = put_node(buffer, at, node_table, node_bits, v);
         v += 1;
         left -= 1;
     }
     at
 }
 
-pub fn put_outputs(buffer: &mut [u8], start: usize, outputs: u32, output_table: &[u32]) -> usize
-    requires { ⌜ outputs ≤ length (now «output_table») ⌝ }
-    requires { ⌜ start + length (inOrder (outputFieldAt (now «output_table»)) 0 outputs) ≤ length (now buffer) ⌝ }
-    ensures { λ r. ⌜ r ≡ start + length (inOrder (outputFieldAt (now («output_table» .entry))) 0 outputs) ⌝ }
-    ensures { λ _. ⌜ now (buffer .exit) ≡ sets (now (buffer .entry)) start (inOrder (outputFieldAt (now («output_table» .entry))) 0 outputs) ⌝ }
+pub fn put_outputs(
+    buffer: &mut [u8],
+    start: usize,
+    outputs: u32,
+    output_table: &[u32],
+    output_bits: &[u64],
+) -> usize
+    requires { let os = literals (now «output_table») (now «output_bits») in
+        ⌜ ((outputs ≤ held os) × ((j : ℕ) → j < outputs → index (getD os j 0) < 2147483647)) × (start + length (inOrder (outputFieldAt os) 0 outputs) ≤ length (now buffer)) ⌝ }
+    ensures { λ r.
+        let fields = inOrder (outputFieldAt (literals (now («output_table» .entry)) (now («output_bits» .entry)))) 0 outputs in
+        ⌜ (r ≡ start + length fields) × (now (buffer .exit) ≡ sets (now (buffer .entry)) start fields) ⌝ }
 {
     let mut at = start;
     let mut v = 0;
     let mut left = outputs;
     while 0 < left {
-        put_single(buffer, at, 4, word_at(output_table, v));
+        put_single(buffer, at, 4, edge_at(output_table, output_bits, v));
         at += 7;
         v += 1;
         left -= 1;
@@ -175,18 +198,21 @@ pub fn put_file(
     nodes: u32,
     outputs: u32,
     node_table: &[u32],
+    node_bits: &[u64],
     output_table: &[u32],
+    output_bits: &[u64],
     locks: &[u8],
     buffer: &mut [u8],
 ) -> usize
-    requires { ⌜ Admitted (graphOf inputs nodes outputs (now «node_table») (now «output_table»)) × (nodes ≤ length (now locks)) ⌝ }
-    requires { ⌜ length (fileOf (graphOf inputs nodes outputs (now «node_table») (now «output_table»)) (now locks)) ≤ length (now buffer) ⌝ }
-    ensures { λ r. ⌜ r ≡ length (fileOf (graphOf inputs nodes outputs (now («node_table» .entry)) (now («output_table» .entry))) (now (locks .entry))) ⌝ }
-    ensures { λ _. ⌜ now (buffer .exit) ≡ sets (now (buffer .entry)) 0 (fileOf (graphOf inputs nodes outputs (now («node_table» .entry)) (now («output_table» .entry))) (now (locks .entry))) ⌝ }
+    requires { let g = graphIn inputs nodes outputs (now «node_table») (now «node_bits») (now «output_table») (now «output_bits») in
+        ⌜ Admitted g × (nodes ≤ length (now locks)) × (length (fileOf g (now locks)) ≤ length (now buffer)) ⌝ }
+    ensures { λ r.
+        let g = graphIn inputs nodes outputs (now («node_table» .entry)) (now («node_bits» .entry)) (now («output_table» .entry)) (now («output_bits» .entry)) in
+        ⌜ (r ≡ length (fileOf g (now (locks .entry)))) × (now (buffer .exit) ≡ sets (now (buffer .entry)) 0 (fileOf g (now (locks .entry)))) ⌝ }
 {
     put_three(buffer, 0, 1, inputs, nodes, outputs);
-    let second = put_nodes(buffer, 15, nodes, node_table);
-    let third = put_outputs(buffer, second, outputs, output_table);
+    let second = put_nodes(buffer, 15, nodes, node_table, node_bits);
+    let third = put_outputs(buffer, second, outputs, output_table, output_bits);
     let end = put_locks(buffer, third, inputs + 1, nodes, locks);
     put_head(buffer, end, 5, 0);
     end + 3

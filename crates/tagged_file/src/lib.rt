@@ -1,7 +1,7 @@
 // The tagged file: one field of it, loading a graph from it, writing a graph as one.
 ghost use mathlib.Core.Path.{_≡_};
-ghost use Rattle.graph.specs.Graph.{graphOf};
 ghost use Rattle.graph.specs.Answer.{lockedOutcome};
+ghost use Rattle.graph.specs.Literals.{graphIn, literals};
 ghost use Rattle.file_checks.specs.File.{fieldNumber, fieldPayload};
 ghost use Rattle.tagged_file.specs.Load.{loadedAnswer, loadedGraph, loadCall};
 ghost use Rattle.tagged_file.specs.Write.{writtenAnswer, writeOutcome, writeCall};
@@ -52,15 +52,21 @@ pub fn field(bytes: &[u8]) -> &[u8]
 pub fn load(
     file: &[u8],
     node_table: &mut [u32],
+    node_bits: &mut [u64],
     output_table: &mut [u32],
+    output_bits: &mut [u64],
     locks: &mut [u8],
 ) -> Loaded
-    ensures { λ r. ⌜ lockedOutcome (loadedAnswer r) (loadedGraph r (now («node_table» .exit)) (now («output_table» .exit))) (now (locks .exit)) ≡ loadCall (now (file .entry)) (now («node_table» .entry)) (now («output_table» .entry)) (now (locks .entry)) ⌝ }
+    ensures { λ r.
+        let ns = literals (now («node_table» .entry)) (now («node_bits» .entry)) in
+        let os = literals (now («output_table» .entry)) (now («output_bits» .entry)) in
+        let g = loadedGraph r (literals (now («node_table» .exit)) (now («node_bits» .exit))) (literals (now («output_table» .exit)) (now («output_bits» .exit))) in
+        ⌜ lockedOutcome (loadedAnswer r) g (now (locks .exit)) ≡ loadCall (now (file .entry)) ns os (now (locks .entry)) ⌝ }
 {
     let refusal = file_checks::faults::file_number(
         file,
-        node_table.len(),
-        output_table.len(),
+        graph::table::room_of(node_table, node_bits),
+        graph::table::room_of(output_table, output_bits),
         locks.len(),
     );
     if refusal != 0 {
@@ -69,8 +75,8 @@ pub fn load(
     let inputs = bytes::four(file, 3);
     let nodes = bytes::four(file, 7);
     let outputs = bytes::four(file, 11);
-    let after = fill::fill_nodes(&file[15..], nodes, node_table);
-    let rest = fill::fill_outputs(after, outputs, output_table);
+    let after = fill::fill_nodes(&file[15..], nodes, node_table, node_bits);
+    let rest = fill::fill_outputs(after, outputs, output_table, output_bits);
     locks::free(locks, nodes);
     fill::fill_locks(rest, inputs + 1, locks);
     Loaded::Graph {
@@ -86,18 +92,24 @@ pub fn write(
     nodes: u32,
     outputs: u32,
     node_table: &[u32],
+    node_bits: &[u64],
     output_table: &[u32],
+    output_bits: &[u64],
     locks: &[u8],
     buffer: &mut [u8],
 ) -> Written
-    ensures { λ r. ⌜ writeOutcome (writtenAnswer r) (now (buffer .exit)) ≡ writeCall (graphOf inputs nodes outputs (now («node_table» .entry)) (now («output_table» .entry))) (now (locks .entry)) (now (buffer .entry)) ⌝ }
+    ensures { λ r.
+        let g = graphIn inputs nodes outputs (now («node_table» .entry)) (now («node_bits» .entry)) (now («output_table» .entry)) (now («output_bits» .entry)) in
+        ⌜ writeOutcome (writtenAnswer r) (now (buffer .exit)) ≡ writeCall g (now (locks .entry)) (now (buffer .entry)) ⌝ }
 {
     let number = faults::write_number(
         inputs,
         nodes,
         outputs,
         node_table,
+        node_bits,
         output_table,
+        output_bits,
         locks,
         buffer.len(),
     );
@@ -109,7 +121,9 @@ pub fn write(
         nodes,
         outputs,
         node_table,
+        node_bits,
         output_table,
+        output_bits,
         locks,
         buffer,
     ))

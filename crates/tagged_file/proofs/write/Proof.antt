@@ -4,6 +4,7 @@ use Rattle.graph.specs.Graph.{Graph, graphOf}
 use Rattle.graph.proofs.Admit.{admitted, locks-admitted}
 use Rattle.tagged_file.proofs.WholeWrite.{write-fault, write-passed, write-refused, write-accepted}
 use borrow.Author.Needs.{needs}
+use Rattle.graph.specs.Literals.{literals}
 use Rattle.tagged_file.proofs.write.Statement.{statement}
 use Rattle.tagged_file.proofs.write.Tie as tie
 
@@ -16,10 +17,10 @@ returns c = write-refused _ _ _ _ _ (c .refused-by .ensures) (c .before .before 
 put-file-requires : tie.Need-put-file-requires
 put-file-requires c κs =
     let i = c .before in
-    let a = i .before .before .before .before .before .before .args in
-    let g : Graph = graphOf (a .inputs) (a .nodes) (a .outputs) (a .node-table .now) (a .output-table .now) in
+    let a = i .before .before .before .before .before .before .before .before .args in
+    let g : Graph = graphOf (a .inputs) (a .nodes) (a .outputs) (literals (a .node-table .now) (a .node-bits .now)) (literals (a .output-table .now) (a .output-bits .now)) in
     let p = write-passed g (a .locks .now) _ (sym (i .before .write-number .ensures) ∙ i .if1 .left) in
-    ((admitted g (a .locks .now) (p .0), locks-admitted g (a .locks .now) (p .0) .enough), p .1)
+    (admitted g (a .locks .now) (p .0), locks-admitted g (a .locks .now) (p .0) .enough, p .1)
 
 returns-2 : tie.Need-returns-2
 returns-2 c =
