@@ -4,13 +4,15 @@ use mathlib.Core.Path.{_≡_, refl, sym, ap, _∙_}
 use mathlib.Core.Logic.{⊎-elim}
 use mathlib.Core.List.{List, [], _∷_}
 use native.Mathlib.Omega.{arith}
-use lib.ListN.{length, drop, length-append, List·getD-append}
+use lib.ListN.{length}
 use Rattle.graph.specs.Finite.{tab}
 use Rattle.graph.specs.Graph.{word, output}
+use Rattle.graph.specs.Literals.{held}
 use Rattle.graph.specs.Admission.{Admitted, LockBytes}
 use Rattle.graph.specs.Answer.{accepted, lockedOutcome}
 use Rattle.graph.proofs.Admit.{Rooms, rooms}
 use Rattle.graph.proofs.Cases.{lt-or-le}
+use Rattle.graph.proofs.Filled.{length-filled, filled-in, held-filled, strays-filled}
 use Rattle.graph.proofs.Finite.{length-tab, getD-tab}
 use Rattle.graph.proofs.Tests.{equal, unequal, on, is, both, each-none}
 use Rattle.graph.proofs.Answers.{accepted-locked}
@@ -51,12 +53,12 @@ word-other s at j n = sym (unequal (j % 3) 0 _ _ n refl)
 
 -- a body without a fault
 module _ (s : List ℕ) (i n o : ℕ) (e : bodyNumber s i n o ≡ 0) where
-  output-ok : (j : ℕ) → j < o → numberAt s (i + j) / 2 < i + 1 + n
+  pub output-ok : (j : ℕ) → j < o → numberAt s (i + j) / 2 < i + 1 + n
   unfolding bodyNumber outputLinesNumber
   output-ok j h =
       rw (ap number (skip-add i j s)) at (output-below _ _ (each-none o _ (both _ _ (both _ _ e .1) .0) j h))
 
-  gate-ok : (k : ℕ) → k < n → (numberAt (skip (i + o + 3 * k) s) 1 / 2 < i + 1 + k) × (numberAt (skip (i + o + 3 * k) s) 2 / 2 < i + 1 + k)
+  pub gate-ok : (k : ℕ) → k < n → (numberAt (skip (i + o + 3 * k) s) 1 / 2 < i + 1 + k) × (numberAt (skip (i + o + 3 * k) s) 2 / 2 < i + 1 + k)
   unfolding bodyNumber gateLinesNumber
   gate-ok k h =
       rw (← skip-add (i + o) (3 * k) s) (gate-below _ _ (each-none n _ (both _ _ (both _ _ e .1) .1) k h))
@@ -66,7 +68,7 @@ module _ (s : List ℕ) (i n o : ℕ) (e : bodyNumber s i n o ≡ 0) where
       let f : i + o + j ≡ i + o + 3 * k + d = omega arith in
       rw f (ap number (skip-add (i + o + 3 * k) d s))
 
-  word-ok : (j : ℕ) → j < 3 * n → gateWord s (i + o) j / 2 < i + 1 + j / 3
+  pub word-ok : (j : ℕ) → j < 3 * n → gateWord s (i + o) j / 2 < i + 1 + j / 3
   word-ok j h =
       let g = gate-ok (j / 3) (omega arith) in
       ⊎-elim
@@ -85,20 +87,20 @@ module _ (s ns os : List ℕ) where
   imported-word j h =
       let n : ℕ = headA s in
       let f : ℕ → ℕ = gateWord (body s) (headI s + headO s) in
-      List·getD-append (tab (3 * n) f) (drop (3 * n) ns) 0 j (rw (length-tab (3 * n) f) h) ∙ getD-tab (3 * n) f j h
+      filled-in (tab (3 * n) f) ns j (rw (length-tab (3 * n) f) h) ∙ getD-tab (3 * n) f j h
 
   pub imported-out : (j : ℕ) → j < headO s → output (graphImported s ns os) j ≡ numberAt (body s) (headI s + j)
   unfolding graphImported
   imported-out j h =
       let o : ℕ = headO s in
       let f : ℕ → ℕ = λ k. numberAt (body s) (headI s + k) in
-      List·getD-append (tab o f) (drop o os) 0 j (rw (length-tab o f) h) ∙ getD-tab o f j h
+      filled-in (tab o f) os j (rw (length-tab o f) h) ∙ getD-tab o f j h
 
-  pub imported-admitted : (l : ℕ) → importNumber s (length ns) (length os) l ≡ 0 → Admitted (graphImported s ns os)
+  pub imported-admitted : (l : ℕ) → importNumber s (held ns) (held os) l ≡ 0 → Admitted (graphImported s ns os)
   unfolding importNumber graphImported
   imported-admitted l e =
       let f = both _ _ e in
-      let p = head-rooms s (length ns) (length os) l (f .0) in
+      let p = head-rooms s (held ns) (held os) l (f .0) in
       let n : ℕ = headA s in
       let o : ℕ = headO s in
       let w : ℕ → ℕ = gateWord (body s) (headI s + o) in
@@ -107,15 +109,27 @@ module _ (s ns os : List ℕ) where
         few-inputs = p .few-inputs;
         few-nodes = p .few-nodes;
         few-outputs = p .few-outputs;
-        long-nodes = omega (arith, length-append (tab (3 * n) w) (drop (3 * n) ns), length-tab (3 * n) w);
-        long-outputs = omega (arith, length-append (tab o u) (drop o os), length-tab o u);
+        long-nodes = omega (arith, length-filled (tab (3 * n) w) ns, length-tab (3 * n) w);
+        long-outputs = omega (arith, length-filled (tab o u) os, length-tab o u);
+        held-nodes =
+            held-filled (tab (3 * n) w) ns (3 * n) (length-tab (3 * n) w)
+            (λ j h.
+            let t : w j < 1099511627776 = omega (arith, p .few-inputs, p .few-nodes, word-ok (body s) (headI s) n o (f .1) j h) in
+            rw (getD-tab (3 * n) w j h) t);
+        held-outputs =
+            held-filled (tab o u) os o (length-tab o u)
+            (λ j h.
+            let t : u j < 1099511627776 = omega (arith, p .few-inputs, p .few-nodes, output-ok (body s) (headI s) n o (f .1) j h) in
+            rw (getD-tab o u j h) t);
+        clean-nodes = strays-filled (tab (3 * n) w) ns (3 * n) (length-tab (3 * n) w);
+        clean-outputs = strays-filled (tab o u) os o (length-tab o u);
         below = λ j h t. rw (imported-word j h) (word-ok (body s) (headI s) n o (f .1) j h);
         output-below = λ j h. rw (imported-out j h) (output-ok (body s) (headI s) n o (f .1) j h);
       }
 
 -- an import is accepted just where no fault is found, and what it then leaves is admitted
 module _ (s ns os ls : List ℕ) (e : importCall s ns os ls .answer .number ≡ 0) where
-  pub no-fault : importNumber s (length ns) (length os) (length ls) ≡ 0
+  pub no-fault : importNumber s (held ns) (held os) (length ls) ≡ 0
   unfolding importCall
   no-fault = sym (guarded-number _ _ _ _ refl) ∙ e
 

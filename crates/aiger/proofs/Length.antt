@@ -7,6 +7,7 @@ use native.Mathlib.Omega.{arith}
 use lib.ListN.{length, length-append}
 use Rattle.graph.specs.Finite.{ifLess}
 use Rattle.graph.specs.Decimal.{decimal}
+use Rattle.graph.proofs.Answers.{ifLess-le}
 use Rattle.graph.proofs.Cases.{lt-or-le}
 use Rattle.graph.proofs.Digits.{length-small, length-more}
 use Rattle.graph.proofs.Tests.{less, no-less}
@@ -65,3 +66,12 @@ width-reached (suc d) n h =
     (λ (k : n < 10). omega (arith, length-small n k, past-no 10 n k, reached-none d 100 n (omega arith)))
     (λ (k : 10 ≤ n). omega (arith, length-more n k, past-yes 10 n k, reached-ten d 10 n, width-reached d (n / 10) (omega arith)))
     (lt-or-le n 10)
+
+-- and so a number below a power of ten has no more digits than that
+reached-most : (d p n : ℕ) → reached d p n ≤ d
+unfolding reached
+reached-most zero p n = omega arith
+reached-most (suc d) p n = omega (arith, ifLess-le n p 0 1 1 (omega arith) (omega arith), reached-most d (10 * p) n)
+
+pub digits-most : (d n : ℕ) → n < power d → length (decimal n) ≤ 1 + d
+digits-most d n h = omega (arith, width-reached d n h, reached-most d 10 n)

@@ -6,6 +6,7 @@ use mathlib.Core.List.{List}
 use native.Mathlib.Omega.{arith}
 use lib.ListN.{length}
 use Rattle.graph.specs.Graph.{Graph, word, output}
+use Rattle.graph.specs.Literals.{held}
 use Rattle.graph.specs.Admission.{Admitted}
 use Rattle.graph.specs.Value.{literalValue, values, outputValue}
 use Rattle.tagged_file.proofs.Whole.{guarded-number}
@@ -71,13 +72,13 @@ module _ (g : Graph) (adm : Admitted g) (ns os : List ℕ) where
       ∙ sym (agree g back adm carries a (g .N) (omega arith) (output g j) (adm .output-below j h))
 
 -- the calls
-import-answer : (s ns os ls : List ℕ) → importCall s ns os ls .answer .number ≡ importNumber s (length ns) (length os) (length ls)
+import-answer : (s ns os ls : List ℕ) → importCall s ns os ls .answer .number ≡ importNumber s (held ns) (held os) (length ls)
 unfolding importCall
 import-answer s ns os ls = guarded-number _ _ _ _ refl
 
 module _ (g : Graph) (adm : Admitted g) (ns os ls : List ℕ) where
   pub import-refused : Allowed (importCall (exportText g) ns os ls .answer .number)
-  import-refused = rw (import-answer (exportText g) ns os ls) (import-three-or-four g adm (length ns) (length os) (length ls))
+  import-refused = rw (import-answer (exportText g) ns os ls) (import-three-or-four g adm (held ns) (held os) (length ls))
 
   -- an import of an export that is accepted has the outputs of the graph
   module _ (e : importCall (exportText g) ns os ls .answer .number ≡ 0) where

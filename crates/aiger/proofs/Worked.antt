@@ -2,7 +2,8 @@
 use mathlib.Core.Path.{_≡_, refl}
 use mathlib.Core.List.{List, [], _∷_}
 use Prim.Native.Nat.{ℕ}
-use Rattle.graph.specs.Finite.{ifLess, ifEqual, first, firstOf, sum, tab}
+use Rattle.graph.specs.Finite.{ifLess, ifEqual, first, firstOf, sum, tab, count}
+use Rattle.graph.specs.Literals.{literalOf, held, evened, cleared, filled}
 use Rattle.graph.specs.Graph.{graphOf, mark, isXor, turn}
 use Rattle.graph.specs.Decimal.{decimalIn, decimal}
 use Rattle.aiger.specs.Lines.{ifDigit, digits, worth, number, endedNumber, next, lineNumber}
@@ -43,10 +44,10 @@ pub xor-text : exportText (graphOf 2 1 1 (2 ∷ 4 ∷ mark ∷ []) (6 ∷ [])) �
 unfolding exportText header inputs outputs ones threes ended gates nodeGates majorityGates xorGates exported gatesBefore gatesOf isXor turn decimal decimalIn ifLess sum tab
 xor-text = refl
 
--- the second word of each table's tail is kept
+-- the second word of the node table's tail keeps its index and loses its bit
 pub majority-graph : graphImported majorityText (1 ∷ 1 ∷ 1 ∷ 1 ∷ 1 ∷ 1 ∷ 1 ∷ 1 ∷ 1 ∷ 1 ∷ 1 ∷ 1 ∷ 70 ∷ 71 ∷ []) (1 ∷ 72 ∷ [])
-    ≡ graphOf 3 4 1 (0 ∷ 5 ∷ 7 ∷ 0 ∷ 2 ∷ 9 ∷ 0 ∷ 4 ∷ 6 ∷ 0 ∷ 11 ∷ 13 ∷ 70 ∷ 71 ∷ []) (15 ∷ 72 ∷ [])
-unfolding graphImported gateWord next number worth digits ifDigit ifLess ifEqual tab
+    ≡ graphOf 3 4 1 (0 ∷ 5 ∷ 7 ∷ 0 ∷ 2 ∷ 9 ∷ 0 ∷ 4 ∷ 6 ∷ 0 ∷ 11 ∷ 13 ∷ 70 ∷ 70 ∷ []) (15 ∷ 72 ∷ [])
+unfolding graphImported gateWord next number worth digits ifDigit ifLess ifEqual tab filled cleared evened literalOf
 majority-graph = refl
 
 pub majority-numbers : (importNumber majorityText 12 1 4 ∷ importNumber majorityText 11 1 4 ∷ importNumber majorityText 12 0 4 ∷ importNumber majorityText 12 1 3 ∷ []) ≡ (0 ∷ 4 ∷ 4 ∷ 4 ∷ [])
@@ -55,7 +56,7 @@ majority-numbers = refl
 
 -- every node is free, and a later byte is kept
 pub majority-locks : importCall majorityText (1 ∷ 1 ∷ 1 ∷ 1 ∷ 1 ∷ 1 ∷ 1 ∷ 1 ∷ 1 ∷ 1 ∷ 1 ∷ 1 ∷ []) (1 ∷ []) (1 ∷ 2 ∷ 1 ∷ 1 ∷ 9 ∷ []) .locks ≡ 0 ∷ 0 ∷ 0 ∷ 0 ∷ 9 ∷ []
-unfolding importCall freeLocks guardedLocks importNumber headerNumber aagNumber roomNumber inputLinesNumber outputLinesNumber gateLinesNumber bodyNumber inputLineNumber outputLineNumber gateLineNumber lineNumber endedNumber next number worth digits ifDigit ifLess ifEqual first firstOf tab
+unfolding importCall freeLocks guardedLocks importNumber headerNumber aagNumber roomNumber inputLinesNumber outputLinesNumber gateLinesNumber bodyNumber inputLineNumber outputLineNumber gateLineNumber lineNumber endedNumber next number worth digits ifDigit ifLess ifEqual first firstOf tab held count sum filled cleared evened literalOf
 majority-locks = refl
 
 -- faults, with room for one gate, its lock and one output

@@ -1,9 +1,10 @@
 -- Importing ASCII AIGER: the first fault from front to back, and the graph, whose nodes are all free.
 use Prim.Native.Nat.{ℕ, _+_, _*_, _%_}
-use mathlib.Core.List.{List, [], _∷_, _++_}
+use mathlib.Core.List.{List, [], _∷_}
 use lib.ListN.{length, getD, drop}
 use Rattle.graph.specs.Finite.{ifLess, ifEqual, first, firstOf, tab}
 use Rattle.graph.specs.Graph.{Graph, graphOf, index}
+use Rattle.graph.specs.Literals.{held, filled}
 use Rattle.graph.specs.Admission.{roomNumber}
 use Rattle.graph.specs.Answer.{accepted, LockedOutcome, lockedOutcome, guardedLocks}
 use Rattle.tagged_file.specs.Load.{blank, freeLocks}
@@ -97,18 +98,18 @@ importNumber s nodeRoom outputRoom lockRoom =
 unfoldable pub gateWord : List ℕ → ℕ → ℕ → ℕ
 gateWord s at j = ifEqual (j % 3) 0 0 (numberAt s (at + j))
 
--- the graph that an accepted text says, in the lent tables: their first words are filled, later ones left
+-- the graph that an accepted text says, in the lent tables
 unfoldable pub graphImported : List ℕ → List ℕ → List ℕ → Graph
 graphImported s ns os =
     let i : ℕ = headI s in
     let n : ℕ = headA s in
     let o : ℕ = headO s in
     graphOf i n o
-    (tab (3 * n) (gateWord (body s) (i + o)) ++ drop (3 * n) ns)
-    (tab o (λ j. numberAt (body s) (i + j)) ++ drop o os)
+    (filled (tab (3 * n) (gateWord (body s) (i + o))) ns)
+    (filled (tab o (λ j. numberAt (body s) (i + j))) os)
 
 -- importing the text s into the tables ns and os and the lock bytes ls
 unfoldable pub importCall : List ℕ → List ℕ → List ℕ → List ℕ → LockedOutcome
 importCall s ns os ls =
-    guardedLocks (importNumber s (length ns) (length os) (length ls)) (blank ns os) ls
+    guardedLocks (importNumber s (held ns) (held os) (length ls)) (blank ns os) ls
     (lockedOutcome (accepted (headI s ∷ headA s ∷ headO s ∷ [])) (graphImported s ns os) (freeLocks (headA s) ls))

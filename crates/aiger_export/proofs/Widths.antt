@@ -11,17 +11,19 @@ use Rattle.graph.specs.Finite.{ifLess}
 use Rattle.graph.specs.Decimal.{decimal}
 use Rattle.graph.specs.Admission.{Admitted}
 use Rattle.graph.specs.Graph.{Graph, turn, word, output, isXor}
-use Rattle.graph.proofs.Cases.{lt-or-le}
+use Rattle.graph.proofs.Answers.{ifLess-le}
+use Rattle.graph.proofs.Cases.{lt-or-le, true-or-false}
 use Rattle.graph.proofs.Digits.{length-small}
 use Rattle.graph.proofs.Tests.{less, no-less}
 use Rattle.graph.proofs.Turn.{turn-half}
-use Rattle.aiger.specs.Export.{exported, xorGates, majorityGates, ended, threes, header}
+use Rattle.tagged_file.proofs.WholeWrite.{length-most}
+use Rattle.aiger.specs.Export.{gatesBefore, exportText, exported, xorGates, majorityGates, ended, threes, header}
 use Rattle.aiger.proofs.Exported.{few-gates}
 use Rattle.aiger.proofs.Gates.{before-most, exported-below, base, said, gates-xor, gates-majority, word-early, word-third, said-below}
-use Rattle.aiger.proofs.Length.{length-ended, width-reached, past, reached, power}
+use Rattle.aiger.proofs.Length.{length-ended, width-reached, digits-most, past, reached, power}
 use Rattle.aiger_export.specs.Inner.{wideBy, halves, xorWide, majorityWide, Fit, threeLine, inputLine, outputLine, nodeLines}
 use Rattle.aiger_export.specs.declared.steps.Steps.{Steps}
-use Rattle.aiger_export.proofs.Stored.{line-long, header-long, xor-long, majority-long}
+use Rattle.aiger_export.proofs.Stored.{line-long, header-long, xor-long, majority-long, text-long}
 
 half-past : (h n : ℕ) → ifLess {A = ℕ} (n / 2) h 0 1 ≡ past (2 * h) n
 half-past h n =
@@ -95,6 +97,60 @@ majority-wide b x y z h hx hy hz =
 pub base-low : (g : Graph) → Admitted g → (v : ℕ) → v < g .N → base g v < 499000
 base-low g adm v h = omega (arith, before-most g v)
 
+-- no literal takes more than 7 bytes with the byte after it, and one with a low index no more than 5
+wide-most : (k : ℕ) → wideBy halves k ≤ 7
+unfolding wideBy
+wide-most k =
+    omega (
+      arith,
+      ifLess-le k 5 0 1 1 (omega arith) (omega arith),
+      ifLess-le k 50 0 1 1 (omega arith) (omega arith),
+      ifLess-le k 500 0 1 1 (omega arith) (omega arith),
+      ifLess-le k 5000 0 1 1 (omega arith) (omega arith),
+      ifLess-le k 50000 0 1 1 (omega arith) (omega arith),
+    )
+
+pub input-most : (k : ℕ) → k < 4096 → length (inputLine k) ≤ 5
+unfolding inputLine power
+input-most k h = omega (arith, length-ended (2 * (1 + k)) 10 [], digits-most 3 (2 * (1 + k)) (omega arith))
+
+pub header-most : (i n o : ℕ) → i ≤ 4096 → n ≤ 400000 → o ≤ 4096 → length (header i n o []) ≤ 30
+unfolding power
+header-most i n o a b c =
+    omega (arith, header-wide i n o, digits-most 5 (i + n) (omega arith), digits-most 3 i (omega arith), digits-most 3 o (omega arith), digits-most 5 n (omega arith))
+
+module _ (g : Graph) (adm : Admitted g) where
+  pub output-most : (j : ℕ) → j < g .O → length (outputLine g j) ≤ 7
+  unfolding outputLine
+  output-most j h =
+      let b = exported-below g (output g j) (g .N) (adm .output-below j h) in
+      let k = exported g (output g j) / 2 in
+      omega (arith, ended-wide (exported g (output g j)) 10 k refl (omega (arith, few-gates g adm)), wide-most k)
+
+  module _ (v : ℕ) (h : v < g .N) where
+    below : (k : ℕ) → k < 2 → said g v k / 2 < base g v
+    below k l = said-below g adm v h k l
+
+    xor-most : isXor g v ≡ true → length (nodeLines g v) ≤ 84
+    unfolding nodeLines xorWide
+    xor-most e =
+        let b = base g v in
+        let w = xor-wide b (said g v 0) (said g v 1) (base-low g adm v h) (below 0 (omega arith)) (below 1 (omega arith)) in
+        rw (gates-xor g v e)
+        (omega (arith, w, wide-most b, wide-most (b + 1), wide-most (b + 2), wide-most (said g v 0 / 2), wide-most (said g v 1 / 2)))
+
+    majority-most : isXor g v ≡ false → length (nodeLines g v) ≤ 84
+    unfolding nodeLines majorityWide
+    majority-most e =
+        let b = base g v in
+        let t = exported-below g (word g (3 * v + 2)) v (word-third g adm v h e) in
+        let w = majority-wide b (said g v 0) (said g v 1) (said g v 2) (base-low g adm v h) (below 0 (omega arith)) (below 1 (omega arith)) t in
+        rw (gates-majority g v e)
+        (omega (arith, w, wide-most b, wide-most (b + 1), wide-most (b + 2), wide-most (b + 3), wide-most (said g v 0 / 2), wide-most (said g v 1 / 2), wide-most (said g v 2 / 2)))
+
+    pub node-most : length (nodeLines g v) ≤ 84
+    node-most = ⊎-elim xor-most majority-most (true-or-false (isXor g v))
+
 module _ (g : Graph) (adm : Admitted g) (s : Steps) (fit : Fit g s) (v : ℕ) (h : v < g .N) where
   early : (k : ℕ) → k < 2 → wideBy s (word g (3 * v + k) / 2) ≡ wideBy halves (said g v k / 2)
   early k l = fit (word g (3 * v + k)) (omega (arith, word-early g adm v h k l))
@@ -117,3 +173,15 @@ module _ (g : Graph) (adm : Admitted g) (s : Steps) (fit : Fit g s) (v : ℕ) (h
       rw (gates-majority g v e, first, early 1 (omega arith), w)
       (majority-wide (base g v) (said g v 0) (said g v 1) (said g v 2) (base-low g adm v h) (said-below g adm v h 0 (omega arith)) (said-below g adm v h 1 (omega arith))
       (exported-below g (word g (3 * v + 2)) v t))
+
+-- the whole text
+pub text-most : (g : Graph) → Admitted g → length (exportText g) ≤ 30 + 5 * g .I + 84 * g .N + 7 * g .O
+text-most g adm =
+    omega (
+      arith,
+      text-long g (gatesBefore g (g .N)) refl,
+      header-most (g .I) (gatesBefore g (g .N)) (g .O) (adm .few-inputs) (few-gates g adm) (adm .few-outputs),
+      length-most inputLine 5 0 (g .I) (λ k h. input-most k (omega (arith, adm .few-inputs))),
+      length-most (outputLine g) 7 0 (g .O) (λ j h. output-most g adm j (omega arith)),
+      length-most (nodeLines g) 84 0 (g .N) (λ v h. node-most g adm v (omega arith)),
+    )

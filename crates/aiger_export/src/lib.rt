@@ -1,7 +1,7 @@
 // A graph as ASCII AIGER text.
 ghost use mathlib.Core.Path.{_≡_};
-ghost use Rattle.graph.specs.Graph.{graphOf};
 ghost use Rattle.graph.specs.Answer.{ScratchKept};
+ghost use Rattle.graph.specs.Literals.{graphIn};
 ghost use Rattle.tagged_file.specs.Write.{writtenAnswer, writeOutcome};
 ghost use Rattle.aiger.specs.Export.{exportCall};
 
@@ -20,12 +20,16 @@ pub fn export(
     nodes: u32,
     outputs: u32,
     node_table: &[u32],
+    node_bits: &[u64],
     output_table: &[u32],
+    output_bits: &[u64],
     locks: &[u8],
     scratch: &mut [u32],
     buffer: &mut [u8],
 ) -> Written
-    ensures outcome { λ r. ⌜ writeOutcome (writtenAnswer r) (now (buffer .exit)) ≡ exportCall (graphOf inputs nodes outputs (now («node_table» .entry)) (now («output_table» .entry))) (now (locks .entry)) (now (scratch .entry)) (now (buffer .entry)) ⌝ }
+    ensures outcome { λ r.
+        let g = graphIn inputs nodes outputs (now («node_table» .entry)) (now («node_bits» .entry)) (now («output_table» .entry)) (now («output_bits» .entry)) in
+        ⌜ writeOutcome (writtenAnswer r) (now (buffer .exit)) ≡ exportCall g (now (locks .entry)) (now (scratch .entry)) (now (buffer .entry)) ⌝ }
     ensures scratch { λ r. ⌜ ScratchKept (writtenAnswer r) (now (scratch .entry)) (now (scratch .exit)) ⌝ }
 {
     let number = faults::export_number(
@@ -33,7 +37,9 @@ pub fn export(
         nodes,
         outputs,
         node_table,
+        node_bits,
         output_table,
+        output_bits,
         locks,
         scratch.len(),
         buffer.len(),
@@ -41,13 +47,24 @@ pub fn export(
     if number != 0 {
         return Written::Refused(graph::faults::refused_by(number));
     }
-    gates::fill_literals(inputs, nodes, outputs, node_table, output_table, scratch);
+    gates::fill_literals(
+        inputs,
+        nodes,
+        outputs,
+        node_table,
+        node_bits,
+        output_table,
+        output_bits,
+        scratch,
+    );
     Written::Bytes(text::put_text(
         inputs,
         nodes,
         outputs,
         node_table,
+        node_bits,
         output_table,
+        output_bits,
         scratch,
         buffer,
     ))

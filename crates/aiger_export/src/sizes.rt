@@ -4,7 +4,7 @@ ghost use mathlib.Core.List.{[]};
 ghost use Prim.Native.Nat.{_+_, _*_, _≤_, _<_};
 ghost use lib.ListN.{length};
 ghost use Rattle.graph.specs.Admission.{Admitted};
-ghost use Rattle.graph.specs.Graph.{graphOf};
+ghost use Rattle.graph.specs.Literals.{graphIn};
 ghost use Rattle.tagged_file.specs.Write.{inOrder};
 ghost use Rattle.aiger.specs.Export.{gatesBefore, header, exportText};
 ghost use Rattle.aiger_export.specs.Inner.{xorWide, majorityWide, Fit, inputLine, outputLine, nodeLines};
@@ -43,21 +43,31 @@ pub fn node_size(
     nodes: u32,
     outputs: u32,
     node_table: &[u32],
+    node_bits: &[u64],
     output_table: &[u32],
+    output_bits: &[u64],
     steps: Steps,
     b: u32,
     v: usize,
 ) -> usize
-    requires { ⌜ Admitted (graphOf inputs nodes outputs (now «node_table») (now «output_table»)) × Fit (graphOf inputs nodes outputs (now «node_table») (now «output_table»)) steps × (v < nodes) × (b ≡ inputs + 1 + gatesBefore (graphOf inputs nodes outputs (now «node_table») (now «output_table»)) v) ⌝ }
-    ensures { λ r. ⌜ (r ≡ length (nodeLines (graphOf inputs nodes outputs (now («node_table» .entry)) (now («output_table» .entry))) v)) × (r ≤ 84) ⌝ }
+    requires { let g = graphIn inputs nodes outputs (now «node_table») (now «node_bits») (now «output_table») (now «output_bits») in
+        ⌜ Admitted g × Fit g steps × (v < nodes) × (b ≡ inputs + 1 + gatesBefore g v) ⌝ }
+    ensures { λ r.
+        let g = graphIn inputs nodes outputs (now («node_table» .entry)) (now («node_bits» .entry)) (now («output_table» .entry)) (now («output_bits» .entry)) in
+        ⌜ (r ≡ length (nodeLines g v)) × (r ≤ 84) ⌝ }
 {
     let at = 3 * v;
-    let x = wide_by(steps, table::index_at(node_table, at));
-    let y = wide_by(steps, table::index_at(node_table, at + 1));
-    if table::is_mark_at(node_table, at + 2) {
+    let x = wide_by(steps, table::index_at(node_table, node_bits, at));
+    let y = wide_by(steps, table::index_at(node_table, node_bits, at + 1));
+    if table::is_mark_at(node_table, node_bits, at + 2) {
         return xor_size(b, x, y);
     }
-    majority_size(b, x, y, wide_by(steps, table::index_at(node_table, at + 2)))
+    majority_size(
+        b,
+        x,
+        y,
+        wide_by(steps, table::index_at(node_table, node_bits, at + 2)),
+    )
 }
 
 pub fn nodes_size(
@@ -65,11 +75,16 @@ pub fn nodes_size(
     nodes: u32,
     outputs: u32,
     node_table: &[u32],
+    node_bits: &[u64],
     output_table: &[u32],
+    output_bits: &[u64],
     steps: Steps,
 ) -> usize
-    requires { ⌜ Admitted (graphOf inputs nodes outputs (now «node_table») (now «output_table»)) × Fit (graphOf inputs nodes outputs (now «node_table») (now «output_table»)) steps ⌝ }
-    ensures { λ r. ⌜ (r ≡ length (inOrder (nodeLines (graphOf inputs nodes outputs (now («node_table» .entry)) (now («output_table» .entry)))) 0 nodes)) × (r ≤ 84 * nodes) ⌝ }
+    requires { let g = graphIn inputs nodes outputs (now «node_table») (now «node_bits») (now «output_table») (now «output_bits») in
+        ⌜ Admitted g × Fit g steps ⌝ }
+    ensures { λ r.
+        let g = graphIn inputs nodes outputs (now («node_table» .entry)) (now («node_bits» .entry)) (now («output_table» .entry)) (now («output_bits» .entry)) in
+        ⌜ (r ≡ length (inOrder (nodeLines g) 0 nodes)) × (r ≤ 84 * nodes) ⌝ }
 {
     let mut size: usize = 0;
     let mut b = inputs + 1;
@@ -81,12 +96,14 @@ pub fn nodes_size(
             nodes,
             outputs,
             node_table,
+            node_bits,
             output_table,
+            output_bits,
             steps,
             b,
             v,
         );
-        b += gates::gates_at(node_table, v);
+        b += gates::gates_at(node_table, node_bits, v);
         v += 1;
         left -= 1;
     }
@@ -113,17 +130,22 @@ pub fn outputs_size(
     nodes: u32,
     outputs: u32,
     node_table: &[u32],
+    node_bits: &[u64],
     output_table: &[u32],
+    output_bits: &[u64],
     steps: Steps,
 ) -> usize
-    requires { ⌜ Admitted (graphOf inputs nodes outputs (now «node_table») (now «output_table»)) × Fit (graphOf inputs nodes outputs (now «node_table») (now «output_table»)) steps ⌝ }
-    ensures { λ r. ⌜ (r ≡ length (inOrder (outputLine (graphOf inputs nodes outputs (now («node_table» .entry)) (now («output_table» .entry)))) 0 outputs)) × (r ≤ 84 * outputs) ⌝ }
+    requires { let g = graphIn inputs nodes outputs (now «node_table») (now «node_bits») (now «output_table») (now «output_bits») in
+        ⌜ Admitted g × Fit g steps ⌝ }
+    ensures { λ r.
+        let g = graphIn inputs nodes outputs (now («node_table» .entry)) (now («node_bits» .entry)) (now («output_table» .entry)) (now («output_bits» .entry)) in
+        ⌜ (r ≡ length (inOrder (outputLine g) 0 outputs)) × (r ≤ 84 * outputs) ⌝ }
 {
     let mut size: usize = 0;
     let mut j: usize = 0;
     let mut left = outputs;
     while 0 < left {
-        size += wide_by(steps, table::index_at(output_table, j));
+        size += wide_by(steps, table::index_at(output_table, output_bits, j));
         j += 1;
         left -= 1;
     }
@@ -138,21 +160,67 @@ pub fn header_size(inputs: u32, count: u32, outputs: u32) -> usize
     10 + length_of(inputs + count) + length_of(inputs) + length_of(outputs) + length_of(count)
 }
 
+// As many bytes as a text of so many inputs, nodes and outputs may have.
+pub fn most_bytes(inputs: u32, nodes: u32, outputs: u32) -> usize
+    ensures { λ r. ⌜ r ≡ 30 + 5 * inputs + 84 * nodes + 7 * outputs ⌝ }
+{
+    30 + 5 * inputs as usize + 84 * nodes as usize + 7 * outputs as usize
+}
+
 // The whole text.
 pub fn text_size(
     inputs: u32,
     nodes: u32,
     outputs: u32,
     node_table: &[u32],
+    node_bits: &[u64],
     output_table: &[u32],
+    output_bits: &[u64],
 ) -> usize
-    requires { ⌜ Admitted (graphOf inputs nodes outputs (now «node_table») (now «output_table»)) ⌝ }
-    ensures { λ r. ⌜ r ≡ length (exportText (graphOf inputs nodes outputs (now («node_table» .entry)) (now («output_table» .entry)))) ⌝ }
+    requires { let g = graphIn inputs nodes outputs (now «node_table») (now «node_bits») (now «output_table») (now «output_bits») in
+        ⌜ Admitted g ⌝ }
+    ensures { λ r.
+        let g = graphIn inputs nodes outputs (now («node_table» .entry)) (now («node_bits» .entry)) (now («output_table» .entry)) (now («output_bits» .entry)) in
+        ⌜ r ≡ length (exportText g) ⌝ }
 {
-    let count = gates::gate_count(inputs, nodes, outputs, node_table, output_table);
-    let steps = graph_steps(inputs, nodes, outputs, node_table, output_table);
+    let count = gates::gate_count(
+        inputs,
+        nodes,
+        outputs,
+        node_table,
+        node_bits,
+        output_table,
+        output_bits,
+    );
+    let steps = graph_steps(
+        inputs,
+        nodes,
+        outputs,
+        node_table,
+        node_bits,
+        output_table,
+        output_bits,
+    );
     header_size(inputs, count, outputs)
         + inputs_size(inputs)
-        + outputs_size(inputs, nodes, outputs, node_table, output_table, steps)
-        + nodes_size(inputs, nodes, outputs, node_table, output_table, steps)
+        + outputs_size(
+            inputs,
+            nodes,
+            outputs,
+            node_table,
+            node_bits,
+            output_table,
+            output_bits,
+            steps,
+        )
+        + nodes_size(
+            inputs,
+            nodes,
+            outputs,
+            node_table,
+            node_bits,
+            output_table,
+            output_bits,
+            steps,
+        )
 }

@@ -3,7 +3,7 @@ ghost use mathlib.Core.Path.{_≡_};
 ghost use Prim.Native.Nat.{_≤_, _<_};
 ghost use Rattle.graph.specs.Admission.{Admitted};
 ghost use Rattle.graph.specs.Finite.{ifLess};
-ghost use Rattle.graph.specs.Graph.{graphOf};
+ghost use Rattle.graph.specs.Literals.{graphIn};
 ghost use Rattle.aiger_export.specs.Inner.{wideBy, halves, Step, Fit};
 use crate::gates;
 
@@ -58,11 +58,16 @@ pub fn step_at(
     nodes: u32,
     outputs: u32,
     node_table: &[u32],
+    node_bits: &[u64],
     output_table: &[u32],
+    output_bits: &[u64],
     half: u32,
 ) -> u32
-    requires { ⌜ Admitted (graphOf inputs nodes outputs (now «node_table») (now «output_table»)) ⌝ }
-    ensures { λ r. ⌜ Step (graphOf inputs nodes outputs (now («node_table» .entry)) (now («output_table» .entry))) half r ⌝ }
+    requires { let g = graphIn inputs nodes outputs (now «node_table») (now «node_bits») (now «output_table») (now «output_bits») in
+        ⌜ Admitted g ⌝ }
+    ensures { λ r.
+        let g = graphIn inputs nodes outputs (now («node_table» .entry)) (now («node_bits» .entry)) (now («output_table» .entry)) (now («output_bits» .entry)) in
+        ⌜ Step g half r ⌝ }
 {
     if half <= inputs {
         return half;
@@ -70,7 +75,7 @@ pub fn step_at(
     let mut last = inputs;
     let mut v: u32 = 0;
     while v < nodes {
-        last += gates::gates_at(node_table, v as usize);
+        last += gates::gates_at(node_table, node_bits, v as usize);
         if half <= last {
             return inputs + 1 + v;
         }
@@ -85,16 +90,66 @@ pub fn graph_steps(
     nodes: u32,
     outputs: u32,
     node_table: &[u32],
+    node_bits: &[u64],
     output_table: &[u32],
+    output_bits: &[u64],
 ) -> Steps
-    requires { ⌜ Admitted (graphOf inputs nodes outputs (now «node_table») (now «output_table»)) ⌝ }
-    ensures { λ r. ⌜ Fit (graphOf inputs nodes outputs (now («node_table» .entry)) (now («output_table» .entry))) r ⌝ }
+    requires { let g = graphIn inputs nodes outputs (now «node_table») (now «node_bits») (now «output_table») (now «output_bits») in
+        ⌜ Admitted g ⌝ }
+    ensures { λ r.
+        let g = graphIn inputs nodes outputs (now («node_table» .entry)) (now («node_bits» .entry)) (now («output_table» .entry)) (now («output_bits» .entry)) in
+        ⌜ Fit g r ⌝ }
 {
     Steps {
-        two: step_at(inputs, nodes, outputs, node_table, output_table, 5),
-        three: step_at(inputs, nodes, outputs, node_table, output_table, 50),
-        four: step_at(inputs, nodes, outputs, node_table, output_table, 500),
-        five: step_at(inputs, nodes, outputs, node_table, output_table, 5000),
-        six: step_at(inputs, nodes, outputs, node_table, output_table, 50000),
+        two: step_at(
+            inputs,
+            nodes,
+            outputs,
+            node_table,
+            node_bits,
+            output_table,
+            output_bits,
+            5,
+        ),
+        three: step_at(
+            inputs,
+            nodes,
+            outputs,
+            node_table,
+            node_bits,
+            output_table,
+            output_bits,
+            50,
+        ),
+        four: step_at(
+            inputs,
+            nodes,
+            outputs,
+            node_table,
+            node_bits,
+            output_table,
+            output_bits,
+            500,
+        ),
+        five: step_at(
+            inputs,
+            nodes,
+            outputs,
+            node_table,
+            node_bits,
+            output_table,
+            output_bits,
+            5000,
+        ),
+        six: step_at(
+            inputs,
+            nodes,
+            outputs,
+            node_table,
+            node_bits,
+            output_table,
+            output_bits,
+            50000,
+        ),
     }
 }

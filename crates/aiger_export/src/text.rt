@@ -4,14 +4,16 @@ ghost use Prim.Native.Nat.{_+_, _≤_, _<_};
 ghost use lib.ListN.{length};
 ghost use lib.Seq.{sets};
 ghost use Rattle.graph.specs.Admission.{Admitted};
-ghost use Rattle.graph.specs.Graph.{graphOf};
+ghost use Rattle.graph.specs.Literals.{graphIn};
 ghost use Rattle.tagged_file.specs.Write.{inOrder};
 ghost use Rattle.aiger.specs.Export.{exportText};
 ghost use Rattle.aiger_export.specs.Inner.{Filled, inputLine, outputLine, nodeLines};
 use crate::gates;
 use crate::lines;
 use graph::literal::MARK;
-use graph::table::word_at;
+use graph::table::edge_at;
+use graph::table::three_at;
+use graph::table::word_of;
 
 pub fn put_inputs(buffer: &mut [u8], start: usize, inputs: u32) -> usize
     requires { ⌜ (inputs ≤ 4096) × (start + length (inOrder inputLine 0 inputs) ≤ length (now buffer)) ⌝ }
@@ -33,17 +35,32 @@ pub fn put_output(
     nodes: u32,
     outputs: u32,
     node_table: &[u32],
+    node_bits: &[u64],
     output_table: &[u32],
+    output_bits: &[u64],
     scratch: &[u32],
     buffer: &mut [u8],
     at: usize,
     j: usize,
 ) -> usize
-    requires { ⌜ Admitted (graphOf inputs nodes outputs (now «node_table») (now «output_table»)) × (nodes ≤ length (now scratch)) × Filled (graphOf inputs nodes outputs (now «node_table») (now «output_table»)) (now scratch) × (j < outputs) × (at + length (outputLine (graphOf inputs nodes outputs (now «node_table») (now «output_table»)) j) ≤ length (now buffer)) ⌝ }
-    ensures { λ r. ⌜ (r ≡ at + length (outputLine (graphOf inputs nodes outputs (now («node_table» .entry)) (now («output_table» .entry))) j)) × (now (buffer .exit) ≡ sets (now (buffer .entry)) at (outputLine (graphOf inputs nodes outputs (now («node_table» .entry)) (now («output_table» .entry))) j)) ⌝ }
+    requires { let g = graphIn inputs nodes outputs (now «node_table») (now «node_bits») (now «output_table») (now «output_bits») in
+        ⌜ Admitted g × (nodes ≤ length (now scratch)) × Filled g (now scratch) × (j < outputs) × (at + length (outputLine g j) ≤ length (now buffer)) ⌝ }
+    ensures { λ r.
+        let g = graphIn inputs nodes outputs (now («node_table» .entry)) (now («node_bits» .entry)) (now («output_table» .entry)) (now («output_bits» .entry)) in
+        ⌜ (r ≡ at + length (outputLine g j)) × (now (buffer .exit) ≡ sets (now (buffer .entry)) at (outputLine g j)) ⌝ }
 {
-    let x = word_at(output_table, j);
-    let y = gates::literal(inputs, nodes, outputs, node_table, output_table, scratch, x);
+    let x = edge_at(output_table, output_bits, j);
+    let y = gates::literal(
+        inputs,
+        nodes,
+        outputs,
+        node_table,
+        node_bits,
+        output_table,
+        output_bits,
+        scratch,
+        x,
+    );
     lines::put_ended(buffer, at, y, b'\n')
 }
 
@@ -52,13 +69,18 @@ pub fn put_outputs(
     nodes: u32,
     outputs: u32,
     node_table: &[u32],
+    node_bits: &[u64],
     output_table: &[u32],
+    output_bits: &[u64],
     scratch: &[u32],
     buffer: &mut [u8],
     start: usize,
 ) -> usize
-    requires { ⌜ Admitted (graphOf inputs nodes outputs (now «node_table») (now «output_table»)) × (nodes ≤ length (now scratch)) × Filled (graphOf inputs nodes outputs (now «node_table») (now «output_table»)) (now scratch) × (start + length (inOrder (outputLine (graphOf inputs nodes outputs (now «node_table») (now «output_table»))) 0 outputs) ≤ length (now buffer)) ⌝ }
-    ensures { λ r. ⌜ (r ≡ start + length (inOrder (outputLine (graphOf inputs nodes outputs (now («node_table» .entry)) (now («output_table» .entry)))) 0 outputs)) × (now (buffer .exit) ≡ sets (now (buffer .entry)) start (inOrder (outputLine (graphOf inputs nodes outputs (now («node_table» .entry)) (now («output_table» .entry)))) 0 outputs)) ⌝ }
+    requires { let g = graphIn inputs nodes outputs (now «node_table») (now «node_bits») (now «output_table») (now «output_bits») in
+        ⌜ Admitted g × (nodes ≤ length (now scratch)) × Filled g (now scratch) × (start + length (inOrder (outputLine g) 0 outputs) ≤ length (now buffer)) ⌝ }
+    ensures { λ r.
+        let g = graphIn inputs nodes outputs (now («node_table» .entry)) (now («node_bits» .entry)) (now («output_table» .entry)) (now («output_bits» .entry)) in
+        ⌜ (r ≡ start + length (inOrder (outputLine g) 0 outputs)) × (now (buffer .exit) ≡ sets (now (buffer .entry)) start (inOrder (outputLine g) 0 outputs)) ⌝ }
 {
     let mut at = start;
     let mut j: usize = 0;
@@ -69,7 +91,9 @@ pub fn put_outputs(
             nodes,
             outputs,
             node_table,
+            node_bits,
             output_table,
+            output_bits,
             scratch,
             buffer,
             at,
@@ -87,26 +111,61 @@ pub fn put_node(
     nodes: u32,
     outputs: u32,
     node_table: &[u32],
+    node_bits: &[u64],
     output_table: &[u32],
+    output_bits: &[u64],
     scratch: &[u32],
     buffer: &mut [u8],
     at: usize,
     v: usize,
 ) -> usize
-    requires { ⌜ Admitted (graphOf inputs nodes outputs (now «node_table») (now «output_table»)) × (nodes ≤ length (now scratch)) × Filled (graphOf inputs nodes outputs (now «node_table») (now «output_table»)) (now scratch) × (v < nodes) × (at + length (nodeLines (graphOf inputs nodes outputs (now «node_table») (now «output_table»)) v) ≤ length (now buffer)) ⌝ }
-    ensures { λ r. ⌜ (r ≡ at + length (nodeLines (graphOf inputs nodes outputs (now («node_table» .entry)) (now («output_table» .entry))) v)) × (now (buffer .exit) ≡ sets (now (buffer .entry)) at (nodeLines (graphOf inputs nodes outputs (now («node_table» .entry)) (now («output_table» .entry))) v)) ⌝ }
+    requires { let g = graphIn inputs nodes outputs (now «node_table») (now «node_bits») (now «output_table») (now «output_bits») in
+        ⌜ Admitted g × (nodes ≤ length (now scratch)) × Filled g (now scratch) × (v < nodes) × (at + length (nodeLines g v) ≤ length (now buffer)) ⌝ }
+    ensures { λ r.
+        let g = graphIn inputs nodes outputs (now («node_table» .entry)) (now («node_bits» .entry)) (now («output_table» .entry)) (now («output_bits» .entry)) in
+        ⌜ (r ≡ at + length (nodeLines g v)) × (now (buffer .exit) ≡ sets (now (buffer .entry)) at (nodeLines g v)) ⌝ }
 {
-    let first = 3 * v;
     let last = scratch[v] / 2;
-    let x = word_at(node_table, first);
-    let p = gates::literal(inputs, nodes, outputs, node_table, output_table, scratch, x);
-    let y = word_at(node_table, first + 1);
-    let q = gates::literal(inputs, nodes, outputs, node_table, output_table, scratch, y);
-    let z = word_at(node_table, first + 2);
+    let three = three_at(node_table, node_bits, v);
+    let x = word_of(node_table, node_bits, v, 0, three);
+    let p = gates::literal(
+        inputs,
+        nodes,
+        outputs,
+        node_table,
+        node_bits,
+        output_table,
+        output_bits,
+        scratch,
+        x,
+    );
+    let y = word_of(node_table, node_bits, v, 1, three);
+    let q = gates::literal(
+        inputs,
+        nodes,
+        outputs,
+        node_table,
+        node_bits,
+        output_table,
+        output_bits,
+        scratch,
+        y,
+    );
+    let z = word_of(node_table, node_bits, v, 2, three);
     if z == MARK {
         return lines::put_xor(buffer, at, last - 2, p, q);
     }
-    let r = gates::literal(inputs, nodes, outputs, node_table, output_table, scratch, z);
+    let r = gates::literal(
+        inputs,
+        nodes,
+        outputs,
+        node_table,
+        node_bits,
+        output_table,
+        output_bits,
+        scratch,
+        z,
+    );
     lines::put_majority(buffer, at, last - 3, p, q, r)
 }
 
@@ -115,13 +174,18 @@ pub fn put_nodes(
     nodes: u32,
     outputs: u32,
     node_table: &[u32],
+    node_bits: &[u64],
     output_table: &[u32],
+    output_bits: &[u64],
     scratch: &[u32],
     buffer: &mut [u8],
     start: usize,
 ) -> usize
-    requires { ⌜ Admitted (graphOf inputs nodes outputs (now «node_table») (now «output_table»)) × (nodes ≤ length (now scratch)) × Filled (graphOf inputs nodes outputs (now «node_table») (now «output_table»)) (now scratch) × (start + length (inOrder (nodeLines (graphOf inputs nodes outputs (now «node_table») (now «output_table»))) 0 nodes) ≤ length (now buffer)) ⌝ }
-    ensures { λ r. ⌜ (r ≡ start + length (inOrder (nodeLines (graphOf inputs nodes outputs (now («node_table» .entry)) (now («output_table» .entry)))) 0 nodes)) × (now (buffer .exit) ≡ sets (now (buffer .entry)) start (inOrder (nodeLines (graphOf inputs nodes outputs (now («node_table» .entry)) (now («output_table» .entry)))) 0 nodes)) ⌝ }
+    requires { let g = graphIn inputs nodes outputs (now «node_table») (now «node_bits») (now «output_table») (now «output_bits») in
+        ⌜ Admitted g × (nodes ≤ length (now scratch)) × Filled g (now scratch) × (start + length (inOrder (nodeLines g) 0 nodes) ≤ length (now buffer)) ⌝ }
+    ensures { λ r.
+        let g = graphIn inputs nodes outputs (now («node_table» .entry)) (now («node_bits» .entry)) (now («output_table» .entry)) (now («output_bits» .entry)) in
+        ⌜ (r ≡ start + length (inOrder (nodeLines g) 0 nodes)) × (now (buffer .exit) ≡ sets (now (buffer .entry)) start (inOrder (nodeLines g) 0 nodes)) ⌝ }
 {
     let mut at = start;
     let mut v: usize = 0;
@@ -132,7 +196,9 @@ pub fn put_nodes(
             nodes,
             outputs,
             node_table,
+            node_bits,
             output_table,
+            output_bits,
             scratch,
             buffer,
             at,
@@ -150,14 +216,27 @@ pub fn put_text(
     nodes: u32,
     outputs: u32,
     node_table: &[u32],
+    node_bits: &[u64],
     output_table: &[u32],
+    output_bits: &[u64],
     scratch: &[u32],
     buffer: &mut [u8],
 ) -> usize
-    requires { ⌜ Admitted (graphOf inputs nodes outputs (now «node_table») (now «output_table»)) × (nodes ≤ length (now scratch)) × Filled (graphOf inputs nodes outputs (now «node_table») (now «output_table»)) (now scratch) × (length (exportText (graphOf inputs nodes outputs (now «node_table») (now «output_table»))) ≤ length (now buffer)) ⌝ }
-    ensures { λ r. ⌜ (r ≡ length (exportText (graphOf inputs nodes outputs (now («node_table» .entry)) (now («output_table» .entry))))) × (now (buffer .exit) ≡ sets (now (buffer .entry)) 0 (exportText (graphOf inputs nodes outputs (now («node_table» .entry)) (now («output_table» .entry))))) ⌝ }
+    requires { let g = graphIn inputs nodes outputs (now «node_table») (now «node_bits») (now «output_table») (now «output_bits») in
+        ⌜ Admitted g × (nodes ≤ length (now scratch)) × Filled g (now scratch) × (length (exportText g) ≤ length (now buffer)) ⌝ }
+    ensures { λ r.
+        let g = graphIn inputs nodes outputs (now («node_table» .entry)) (now («node_bits» .entry)) (now («output_table» .entry)) (now («output_bits» .entry)) in
+        ⌜ (r ≡ length (exportText g)) × (now (buffer .exit) ≡ sets (now (buffer .entry)) 0 (exportText g)) ⌝ }
 {
-    let count = gates::gate_count(inputs, nodes, outputs, node_table, output_table);
+    let count = gates::gate_count(
+        inputs,
+        nodes,
+        outputs,
+        node_table,
+        node_bits,
+        output_table,
+        output_bits,
+    );
     let first = lines::put_header(buffer, inputs, count, outputs);
     let second = put_inputs(buffer, first, inputs);
     let third = put_outputs(
@@ -165,7 +244,9 @@ pub fn put_text(
         nodes,
         outputs,
         node_table,
+        node_bits,
         output_table,
+        output_bits,
         scratch,
         buffer,
         second,
@@ -175,7 +256,9 @@ pub fn put_text(
         nodes,
         outputs,
         node_table,
+        node_bits,
         output_table,
+        output_bits,
         scratch,
         buffer,
         third,

@@ -1,7 +1,7 @@
 -- A number read digit by digit, and what then is known of it. From the laws on walking over digits.
 use Prim.Native.Nat.{ℕ, suc, _+_, _-_, _*_, _<_, _≤_}
 use mathlib.Core.Path.{_≡_, refl, sym, ap, _∙_}
-use mathlib.Core.Logic.{_⊎_, inl, inr, ⊎-elim}
+use mathlib.Core.Logic.{_⊎_, inl, inr, ⊎-elim, _≢_}
 use mathlib.Core.List.{List}
 use native.Mathlib.Omega.{arith}
 use native.Mathlib.Numerals.{add-one}
@@ -12,7 +12,7 @@ use Rattle.graph.proofs.Tests.{less, no-less, equal, unequal}
 use Rattle.aiger.specs.Lines.{ifDigit, digits, worth, number, endedNumber}
 use Rattle.aiger.proofs.ReadNumber.{is-digit, no-digit}
 use Rattle.aiger.proofs.Walk.{high-digit, worth-step, digits-step, worth-low, worth-high, worth-end, digits-low, digits-high, digits-end, worth-grows}
-use Rattle.aiger_import.specs.Reading.{DigitsRead, NumberRead}
+use Rattle.aiger_import.specs.Reading.{DigitsRead, NumberRead, NumberThere}
 
 -- what a byte says
 module _ (b d : ℕ) (e : d ≡ ifDigit b (b - 48) 10) where
@@ -82,6 +82,41 @@ module _ (s : List ℕ) (value count : ℕ) (r : Reading s value count) where
       reading-over l =
           let g = worth-grows (drop (count + 1) s) (10 * value + d) in
           record { known = λ h. absurd (omega arith); over = λ h. omega (arith, next-worth) }
+
+-- a number that is known to be there: a byte from 48 on is one of its digits
+module _ (s : List ℕ) (value count : ℕ) (r : Reading s value count) (t : NumberThere s) where
+  pub known-room : count < length s
+  known-room = omega (arith, r .digits-left, t .within)
+
+  module _ (h : 48 ≤ getD s count 0) where
+    inside : count < digits s
+    inside =
+        ⊎-elim
+        (λ (e : count ≡ digits s). absurd (omega (arith, rw (← e) at (t .stop))))
+        (λ (n : count ≢ digits s). omega (arith, r .digits-left))
+        (eq-or-ne count (digits s))
+
+    pub known-digit : getD s count 0 < 58
+    known-digit =
+        ⊎-elim
+        (λ (l : getD s count 0 < 58). l)
+        (λ (l : 58 ≤ getD s count 0). absurd (omega (arith, r .digits-left, inside, digits-high s count value known-room l)))
+        (lt-or-le (getD s count 0) 58)
+
+    said : getD s count 0 - 48 ≡ ifDigit (getD s count 0) (getD s count 0 - 48) 10
+    said = sym (is-digit (getD s count 0) (getD s count 0 - 48) 10 h known-digit)
+
+    pub known-low : 10 * value + (getD s count 0 - 48) < 4294967296
+    known-low =
+        let d = getD s count 0 - 48 in
+        omega (arith, worth-grows (drop (count + 1) s) (10 * value + d), next-worth s value count r known-room d said (omega (arith, known-digit)), t .fits)
+
+    pub known-more : Reading s (10 * value + (getD s count 0 - 48)) (count + 1)
+    known-more = reading-more s value count r known-room (getD s count 0 - 48) said (omega (arith, known-digit)) known-low
+
+  pub known-end : getD s count 0 < 48 → (value ≡ number s) × (count ≡ digits s)
+  known-end l =
+      (sym (worth-low s count value known-room l) ∙ r .worth-left, omega (arith, r .digits-left, digits-low s count value known-room l))
 
 -- the test of a leading zero comes to 0 or 10
 pub zero-or-ten : (a n x : ℕ) → x ≡ ifEqual a 48 (ifLess 1 n 10 0) 0 → (x ≡ 0 → ⊥) → x ≡ 10

@@ -4,6 +4,7 @@ use mathlib.Core.Path.{_≡_}
 use mathlib.Core.List.{List}
 use Prim.Native.Nat.{ℕ, suc, _*_, _≤_, _<_}
 use lib.ListN.{length, getD, drop}
+use Rattle.graph.specs.Inner.{IsWord}
 use Rattle.aiger.specs.Lines.{digits, number, endedNumber, skip, numberAt, lineNumber}
 use Rattle.aiger.specs.Import.{headI, headO, headA, body, headerNumber}
 use Rattle.aiger_import.specs.declared.header.Header.{Header}
@@ -41,9 +42,29 @@ pub record HeaderRead (s : List ℕ) (nodeRoom outputRoom lockRoom : ℕ) (h : H
   pub within : h .fault ≡ 0 → h .size ≤ length s
   pub after : h .fault ≡ 0 → drop (h .size) s ≡ body s
 
--- n lines of one number, and of three, without a fault
-abbrev pub Ones : ℕ → List ℕ → Type 0
-Ones n s = (j : ℕ) → j < n → lineNumber 0 (skip j s) ≡ 0
+-- What the fill pass asks of the check pass. A number that fits stands at the front, and a byte below the digits after it
+pub record NumberThere (s : List ℕ) : Type 0 where
+  pub within : digits s < length s
+  pub fits : number s < 4294967296
+  pub stop : getD s (digits s) 0 < 48
 
-abbrev pub Threes : ℕ → List ℕ → Type 0
-Threes n s = (k : ℕ) → k < n → lineNumber 2 (skip (3 * k) s) ≡ 0
+-- n lines of one number
+abbrev pub Ones : ℕ → List ℕ → Type 0
+Ones n s = (j : ℕ) → j < n → NumberThere (skip j s)
+
+-- the line of an output at the front, and n of them
+pub record OutputLine (s : List ℕ) : Type 0 where
+  pub one : NumberThere s
+  pub word : IsWord (number s)
+
+abbrev pub OutputLines : ℕ → List ℕ → Type 0
+OutputLines n s = (j : ℕ) → j < n → OutputLine (skip j s)
+
+-- the line of a gate, and n of them
+pub record GateLine (s : List ℕ) : Type 0 where
+  pub three : (k : ℕ) → k ≤ 2 → NumberThere (skip k s)
+  pub left : IsWord (numberAt s 1)
+  pub right : IsWord (numberAt s 2)
+
+abbrev pub GateLines : ℕ → List ℕ → Type 0
+GateLines n s = (k : ℕ) → k < n → GateLine (skip (3 * k) s)

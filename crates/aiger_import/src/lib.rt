@@ -1,6 +1,7 @@
 // Importing a graph from ASCII AIGER.
 ghost use mathlib.Core.Path.{_≡_};
 ghost use Rattle.graph.specs.Answer.{lockedOutcome};
+ghost use Rattle.graph.specs.Literals.{literals};
 ghost use Rattle.tagged_file.specs.Load.{loadedAnswer, loadedGraph};
 ghost use Rattle.aiger.specs.Import.{importCall};
 
@@ -10,6 +11,7 @@ mod header;
 mod lines;
 
 use graph::faults::refused_by;
+use graph::table;
 use tagged_file::Loaded;
 use tagged_file::locks::free;
 
@@ -17,12 +19,23 @@ use tagged_file::locks::free;
 pub fn import(
     text: &[u8],
     node_table: &mut [u32],
+    node_bits: &mut [u64],
     output_table: &mut [u32],
+    output_bits: &mut [u64],
     locks: &mut [u8],
 ) -> Loaded
-    ensures { λ r. ⌜ lockedOutcome (loadedAnswer r) (loadedGraph r (now («node_table» .exit)) (now («output_table» .exit))) (now (locks .exit)) ≡ importCall (now (text .entry)) (now («node_table» .entry)) (now («output_table» .entry)) (now (locks .entry)) ⌝ }
+    ensures { λ r.
+        let ns = literals (now («node_table» .entry)) (now («node_bits» .entry)) in
+        let os = literals (now («output_table» .entry)) (now («output_bits» .entry)) in
+        let g = loadedGraph r (literals (now («node_table» .exit)) (now («node_bits» .exit))) (literals (now («output_table» .exit)) (now («output_bits» .exit))) in
+        ⌜ lockedOutcome (loadedAnswer r) g (now (locks .exit)) ≡ importCall (now (text .entry)) ns os (now (locks .entry)) ⌝ }
 {
-    let header = header::read_header(text, node_table.len(), output_table.len(), locks.len());
+    let header = header::read_header(
+        text,
+        table::room_of(node_table, node_bits),
+        table::room_of(output_table, output_bits),
+        locks.len(),
+    );
     let fault = header.fault;
     if fault != 0 {
         return Loaded::Refused(refused_by(fault));
@@ -36,8 +49,8 @@ pub fn import(
         return Loaded::Refused(refused_by(number));
     }
     let after = fill::after_ones(&text[start..], inputs);
-    let gates = fill::fill_outputs(after, outputs, output_table);
-    fill::fill_gates(gates, nodes, node_table);
+    let gates = fill::fill_outputs(after, outputs, output_table, output_bits);
+    fill::fill_gates(gates, nodes, node_table, node_bits);
     free(locks, nodes);
     Loaded::Graph {
         inputs,

@@ -1,10 +1,10 @@
 // Numbers and lines, at the front of the bytes that are left.
 ghost use mathlib.Core.Path.{_≡_};
-ghost use Prim.Native.Nat.{_-_, _<_};
+ghost use Prim.Native.Nat.{suc, _-_, _<_};
 ghost use lib.ListN.{length};
 ghost use Rattle.graph.specs.Finite.{ifLess, ifEqual};
-ghost use Rattle.aiger.specs.Lines.{ifDigit};
-ghost use Rattle.aiger_import.specs.Reading.{DigitsRead, NumberRead, LineRead};
+ghost use Rattle.aiger.specs.Lines.{ifDigit, digits, number};
+ghost use Rattle.aiger_import.specs.Reading.{DigitsRead, NumberRead, LineRead, NumberThere};
 
 pub struct Digits {
     pub value: u64,
@@ -132,4 +132,23 @@ pub fn read_line(s: &[u8], k: usize, numbers: &mut [u32]) -> Line
         fault: n.fault,
         size: at + n.size,
     }
+}
+
+pub struct Known {
+    pub value: u32,
+    pub size: usize,
+}
+
+// The number at the front, which the check pass has accepted, and its bytes with the one after it: one test a byte.
+pub fn known_number(s: &[u8]) -> Known
+    requires { ⌜ NumberThere (now s) ⌝ }
+    ensures { λ r. ⌜ (r .value ≡ number (now (s .entry))) × (r .size ≡ suc (digits (now (s .entry)))) ⌝ }
+{
+    let mut value: u32 = 0;
+    let mut k: usize = 0;
+    while 48 <= s[k] {
+        value = 10 * value + (s[k] - 48) as u32;
+        k += 1;
+    }
+    Known { value, size: k + 1 }
 }

@@ -4,18 +4,20 @@ use Prim.Native.Nat.{_-_}
 use native.Mathlib.Nat.{zero-add}
 use native.Mathlib.Omega.{arith}
 use Rattle.graph.specs.Graph.{graphOf}
+use Rattle.graph.proofs.Words.{readable}
 use Rattle.aiger_export.proofs.Placed.{Counted, counted-zero, counted-most, counted-next, counted-all}
+use Rattle.graph.specs.Literals.{literals}
 use Rattle.aiger_export.proofs.gates.gate_count.Statement.{statement}
 use Rattle.aiger_export.proofs.gates.gate_count.Tie as tie
 
 abbrev Inv-loop : tie.InvT-loop
-Inv-loop inputs nodes outputs node-table output-table count₀ v₀ count v = Counted (graphOf inputs nodes outputs node-table output-table) 0 v count
+Inv-loop inputs nodes outputs node-table node-bits output-table output-bits count₀ v₀ count v = Counted (graphOf inputs nodes outputs (literals node-table node-bits) (literals output-table output-bits)) 0 v count
 
 abbrev μ-loop : tie.MeasureT-loop
-μ-loop inputs nodes outputs node-table output-table count₀ v₀ count v = nodes - v
+μ-loop inputs nodes outputs node-table node-bits output-table output-bits count₀ v₀ count v = nodes - v
 
 add-count : tie.Need-add-count Inv-loop μ-loop
-add-count c = let l = c .before .before in omega (arith, c .gates-at .ensures .1, counted-most _ _ _ _ (l .loop .inv), l .before .before .before .pre .few-nodes)
+add-count c = let l = c .before .before in omega (arith, c .gates-at .ensures .1, counted-most _ _ _ _ (l .loop .inv), l .before .before .before .before .before .pre .few-nodes)
 
 loop-again : tie.Need-loop-again Inv-loop μ-loop
 loop-again c =
@@ -33,7 +35,7 @@ gate-count-spec =
     μ-loop
     (λ c. counted-zero _ _)
     (λ c. omega arith)
-    (λ c κs. omega arith)
+    (λ c κs. readable _ (c .before .before .before .before .before .before .pre) (c .before .loop .v) (omega arith))
     add-count
     (λ c. omega arith)
     (λ c. omega arith)

@@ -2,21 +2,23 @@
 use Prim.Native.Nat.{_-_, _<_}
 use native.Mathlib.Omega.{arith}
 use Rattle.graph.specs.Graph.{graphOf}
+use Rattle.graph.proofs.Words.{readable}
 use Rattle.aiger_export.proofs.Placed.{step-early, step-node, step-none, Counted, counted-zero, counted-most, counted-more, counted-next, counted-all}
+use Rattle.graph.specs.Literals.{literals}
 use Rattle.aiger_export.proofs.steps.step_at.Statement.{statement}
 use Rattle.aiger_export.proofs.steps.step_at.Tie as tie
 
 abbrev Inv-loop : tie.InvT-loop
-Inv-loop inputs nodes outputs node-table output-table half last₀ v₀ last v = Counted (graphOf inputs nodes outputs node-table output-table) inputs v last × (last < half)
+Inv-loop inputs nodes outputs node-table node-bits output-table output-bits half last₀ v₀ last v = Counted (graphOf inputs nodes outputs (literals node-table node-bits) (literals output-table output-bits)) inputs v last × (last < half)
 
 abbrev μ-loop : tie.MeasureT-loop
-μ-loop inputs nodes outputs node-table output-table half last₀ v₀ last v = nodes - v
+μ-loop inputs nodes outputs node-table node-bits output-table output-bits half last₀ v₀ last v = nodes - v
 
 returns : tie.Need-returns Inv-loop μ-loop
 returns c = step-early _ _ (c .if1 .taken)
 
 add-last : tie.Need-add-last Inv-loop μ-loop
-add-last c = let l = c .before .before in omega (arith, c .gates-at .ensures .1, counted-most _ _ _ _ (l .loop .inv .0), l .before .before .before .before .pre)
+add-last c = let l = c .before .before in omega (arith, c .gates-at .ensures .1, counted-most _ _ _ _ (l .loop .inv .0), l .before .before .before .before .before .before .pre)
 
 returns-2 : tie.Need-returns-2 Inv-loop μ-loop
 returns-2 c =
@@ -42,7 +44,7 @@ step-at-spec =
     returns
     (λ c. (counted-zero _ _, c .if1 .left))
     (λ c. omega arith)
-    (λ c κs. omega arith)
+    (λ c κs. readable _ (c .before .before .before .before .before .before .before .pre) (c .before .loop .v) (omega arith))
     add-last
     (λ c. omega arith)
     (λ c. omega arith)

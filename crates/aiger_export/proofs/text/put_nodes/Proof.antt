@@ -4,21 +4,22 @@ use Rattle.graph.specs.Graph.{graphOf}
 use Rattle.tagged_file.proofs.Emitted.{Left, left-room, left-more, left-none}
 use Rattle.aiger_export.specs.Inner.{nodeLines}
 use native.Mathlib.Omega.{arith}
+use Rattle.graph.specs.Literals.{literals}
 use Rattle.aiger_export.proofs.text.put_nodes.Statement.{statement}
 use Rattle.aiger_export.proofs.text.put_nodes.Tie as tie
 
 abbrev Inv-loop : tie.InvT-loop
-Inv-loop inputs nodes outputs node-table output-table scratch buffer₀ start at₀ v₀ left₀ buffer at v left =
-    Left (nodeLines (graphOf inputs nodes outputs node-table output-table)) nodes start buffer₀ buffer at v left
+Inv-loop inputs nodes outputs node-table node-bits output-table output-bits scratch buffer₀ start at₀ v₀ left₀ buffer at v left =
+    Left (nodeLines (graphOf inputs nodes outputs (literals node-table node-bits) (literals output-table output-bits))) nodes start buffer₀ buffer at v left
 
 abbrev μ-loop : tie.MeasureT-loop
-μ-loop inputs nodes outputs node-table output-table scratch buffer₀ start at₀ v₀ left₀ buffer at v left = left
+μ-loop inputs nodes outputs node-table node-bits output-table output-bits scratch buffer₀ start at₀ v₀ left₀ buffer at v left = left
 
 put-node-requires : tie.Need-put-node-requires Inv-loop μ-loop
 put-node-requires c κs =
     let t = c .before in
     let l = t .before in
-    let s = l .before .before .before .before .before in
+    let s = l .before .before .before .before .before .before .before in
     (s .pre .0, s .pre .1, s .pre .2, omega arith, left-room _ _ _ _ _ _ _ _ (l .loop .inv) (t .loop-test .taken) (s .pre .3))
 
 loop-again : tie.Need-loop-again Inv-loop μ-loop

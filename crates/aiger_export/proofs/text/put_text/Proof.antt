@@ -11,14 +11,15 @@ use Rattle.aiger_export.proofs.Parts.{text-is}
 use Rattle.aiger_export.proofs.Stored.{four-put, text-long}
 use borrow.Author.Needs.{needs}
 use native.Mathlib.Omega.{arith}
+use Rattle.graph.specs.Literals.{literals}
 use Rattle.aiger_export.proofs.text.put_text.Statement.{statement}
 use Rattle.aiger_export.proofs.text.put_text.Tie as tie
 
 abbrev graph : tie.Start → Graph
-graph s = let a = s .args in graphOf (a .inputs) (a .nodes) (a .outputs) (a .node-table .now) (a .output-table .now)
+graph s = let a = s .args in graphOf (a .inputs) (a .nodes) (a .outputs) (literals (a .node-table .now) (a .node-bits .now)) (literals (a .output-table .now) (a .output-bits .now))
 
 abbrev start : tie.After-gate-count → tie.Start
-start k = k .before .before .before .before .before
+start k = k .before .before .before .before .before .before .before
 
 put-header-requires : tie.Need-put-header-requires
 put-header-requires c κs =
@@ -34,10 +35,12 @@ put-inputs-requires c κs =
 
 put-outputs-requires : tie.Need-put-outputs-requires
 put-outputs-requires c κs =
-    let k = c .before .before .before .before .before .before .before .before .before in
+    let p₂ = c .before .before .before in
+    let p₁ = p₂ .before .before .before .before in
+    let k = p₁ .before .before in
     let s = start k in
     let h = s .pre in
-    (h .0, h .1, h .2, omega (arith, h, text-long (graph s) _ (k .gate-count .ensures)))
+    (h .0, h .1, h .2, omega (arith, h, text-long (graph s) _ (k .gate-count .ensures), p₁ .put-header, p₂ .put-inputs))
 
 put-nodes-requires : tie.Need-put-nodes-requires
 put-nodes-requires c κs =
