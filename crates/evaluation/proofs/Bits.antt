@@ -1,30 +1,21 @@
--- Bit j of the words that and, or, xor and a mask make. Assumes nothing.
-use mathlib.Core.Path.{_≡_, refl, ap, _∙_}
+-- Bit j of the words that and, or and a mask make. From the law of a xor.
+use mathlib.Core.Path.{_≡_, ap, _∙_}
+use mathlib.Core.Bool.{Bool, true, false, cond}
 use Prim.Native.Nat.{ℕ, zero, suc, _+_, _-_, _*_, _/_, _%_, _^_, _≤_, _<_, min, max}
 use native.Mathlib.Nat.{pow-suc, zero-div}
 use native.Mathlib.Omega.{arith}
+use mir.Val.{boolByte}
 use lib.Pow.{pow-pos, ones-split, ones-lt, high}
-use lib.Bits.{bitAnd, bitOr, bitXor, and-step, or-step, xor-step, and-shr, or-shr, xor-shr, differ}
-use Rattle.evaluation.specs.Word.{bit}
+use lib.Bits.{bitAnd, bitOr, bitXor, and-step, or-step, and-shr, or-shr}
+use Rattle.graph.specs.Literals.{bit}
 use Rattle.graph.specs.Value.{majority}
-
-differ-mod : (x y : ℕ) → x ≤ 1 → y ≤ 1 → differ x y ≡ (x + y) % 2
-differ-mod zero zero h k = refl
-differ-mod zero (suc zero) h k = refl
-differ-mod (suc zero) zero h k = refl
-differ-mod (suc zero) (suc zero) h k = refl
-differ-mod zero (suc (suc y)) h k = absurd (omega arith)
-differ-mod (suc zero) (suc (suc y)) h k = absurd (omega arith)
-differ-mod (suc (suc x)) y h k = absurd (omega arith)
+use Rattle.graph.proofs.Bits.{bit-xor, bit-le}
 
 and-low : (a b : ℕ) → bitAnd a b % 2 ≡ min (a % 2) (b % 2)
 and-low a b = rw and-step (omega arith)
 
 or-low : (a b : ℕ) → bitOr a b % 2 ≡ max (a % 2) (b % 2)
 or-low a b = rw or-step (omega arith)
-
-xor-low : (a b : ℕ) → bitXor a b % 2 ≡ (a % 2 + b % 2) % 2
-xor-low a b = rw xor-step (omega (arith, differ-mod (a % 2) (b % 2) (omega arith) (omega arith)))
 
 pub bit-and : (j a b : ℕ) → bit j (bitAnd a b) ≡ min (bit j a) (bit j b)
 unfolding bit
@@ -33,10 +24,6 @@ bit-and j a b = ap (λ (x : ℕ). x % 2) (and-shr a b j) ∙ and-low (a / 2 ^ j)
 pub bit-or : (j a b : ℕ) → bit j (bitOr a b) ≡ max (bit j a) (bit j b)
 unfolding bit
 bit-or j a b = ap (λ (x : ℕ). x % 2) (or-shr a b j) ∙ or-low (a / 2 ^ j) (b / 2 ^ j)
-
-pub bit-xor : (j a b : ℕ) → bit j (bitXor a b) ≡ (bit j a + bit j b) % 2
-unfolding bit
-bit-xor j a b = ap (λ (x : ℕ). x % 2) (xor-shr a b j) ∙ xor-low (a / 2 ^ j) (b / 2 ^ j)
 
 ones-odd : (m : ℕ) → (2 ^ suc m - 1) % 2 ≡ 1
 ones-odd m = omega (arith, pow-suc 2 m, pow-pos m)
@@ -60,6 +47,19 @@ pub bit-turned : (j w b : ℕ) → j < 64 → b ≤ 1 → bit j (bitXor w (b * 1
 bit-turned j w zero h k = bit-xor j w 0 ∙ ap (λ (x : ℕ). (bit j w + x) % 2) (bit-zero j)
 bit-turned j w (suc zero) h k = bit-xor j w 18446744073709551615 ∙ ap (λ (x : ℕ). (bit j w + x) % 2) (bit-ones j h)
 bit-turned j w (suc (suc b)) h k = absurd (omega arith)
+
+-- the bits of e where x holds, else those of a: by a mask
+pub mask-fits : (x : Bool) → boolByte x * 18446744073709551615 < 18446744073709551616
+unfolding boolByte
+mask-fits true = omega arith
+mask-fits false = omega arith
+
+pub bit-either : (x : Bool) (a e j : ℕ) → j < 64 → bit j (bitXor a (bitAnd (bitXor a e) (boolByte x * 18446744073709551615))) ≡ cond x (bit j e) (bit j a)
+unfolding boolByte
+bit-either true a e j h =
+    omega (arith, bit-xor j a (bitAnd (bitXor a e) 18446744073709551615), bit-and j (bitXor a e) 18446744073709551615, bit-xor j a e, bit-ones j h, bit-le j a, bit-le j e)
+bit-either false a e j h =
+    omega (arith, bit-xor j a (bitAnd (bitXor a e) 0), bit-and j (bitXor a e) 0, bit-zero j, bit-le j a)
 
 pub bit-majority : (j x y z : ℕ) → bit j (bitOr (bitOr (bitAnd x y) (bitAnd x z)) (bitAnd y z)) ≡ majority (bit j x) (bit j y) (bit j z)
 unfolding majority

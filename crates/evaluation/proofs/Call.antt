@@ -7,6 +7,7 @@ use native.Mathlib.Omega.{arith}
 use lib.ListN.{length, getD, drop, List·getD-append}
 use Rattle.graph.specs.Finite.{tab, first}
 use Rattle.graph.specs.Graph.{Graph, output}
+use Rattle.graph.specs.Literals.{bit}
 use Rattle.graph.specs.Value.{values, outputValue}
 use Rattle.graph.specs.Admission.{tablesNumber, contentNumber, admissionNumber, Admitted}
 use Rattle.graph.proofs.Finite.{length-tab, getD-tab}
@@ -14,7 +15,6 @@ use Rattle.graph.proofs.Tests.{less, no-less, equal, fault, both, off}
 use Rattle.graph.proofs.Admit.{admitted-by}
 use Rattle.graph.proofs.Answers.{ifLess-le, first-le, admission-le}
 use Rattle.graph.proofs.Values.{literal-bit}
-use Rattle.evaluation.specs.Word.{bit}
 use Rattle.evaluation.specs.Evaluation.{assignmentAt, outputWord, sliceNumber, scratchNumber, evaluateNumber, resultsAfter}
 use Rattle.evaluation.proofs.Gather.{bit-gather}
 

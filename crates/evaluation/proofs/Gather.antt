@@ -6,7 +6,8 @@ use native.Mathlib.Nat.{mod-eq-of-lt, mod-one, add-comm, pow-suc, eq-or-lt-of-le
 use native.Mathlib.Omega.{arith}
 use lib.Bits.{bitXor, xor-lt}
 use lib.Pow.{mod-pow-add, high, low, field, mod-mod-pow}
-use Rattle.evaluation.specs.Word.{bit, gather}
+use Rattle.graph.specs.Literals.{bit}
+use Rattle.evaluation.specs.Word.{gather}
 use Rattle.evaluation.proofs.Bits.{bit-turned}
 
 gather-bits : (w k : ℕ) → gather (λ j. bit j w) k ≡ w % 2 ^ k

@@ -1,16 +1,18 @@
 -- Words by index, and the value of a literal and of a node in one bit place of them. From the laws on bits.
 use mathlib.Core.Path.{_≡_, refl, sym, ap, ap₂, _∙_}
+use mathlib.Core.Bool.{Bool, true, false, cond}
 use mathlib.Core.List.{List, [], _∷_, _++_}
 use Prim.Native.Nat.{ℕ, zero, suc, _+_, _-_, _*_, _/_, _%_, _≤_, _<_}
 use native.Mathlib.Omega.{arith}
 use lib.ListN.{length, getD, take, List·getD-append}
-use borrow.Author.Tests.{eq-eqb, ne-eqb}
 use lib.Seq.{getD-take, getD-append-add, length-take-le}
-use Rattle.graph.specs.Graph.{Graph, word, mark, isXor}
+use Rattle.graph.specs.Graph.{Graph, word, index, isXor}
+use Rattle.graph.specs.Inner.{Readable}
+use Rattle.graph.specs.Literals.{bit}
 use Rattle.graph.specs.Value.{majority, exclusive, literalValue, nodeValue}
 use Rattle.graph.proofs.Values.{literal-bit}
-use Rattle.evaluation.specs.Word.{bit, gather}
-use Rattle.evaluation.specs.Inner.{byIndex, column, literalWord}
+use Rattle.evaluation.specs.Word.{gather}
+use Rattle.evaluation.specs.Inner.{byIndex, column, literalWord, NodeBelow}
 use Rattle.evaluation.proofs.Bits.{bit-zero}
 use Rattle.evaluation.proofs.Gather.{gather-same, bit-gather}
 
@@ -46,12 +48,12 @@ module _ (i : ℕ) (words nodeWords : List ℕ) (long : i ≤ length words) wher
       let e : k - length (take i words) ≡ suc k - i - 1 = omega arith in
       getD-right (take i words) nodeWords k (omega arith) ∙ ap (λ (n : ℕ). getD nodeWords n 0) e
 
--- the word of an index, turned where the literal is complemented, is the literal's word
-pub literal-is : (ws : List ℕ) (x w r : ℕ) → w ≡ getD ws (x / 2) 0 → r ≡ gather (λ j. (bit j w + x % 2) % 2) 64 → r ≡ literalWord ws x
+-- the word of a literal's index, turned as its bit says, is the literal's word
+pub literal-is : (ws : List ℕ) (x u b w r : ℕ) → u ≡ index x → b ≡ x % 2 → w ≡ getD ws u 0 → r ≡ gather (λ j. (bit j w + b) % 2) 64 → r ≡ literalWord ws x
 unfolding literalWord literalValue
-literal-is ws x w r p q =
-    q ∙ gather-same (λ j. (bit j w + x % 2) % 2) (λ j. (getD (column j ws) (x / 2) 0 + x % 2) % 2) 64
-    (λ j h. ap (λ (n : ℕ). (n + x % 2) % 2) (ap (bit j) p ∙ sym (getD-column j ws (x / 2))))
+literal-is ws x u b w r e d p q =
+    q ∙ gather-same (λ j. (bit j w + b) % 2) (λ j. (getD (column j ws) (x / 2) 0 + x % 2) % 2) 64
+    (λ j h. ap₂ (λ (m n : ℕ). (m + n) % 2) (ap (bit j) p ∙ sym (getD-column j ws u) ∙ ap (λ (n : ℕ). getD (column j ws) n 0) e) d)
 
 pub literal-at : (ws : List ℕ) (x j : ℕ) → j < 64 → bit j (literalWord ws x) ≡ literalValue (column j ws) x
 unfolding literalWord
@@ -59,19 +61,27 @@ literal-at ws x j h = bit-gather (λ k. literalValue (column k ws) x) (λ k. lit
 
 -- the bits of the words of a node's literals, joined as the node says
 module _ (g : Graph) (v : ℕ) (ws : List ℕ) (x y r : ℕ) (p : x ≡ literalWord ws (word g (3 * v))) (q : y ≡ literalWord ws (word g (3 * v + 1))) where
-  pub node-exclusive : word g (3 * v + 2) ≡ mark → (j : ℕ) → j < 64 → bit j r ≡ exclusive (bit j x) (bit j y) → bit j r ≡ nodeValue g (column j ws) v
-  unfolding nodeValue isXor
-  node-exclusive e j h s =
+  pub node-joined : (k : Bool) (z : ℕ) → k ≡ isXor g v → (k ≡ false → z ≡ literalWord ws (word g (3 * v + 2)))
+      → (j : ℕ) → j < 64 → bit j r ≡ cond k (exclusive (bit j x) (bit j y)) (majority (bit j x) (bit j y) (bit j z)) → bit j r ≡ nodeValue g (column j ws) v
+  unfolding nodeValue
+  node-joined true z e t j h s =
       let o : 3 * v + 0 ≡ 3 * v = omega arith in
-      simp (o, eq-eqb (word g (3 * v + 2)) mark e)
+      simp (o, ← e)
       (s ∙ ap₂ exclusive (ap (bit j) p ∙ literal-at ws (word g (3 * v)) j h) (ap (bit j) q ∙ literal-at ws (word g (3 * v + 1)) j h))
-
-  pub node-majority : (z : ℕ) → z ≡ literalWord ws (word g (3 * v + 2)) → (word g (3 * v + 2) ≡ mark → ⊥)
-      → (j : ℕ) → j < 64 → bit j r ≡ majority (bit j x) (bit j y) (bit j z) → bit j r ≡ nodeValue g (column j ws) v
-  unfolding nodeValue isXor
-  node-majority z t e j h s =
+  node-joined false z e t j h s =
       let a = ap (bit j) p ∙ literal-at ws (word g (3 * v)) j h in
       let b = ap (bit j) q ∙ literal-at ws (word g (3 * v + 1)) j h in
-      let d = ap (bit j) t ∙ literal-at ws (word g (3 * v + 2)) j h in
+      let d = ap (bit j) (t refl) ∙ literal-at ws (word g (3 * v + 2)) j h in
       let o : 3 * v + 0 ≡ 3 * v = omega arith in
-      simp (o, ne-eqb (word g (3 * v + 2)) mark e) (cc)
+      simp (o, ← e) (cc)
+
+-- a node whose words name indices below its own can be read
+pub readable-of : (i : ℕ) (l : List ℕ) (v : ℕ) → NodeBelow i l v → v ≤ 100000 → Readable l v
+readable-of i l v b h =
+    record {
+      there = b .there;
+      few = h;
+      first = omega (arith, b .few, b .first);
+      second = omega (arith, b .few, b .second);
+      third = λ n. omega (arith, b .few, b .third n);
+    }

@@ -31,6 +31,8 @@ module _ (g : Graph) where
   pub node-below : Admitted g → (v : ℕ) → v < g .N → NodeBelow (g .I) (g .nodes) v
   node-below adm v h =
       record {
+        there = omega (arith, adm .held-nodes);
+        few = omega (arith, adm .few-inputs, adm .few-nodes);
         first = omega (arith, adm .below (3 * v) (omega arith) (edge-early g (3 * v) (omega arith)));
         second = omega (arith, adm .below (3 * v + 1) (omega arith) (edge-early g (3 * v + 1) (omega arith)));
         third = λ n. omega (arith, adm .below (3 * v + 2) (omega arith) (edge-third g (3 * v + 2) (omega arith) n));

@@ -9,15 +9,15 @@ use lib.ListN.{length, getD, take, set}
 use lib.Seq.{take-suc-set}
 use Rattle.graph.specs.Finite.{tab}
 use Rattle.graph.specs.Graph.{Graph, isXor}
+use Rattle.graph.specs.Literals.{bit}
 use Rattle.graph.specs.Value.{values, nodeValue}
-use Rattle.evaluation.specs.Word.{bit}
+use Rattle.graph.proofs.Bits.{bit-le}
 use Rattle.evaluation.specs.Evaluation.{assignmentAt}
 use Rattle.evaluation.specs.Inner.{byIndex, column, nodesOf}
 use Rattle.evaluation.proofs.Bits.{bit-zero}
 
 bit-mod : (j w : ℕ) → bit j w ≡ bit j w % 2
-unfolding bit
-bit-mod j w = omega arith
+bit-mod j w = omega (arith, bit-le j w)
 
 column-append : (j : ℕ) (xs ys : List ℕ) → column j (xs ++ ys) ≡ column j xs ++ column j ys
 unfolding column

@@ -5,9 +5,10 @@ use lib.ListN.{length, getD, drop}
 use Rattle.graph.specs.Finite.{tab, ifLess, ifEqual, first}
 use Rattle.graph.specs.Graph.{Graph}
 use Rattle.graph.specs.Value.{Assignment, outputValue}
+use Rattle.graph.specs.Literals.{bit}
 use Rattle.graph.specs.Admission.{tablesNumber, contentNumber}
 use Rattle.graph.specs.Answer.{Answer, accepted, refused, numberOf}
-use Rattle.evaluation.specs.Word.{bit, gather}
+use Rattle.evaluation.specs.Word.{gather}
 use Rattle.evaluation.specs.declared.Evaluated.{Evaluated}
 use Rattle.evaluation.specs.declared.Evaluated.the-variants.{Done, Refused}
 

@@ -5,8 +5,9 @@ use mathlib.Core.List.{List, [], _∷_, _++_, map}
 use Prim.Native.Nat.{ℕ, _+_, _*_, _<_}
 use lib.ListN.{getD, take}
 use Rattle.graph.specs.Graph.{Graph, graphOf, mark, index}
+use Rattle.graph.specs.Literals.{bit, held}
 use Rattle.graph.specs.Value.{literalValue, values}
-use Rattle.evaluation.specs.Word.{bit, gather}
+use Rattle.evaluation.specs.Word.{gather}
 use Rattle.evaluation.specs.Evaluation.{assignmentAt}
 
 -- the words by index: the constant's, the inputs' and those of the nodes so far
@@ -29,8 +30,10 @@ outputWordFrom ws outputs o = literalWord ws (getD outputs o 0)
 abbrev pub nodesOf : ℕ → ℕ → List ℕ → Graph
 nodesOf i n table = graphOf i n 0 table []
 
--- the literals of node v name indices below its own; the third word may be the mark
+-- the words of node v are there, and name indices below its own; the third may be the mark
 pub record NodeBelow (i : ℕ) (table : List ℕ) (v : ℕ) : Type 0 where
+  pub there : 3 * v + 2 < held table
+  pub few : i + v < 2147483647
   pub first : index (getD table (3 * v) 0) < i + 1 + v
   pub second : index (getD table (3 * v + 1) 0) < i + 1 + v
   pub third : (getD table (3 * v + 2) 0 ≡ mark → ⊥) → index (getD table (3 * v + 2) 0) < i + 1 + v
@@ -38,3 +41,7 @@ pub record NodeBelow (i : ℕ) (table : List ℕ) (v : ℕ) : Type 0 where
 -- nodeWords are the words of the first n nodes: bit place j has the values under the assignment of place j
 abbrev pub NodeWords : Graph → List ℕ → List ℕ → ℕ → Type 0
 NodeWords g words nodeWords n = (j : ℕ) → j < 64 → column j (byIndex (g .I) words nodeWords) ≡ values g (assignmentAt words j) n
+
+-- where the front of s had the words of the first v nodes, that of t has those of the first u
+abbrev pub Filled : ℕ → List ℕ → List ℕ → List ℕ → ℕ → List ℕ → ℕ → Type 0
+Filled i table words s v t u = (n : ℕ) → NodeWords (nodesOf i n table) words (take v s) v → NodeWords (nodesOf i n table) words (take u t) u

@@ -1,9 +1,5 @@
--- Words of 64 bits, by their bits.
-use Prim.Native.Nat.{ℕ, zero, suc, _+_, _*_, _/_, _%_, _^_}
-
--- bit j of a word
-unfoldable pub bit : ℕ → ℕ → ℕ
-bit j w = w / 2 ^ j % 2
+-- A word of so many bits, from its bits.
+use Prim.Native.Nat.{ℕ, zero, suc, _+_, _*_, _^_}
 
 -- the word of k bits whose bit j is f j
 unfoldable pub gather : (ℕ → ℕ) → ℕ → ℕ

@@ -1,6 +1,6 @@
 ghost use mathlib.Core.Path.{_≡_};
 ghost use Rattle.graph.specs.Finite.{ifLess};
-ghost use Rattle.graph.specs.Graph.{graphOf};
+ghost use Rattle.graph.specs.Literals.{graphIn};
 ghost use Rattle.evaluation.specs.Evaluation.{evaluateNumber};
 use graph::faults::first_fault;
 
@@ -10,21 +10,27 @@ pub fn evaluate_number(
     nodes: u32,
     outputs: u32,
     node_table: &[u32],
+    node_bits: &[u64],
     output_table: &[u32],
+    output_bits: &[u64],
     locks: &[u8],
     words: usize,
     scratch: usize,
     results: usize,
 ) -> u32
-    ensures { λ r. ⌜ r ≡ evaluateNumber (graphOf inputs nodes outputs (now («node_table» .entry)) (now («output_table» .entry))) (now (locks .entry)) words scratch results ⌝ }
+    ensures { λ r.
+        let g = graphIn inputs nodes outputs (now («node_table» .entry)) (now («node_bits» .entry)) (now («output_table» .entry)) (now («output_bits» .entry)) in
+        ⌜ r ≡ evaluateNumber g (now (locks .entry)) words scratch results ⌝ }
 {
-    let room = graph::faults::room_number(
+    let room = graph::faults::tables_number(
         inputs,
         nodes,
         outputs,
-        node_table.len(),
-        output_table.len(),
-        locks.len(),
+        node_table,
+        node_bits,
+        output_table,
+        output_bits,
+        locks,
     );
     if room != 0 {
         return room;
@@ -40,7 +46,9 @@ pub fn evaluate_number(
         nodes,
         outputs,
         node_table,
+        node_bits,
         output_table,
+        output_bits,
         locks,
     );
     first_fault(content, scratch_number(nodes, scratch))

@@ -1,8 +1,8 @@
 ghost use mathlib.Core.Path.{_≡_};
 ghost use mathlib.Core.List.{[]};
 ghost use lib.ListN.{length};
-ghost use Rattle.graph.specs.Graph.{graphOf};
 ghost use Rattle.graph.specs.Answer.{accepted, unless, ScratchKept};
+ghost use Rattle.graph.specs.Literals.{graphIn};
 ghost use Rattle.evaluation.specs.Evaluation.{evaluateNumber, resultsAfter, evaluatedAnswer};
 
 mod faults;
@@ -21,14 +21,21 @@ pub fn evaluate(
     nodes: u32,
     outputs: u32,
     node_table: &[u32],
+    node_bits: &[u64],
     output_table: &[u32],
+    output_bits: &[u64],
     locks: &[u8],
     input_words: &[u64],
     scratch: &mut [u64],
     results: &mut [u64],
 ) -> Evaluated
-    ensures answer { λ r. ⌜ evaluatedAnswer r ≡ unless (evaluateNumber (graphOf inputs nodes outputs (now («node_table» .entry)) (now («output_table» .entry))) (now (locks .entry)) (length (now («input_words» .entry))) (length (now (scratch .entry))) (length (now (results .entry)))) (accepted []) ⌝ }
-    ensures results { λ r. ⌜ now (results .exit) ≡ resultsAfter (graphOf inputs nodes outputs (now («node_table» .entry)) (now («output_table» .entry))) (now (locks .entry)) (now («input_words» .entry)) (length (now (scratch .entry))) (now (results .entry)) ⌝ }
+    ensures answer { λ r.
+        let g = graphIn inputs nodes outputs (now («node_table» .entry)) (now («node_bits» .entry)) (now («output_table» .entry)) (now («output_bits» .entry)) in
+        let number = evaluateNumber g (now (locks .entry)) (length (now («input_words» .entry))) (length (now (scratch .entry))) (length (now (results .entry))) in
+        ⌜ evaluatedAnswer r ≡ unless number (accepted []) ⌝ }
+    ensures results { λ r.
+        let g = graphIn inputs nodes outputs (now («node_table» .entry)) (now («node_bits» .entry)) (now («output_table» .entry)) (now («output_bits» .entry)) in
+        ⌜ now (results .exit) ≡ resultsAfter g (now (locks .entry)) (now («input_words» .entry)) (length (now (scratch .entry))) (now (results .entry)) ⌝ }
     ensures scratch { λ r. ⌜ ScratchKept (evaluatedAnswer r) (now (scratch .entry)) (now (scratch .exit)) ⌝ }
 {
     let number = faults::evaluate_number(
@@ -36,7 +43,9 @@ pub fn evaluate(
         nodes,
         outputs,
         node_table,
+        node_bits,
         output_table,
+        output_bits,
         locks,
         input_words.len(),
         scratch.len(),
@@ -50,7 +59,9 @@ pub fn evaluate(
         nodes,
         outputs,
         node_table,
+        node_bits,
         output_table,
+        output_bits,
         input_words,
         scratch,
         results,

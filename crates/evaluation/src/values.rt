@@ -1,19 +1,23 @@
 ghost use mathlib.Core.Path.{_≡_};
+ghost use mathlib.Core.Bool.{false, cond};
 ghost use Prim.Native.Nat.{ℕ, _+_, _*_, _/_, _%_, _≤_, _<_};
 ghost use lib.ListN.{length, take, getD};
 ghost use Rattle.graph.specs.Value.{majority, exclusive, nodeValue};
-ghost use Rattle.evaluation.specs.Word.{bit, gather};
-ghost use Rattle.evaluation.specs.Inner.{byIndex, column, literalWord, nodesOf, NodeBelow, NodeWords};
-use graph::literal::MARK;
-use graph::table::word_at;
+ghost use Rattle.graph.specs.Graph.{index};
+ghost use Rattle.graph.specs.Inner.{Readable, threeBits};
+ghost use Rattle.graph.specs.Literals.{bit, bitOf, held, literals};
+ghost use Rattle.evaluation.specs.Word.{gather};
+ghost use Rattle.evaluation.specs.Inner.{byIndex, column, literalWord, nodesOf, NodeBelow, NodeWords, Filled};
+use graph::table;
 
 const ONES: u64 = 18446744073709551615;
 
-// All bits of `word` turned where `literal` is complemented.
-fn turned(word: u64, literal: u32) -> u64
-    ensures { λ r. ⌜ r ≡ gather (λ j. (bit j word + literal % 2) % 2) 64 ⌝ }
+// All bits of `word` turned where b is 1.
+fn turned(word: u64, b: u32) -> u64
+    requires { ⌜ b ≤ 1 ⌝ }
+    ensures { λ r. ⌜ r ≡ gather (λ j. (bit j word + b) % 2) 64 ⌝ }
 {
-    word ^ (literal % 2) as u64 * ONES
+    word ^ (b as u64) * ONES
 }
 
 fn majority_word(x: u64, y: u64, z: u64) -> u64
@@ -41,30 +45,314 @@ fn index_word(inputs: u32, input_words: &[u64], node_words: &[u64], index: u32) 
     node_words[(index - inputs - 1) as usize]
 }
 
-// The word of a literal, from the words of the inputs and of the nodes so far.
-pub fn literal_word(inputs: u32, input_words: &[u64], node_words: &[u64], literal: u32) -> u64
-    requires { ⌜ (inputs ≤ length (now «input_words»)) × (literal / 2 < inputs + 1 + length (now «node_words»)) ⌝ }
-    ensures { λ r. ⌜ r ≡ literalWord (byIndex inputs (now («input_words» .entry)) (now («node_words» .entry))) literal ⌝ }
+// The word of the literal at place j of a table, whose bit is b, from the words of the inputs and of the nodes so far.
+pub fn literal_word(
+    inputs: u32,
+    table: &[u32],
+    bits: &[u64],
+    j: usize,
+    b: u32,
+    input_words: &[u64],
+    node_words: &[u64],
+) -> u64
+    requires { let l = literals (now table) (now bits) in
+        let end = inputs + 1 + length (now «node_words») in
+        ⌜ (inputs ≤ length (now «input_words»)) × (end ≤ 2147483647) × (j < held l) × (index (getD l j 0) < end) × (b ≡ bitOf (getD l j 0)) × (b ≤ 1) ⌝ }
+    ensures { λ r.
+        let l = literals (now (table .entry)) (now (bits .entry)) in
+        let ws = byIndex inputs (now («input_words» .entry)) (now («node_words» .entry)) in
+        ⌜ r ≡ literalWord ws (getD l j 0) ⌝ }
 {
-    turned(
-        index_word(inputs, input_words, node_words, literal / 2),
-        literal,
-    )
+    let u = table::index_at(table, bits, j);
+    turned(index_word(inputs, input_words, node_words, u), b)
 }
 
-// The word of the next node, `node_words` being those of the nodes before it.
-fn node_word(inputs: u32, node_table: &[u32], input_words: &[u64], node_words: &[u64]) -> u64
-    requires { ⌜ (inputs ≤ length (now «input_words»)) × (3 * length (now «node_words») + 3 ≤ length (now «node_table»)) × NodeBelow inputs (now «node_table») (length (now «node_words»)) ⌝ }
-    ensures { λ r. ⌜ ((n j : ℕ) → j < 64 → bit j r ≡ nodeValue (nodesOf inputs n (now («node_table» .entry))) (column j (byIndex inputs (now («input_words» .entry)) (now («node_words» .entry)))) (length (now («node_words» .entry)))) ⌝ }
+// The first of two indices where `xor` holds, else the second.
+fn either_index(xor: bool, u: u32, v: u32) -> u32
+    ensures { λ r. ⌜ r ≡ cond xor u v ⌝ }
+{
+    if xor {
+        return u;
+    }
+    v
+}
+
+// The word of a majority's third literal, whose bit is b, its words being from place `at` on. An XOR has none: the word of its first index is looked up, so
+// that nothing jumps by the kind, which a processor could not foresee.
+fn third_word(
+    inputs: u32,
+    table: &[u32],
+    bits: &[u64],
+    at: usize,
+    b: u32,
+    xor: bool,
+    input_words: &[u64],
+    node_words: &[u64],
+) -> u64
+    requires { let l = literals (now table) (now bits) in
+        let end = inputs + 1 + length (now «node_words») in
+        ⌜ (inputs ≤ length (now «input_words»)) × (end ≤ 2147483647) × (at + 2 < held l)
+        × (index (getD l at 0) < end) × (xor ≡ false → index (getD l (at + 2) 0) < end)
+        × (b ≡ bitOf (getD l (at + 2) 0)) × (b ≤ 1) ⌝ }
+    ensures { λ r.
+        let l = literals (now (table .entry)) (now (bits .entry)) in
+        let ws = byIndex inputs (now («input_words» .entry)) (now («node_words» .entry)) in
+        ⌜ (xor ≡ false → r ≡ literalWord ws (getD l (at + 2) 0)) ⌝ }
+{
+    let last = at + 2;
+    let first = table::index_at(table, bits, at);
+    let third = table::index_at(table, bits, last);
+    let u = either_index(xor, first, third);
+    turned(index_word(inputs, input_words, node_words, u), b)
+}
+
+// The words of a node's literals joined as its kind says, by a mask.
+fn joined_word(xor: bool, x: u64, y: u64, z: u64) -> u64
+    ensures { λ r. ⌜ ((j : ℕ) → j < 64 → bit j r ≡ cond xor (exclusive (bit j x) (bit j y)) (majority (bit j x) (bit j y) (bit j z))) ⌝ }
+{
+    let a = majority_word(x, y, z);
+    let e = exclusive_word(x, y);
+    a ^ (a ^ e) & xor as u64 * ONES
+}
+
+// The word of the next node, whose words have these bits, `node_words` being those of the nodes before it. Where a kind can be foreseen, an
+// XOR is left once its two words are known.
+fn node_word(
+    inputs: u32,
+    node_table: &[u32],
+    node_bits: &[u64],
+    three: u32,
+    foreseen: bool,
+    input_words: &[u64],
+    node_words: &[u64],
+) -> u64
+    requires { let l = literals (now «node_table») (now «node_bits») in
+        ⌜ (inputs ≤ length (now «input_words»)) × NodeBelow inputs l (length (now «node_words»)) × (three ≡ threeBits l (length (now «node_words»))) ⌝ }
+    ensures { λ r.
+        let l = literals (now («node_table» .entry)) (now («node_bits» .entry)) in
+        let ws = byIndex inputs (now («input_words» .entry)) (now («node_words» .entry)) in
+        ⌜ ((n j : ℕ) → j < 64 → bit j r ≡ nodeValue (nodesOf inputs n l) (column j ws) (length (now («node_words» .entry)))) ⌝ }
 {
     let at = 3 * node_words.len();
-    let third = word_at(node_table, at + 2);
-    let x = literal_word(inputs, input_words, node_words, word_at(node_table, at));
-    let y = literal_word(inputs, input_words, node_words, word_at(node_table, at + 1));
-    if third == MARK {
-        return exclusive_word(x, y);
+    let xor = table::is_mark_at(node_table, node_bits, at + 2);
+    let x = literal_word(
+        inputs,
+        node_table,
+        node_bits,
+        at,
+        three % 2,
+        input_words,
+        node_words,
+    );
+    let y = literal_word(
+        inputs,
+        node_table,
+        node_bits,
+        at + 1,
+        three / 2 % 2,
+        input_words,
+        node_words,
+    );
+    if foreseen {
+        if xor {
+            return exclusive_word(x, y);
+        }
     }
-    majority_word(x, y, literal_word(inputs, input_words, node_words, third))
+    let z = third_word(
+        inputs,
+        node_table,
+        node_bits,
+        at,
+        three / 4 % 2,
+        xor,
+        input_words,
+        node_words,
+    );
+    joined_word(xor, x, y, z)
+}
+
+// Fills in the word of node v, whose words have these bits.
+fn fill_node(
+    inputs: u32,
+    node_table: &[u32],
+    node_bits: &[u64],
+    v: usize,
+    three: u32,
+    foreseen: bool,
+    input_words: &[u64],
+    scratch: &mut [u64],
+)
+    requires { let l = literals (now «node_table») (now «node_bits») in
+        ⌜ (inputs ≤ length (now «input_words»)) × (v < length (now scratch)) × NodeBelow inputs l v × (three ≡ threeBits l v) ⌝ }
+    ensures { λ r.
+        let l = literals (now («node_table» .entry)) (now («node_bits» .entry)) in
+        ⌜ Filled inputs l (now («input_words» .entry)) (now (scratch .entry)) v (now (scratch .exit)) (v + 1) ⌝ }
+{
+    let w = node_word(
+        inputs,
+        node_table,
+        node_bits,
+        three,
+        foreseen,
+        input_words,
+        &scratch[..v],
+    );
+    scratch[v] = w;
+}
+
+// The same of node v and the three after it, whose bits are read at once.
+fn fill_four(
+    inputs: u32,
+    node_table: &[u32],
+    node_bits: &[u64],
+    v: usize,
+    foreseen: bool,
+    input_words: &[u64],
+    scratch: &mut [u64],
+)
+    requires { let l = literals (now «node_table») (now «node_bits») in
+        ⌜ (inputs ≤ length (now «input_words»)) × (v + 4 ≤ length (now scratch)) × (v + 4 ≤ 100000) × ((u : ℕ) → u < v + 4 → NodeBelow inputs l u) ⌝ }
+    ensures { λ r.
+        let l = literals (now («node_table» .entry)) (now («node_bits» .entry)) in
+        ⌜ Filled inputs l (now («input_words» .entry)) (now (scratch .entry)) v (now (scratch .exit)) (v + 4) ⌝ }
+{
+    let b = table::twelve_at(node_table, node_bits, v);
+    fill_node(
+        inputs,
+        node_table,
+        node_bits,
+        v,
+        b % 8,
+        foreseen,
+        input_words,
+        scratch,
+    );
+    fill_node(
+        inputs,
+        node_table,
+        node_bits,
+        v + 1,
+        b / 8 % 8,
+        foreseen,
+        input_words,
+        scratch,
+    );
+    fill_node(
+        inputs,
+        node_table,
+        node_bits,
+        v + 2,
+        b / 64 % 8,
+        foreseen,
+        input_words,
+        scratch,
+    );
+    fill_node(
+        inputs,
+        node_table,
+        node_bits,
+        v + 3,
+        b / 512 % 8,
+        foreseen,
+        input_words,
+        scratch,
+    );
+}
+
+// Fills in the words of the first nodes, four a turn.
+fn fill_fours(
+    inputs: u32,
+    nodes: u32,
+    node_table: &[u32],
+    node_bits: &[u64],
+    foreseen: bool,
+    input_words: &[u64],
+    scratch: &mut [u64],
+)
+    requires { let l = literals (now «node_table») (now «node_bits») in
+        ⌜ (inputs ≤ length (now «input_words»)) × (nodes ≤ length (now scratch)) × (nodes ≤ 100000) × ((v : ℕ) → v < nodes → NodeBelow inputs l v) ⌝ }
+    ensures { λ r.
+        let l = literals (now («node_table» .entry)) (now («node_bits» .entry)) in
+        ⌜ Filled inputs l (now («input_words» .entry)) (now (scratch .entry)) 0 (now (scratch .exit)) (4 * (nodes / 4)) ⌝ }
+{
+    for j in 0..nodes as usize / 4 {
+        fill_four(
+            inputs,
+            node_table,
+            node_bits,
+            4 * j,
+            foreseen,
+            input_words,
+            scratch,
+        );
+    }
+}
+
+// Fills in those of the nodes after them.
+fn fill_rest(
+    inputs: u32,
+    nodes: u32,
+    node_table: &[u32],
+    node_bits: &[u64],
+    foreseen: bool,
+    input_words: &[u64],
+    scratch: &mut [u64],
+)
+    requires { let l = literals (now «node_table») (now «node_bits») in
+        ⌜ (inputs ≤ length (now «input_words»)) × (nodes ≤ length (now scratch)) × (nodes ≤ 100000) × ((v : ℕ) → v < nodes → NodeBelow inputs l v) ⌝ }
+    ensures { λ r.
+        let l = literals (now («node_table» .entry)) (now («node_bits» .entry)) in
+        ⌜ Filled inputs l (now («input_words» .entry)) (now (scratch .entry)) (4 * (nodes / 4)) (now (scratch .exit)) nodes ⌝ }
+{
+    for v in 4 * (nodes as usize / 4)..nodes as usize {
+        let three = table::three_at(node_table, node_bits, v);
+        fill_node(
+            inputs,
+            node_table,
+            node_bits,
+            v,
+            three,
+            foreseen,
+            input_words,
+            scratch,
+        );
+    }
+}
+
+// 1 where node v is an XOR, else 0.
+fn one_if_xor(node_table: &[u32], node_bits: &[u64], v: usize) -> u32
+    requires { ⌜ Readable (literals (now «node_table») (now «node_bits»)) v ⌝ }
+    ensures { λ r. ⌜ r ≤ 1 ⌝ }
+{
+    if table::is_mark_at(node_table, node_bits, 3 * v + 2) {
+        return 1;
+    }
+    0
+}
+
+// At most 64.
+fn first_of(nodes: u32) -> u32
+    ensures { λ r. ⌜ (r ≤ nodes) × (r ≤ 64) ⌝ }
+{
+    if nodes < 64 {
+        return nodes;
+    }
+    64
+}
+
+// Whether most of the first nodes are XORs: then a processor foresees a node's kind. It decides how words are looked up, and nothing else.
+fn mostly_xor(nodes: u32, node_table: &[u32], node_bits: &[u64]) -> bool
+    requires { let l = literals (now «node_table») (now «node_bits») in
+        ⌜ (nodes ≤ 100000) × ((v : ℕ) → v < nodes → Readable l v) ⌝ }
+{
+    let end = first_of(nodes);
+    let mut c: u32 = 0;
+    let mut v: u32 = 0;
+    while v < end {
+        c += one_if_xor(node_table, node_bits, v as usize);
+        v += 1;
+    }
+    3 * end <= 4 * c
 }
 
 // Fills the nodes' words into the front of `scratch`, in one pass.
@@ -72,14 +360,33 @@ pub fn fill_nodes(
     inputs: u32,
     nodes: u32,
     node_table: &[u32],
+    node_bits: &[u64],
     input_words: &[u64],
     scratch: &mut [u64],
 )
-    requires { ⌜ (inputs ≤ length (now «input_words»)) × (3 * nodes ≤ length (now «node_table»)) × (nodes ≤ length (now scratch)) × ((v : ℕ) → v < nodes → NodeBelow inputs (now «node_table») v) ⌝ }
-    ensures { λ r. ⌜ NodeWords (nodesOf inputs nodes (now («node_table» .entry))) (now («input_words» .entry)) (take nodes (now (scratch .exit))) nodes ⌝ }
+    requires { let l = literals (now «node_table») (now «node_bits») in
+        ⌜ (inputs ≤ length (now «input_words»)) × (nodes ≤ length (now scratch)) × (nodes ≤ 100000) × ((v : ℕ) → v < nodes → NodeBelow inputs l v) ⌝ }
+    ensures { λ r.
+        let g = nodesOf inputs nodes (literals (now («node_table» .entry)) (now («node_bits» .entry))) in
+        ⌜ NodeWords g (now («input_words» .entry)) (take nodes (now (scratch .exit))) nodes ⌝ }
 {
-    for v in 0..nodes as usize {
-        let w = node_word(inputs, node_table, input_words, &scratch[..v]);
-        scratch[v] = w;
-    }
+    let foreseen = mostly_xor(nodes, node_table, node_bits);
+    fill_fours(
+        inputs,
+        nodes,
+        node_table,
+        node_bits,
+        foreseen,
+        input_words,
+        scratch,
+    );
+    fill_rest(
+        inputs,
+        nodes,
+        node_table,
+        node_bits,
+        foreseen,
+        input_words,
+        scratch,
+    );
 }

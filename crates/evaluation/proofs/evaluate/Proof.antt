@@ -8,15 +8,16 @@ use Rattle.graph.proofs.Answers.{refused-is, accepted-is}
 use Rattle.evaluation.specs.Evaluation.{resultsAfter}
 use Rattle.evaluation.proofs.Call.{lent, evaluate-le}
 use borrow.Author.Needs.{needs}
+use Rattle.graph.specs.Literals.{literals}
 use Rattle.evaluation.proofs.evaluate.Statement.{statement}
 use Rattle.evaluation.proofs.evaluate.Tie as tie
 
 refused-by-requires : tie.Need-refused-by-requires
 refused-by-requires c κs =
     let n = c .before in
-    let a = n .before .before .before .before .before .before .before .args in
+    let a = n .before .before .before .before .before .before .before .before .before .args in
     let e = n .evaluate-number .ensures in
-    (omega arith, omega (arith, evaluate-le (graphOf (a .inputs) (a .nodes) (a .outputs) (a .node-table .now) (a .output-table .now)) (a .locks .now) (length (a .input-words .now)) (length (a .scratch .now)) (length (a .results .now))))
+    (omega arith, omega (arith, evaluate-le (graphOf (a .inputs) (a .nodes) (a .outputs) (literals (a .node-table .now) (a .node-bits .now)) (literals (a .output-table .now) (a .output-bits .now))) (a .locks .now) (length (a .input-words .now)) (length (a .scratch .now)) (length (a .results .now))))
 
 returns : tie.Need-returns
 unfolding resultsAfter
@@ -29,8 +30,8 @@ returns c =
 evaluate-words-requires : tie.Need-evaluate-words-requires
 evaluate-words-requires c κs =
     let n = c .before .before .before in
-    let a = n .before .before .before .before .before .before .before .args in
-    let l = lent (graphOf (a .inputs) (a .nodes) (a .outputs) (a .node-table .now) (a .output-table .now)) (a .locks .now) (length (a .input-words .now)) (length (a .scratch .now)) (length (a .results .now))
+    let a = n .before .before .before .before .before .before .before .before .before .args in
+    let l = lent (graphOf (a .inputs) (a .nodes) (a .outputs) (literals (a .node-table .now) (a .node-bits .now)) (literals (a .output-table .now) (a .output-bits .now))) (a .locks .now) (length (a .input-words .now)) (length (a .scratch .now)) (length (a .results .now))
     (sym (n .evaluate-number .ensures) ∙ c .before .before .if1 .left) in
     (l .admitted, l .words, l .scratch, l .results)
 

@@ -8,38 +8,39 @@ use Rattle.graph.proofs.Tests.{fault, none}
 use Rattle.evaluation.specs.Evaluation.{evaluateNumber, sliceNumber, scratchNumber}
 use Rattle.evaluation.proofs.Call.{met, short-words, short-results, long-slices}
 use borrow.Author.Needs.{needs}
+use Rattle.graph.specs.Literals.{literals}
 use Rattle.evaluation.proofs.faults.evaluate_number.Statement.{statement}
 use Rattle.evaluation.proofs.faults.evaluate_number.Tie as tie
 
 -- what each test that was passed has shown
-room-held : (c : tie.Else1) → let a = c .before .before .before .before .before .args in tablesNumber (graphOf (a .inputs) (a .nodes) (a .outputs) (a .node-table .now) (a .output-table .now)) (a .locks .now) ≡ 0
+room-held : (c : tie.Else1) → let a = c .before .before .before .before .before .before .before .args in tablesNumber (graphOf (a .inputs) (a .nodes) (a .outputs) (literals (a .node-table .now) (a .node-bits .now)) (literals (a .output-table .now) (a .output-bits .now))) (a .locks .now) ≡ 0
 unfolding tablesNumber
-room-held c = sym (c .before .room-number .ensures) ∙ c .if1 .left
+room-held c = sym (c .before .tables-number .ensures) ∙ c .if1 .left
 
-slices-held : (c : tie.Else3) → let a = c .before .before .before .before .before .before .before .args in sliceNumber (graphOf (a .inputs) (a .nodes) (a .outputs) (a .node-table .now) (a .output-table .now)) (a .words) (a .results) ≡ 0
+slices-held : (c : tie.Else3) → let a = c .before .before .before .before .before .before .before .before .before .args in sliceNumber (graphOf (a .inputs) (a .nodes) (a .outputs) (literals (a .node-table .now) (a .node-bits .now)) (literals (a .output-table .now) (a .output-bits .now))) (a .words) (a .results) ≡ 0
 slices-held c =
-    let a = c .before .before .before .before .before .before .before .args in
-    long-slices (graphOf (a .inputs) (a .nodes) (a .outputs) (a .node-table .now) (a .output-table .now)) (a .words) (a .results) (c .before .if2 .left) (c .if3 .left)
+    let a = c .before .before .before .before .before .before .before .before .before .args in
+    long-slices (graphOf (a .inputs) (a .nodes) (a .outputs) (literals (a .node-table .now) (a .node-bits .now)) (literals (a .output-table .now) (a .output-bits .now))) (a .words) (a .results) (c .before .if2 .left) (c .if3 .left)
 
 returns : tie.Need-returns
 unfolding evaluateNumber tablesNumber
-returns c = let e = c .before .room-number .ensures in fault _ _ e (λ z. c .if1 .taken (e ∙ z))
+returns c = let e = c .before .tables-number .ensures in fault _ _ e (λ z. c .if1 .taken (e ∙ z))
 
 returns-2 : tie.Need-returns-2
 unfolding evaluateNumber
 returns-2 c =
     let t = c .before in
-    let a = t .before .before .before .before .before .args in
+    let a = t .before .before .before .before .before .before .before .args in
     none _ _ (room-held t)
-    (met _ _ (omega arith) (short-words (graphOf (a .inputs) (a .nodes) (a .outputs) (a .node-table .now) (a .output-table .now)) (a .words) (a .results) (c .if2 .taken)))
+    (met _ _ (omega arith) (short-words (graphOf (a .inputs) (a .nodes) (a .outputs) (literals (a .node-table .now) (a .node-bits .now)) (literals (a .output-table .now) (a .output-bits .now))) (a .words) (a .results) (c .if2 .taken)))
 
 returns-3 : tie.Need-returns-3
 unfolding evaluateNumber
 returns-3 c =
     let t = c .before .before in
-    let a = t .before .before .before .before .before .args in
+    let a = t .before .before .before .before .before .before .before .args in
     none _ _ (room-held t)
-    (met _ _ (omega arith) (short-results (graphOf (a .inputs) (a .nodes) (a .outputs) (a .node-table .now) (a .output-table .now)) (a .words) (a .results) (c .before .if2 .left) (c .if3 .taken)))
+    (met _ _ (omega arith) (short-results (graphOf (a .inputs) (a .nodes) (a .outputs) (literals (a .node-table .now) (a .node-bits .now)) (literals (a .output-table .now) (a .output-bits .now))) (a .words) (a .results) (c .before .if2 .left) (c .if3 .taken)))
 
 content-number-requires : tie.Need-content-number-requires
 content-number-requires c κs = room-held (c .before .before)

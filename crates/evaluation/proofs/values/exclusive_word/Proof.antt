@@ -1,6 +1,6 @@
 -- `values::exclusive_word` meets its contract. From the laws on bits.
 use Rattle.graph.specs.Value.{exclusive}
-use Rattle.evaluation.proofs.Bits.{bit-xor}
+use Rattle.graph.proofs.Bits.{bit-xor}
 use Rattle.evaluation.proofs.values.exclusive_word.Statement.{statement}
 use Rattle.evaluation.proofs.values.exclusive_word.Tie as tie
 

@@ -1,52 +1,87 @@
--- `values::node_word` meets its contract: both kinds of node. From the laws on words by index.
-use mathlib.Core.Path.{sym, ap, _∙_}
+-- `values::node_word` meets its contract. From the laws on words by index.
+use mathlib.Core.Path.{_≡_, sym, _∙_}
+use mathlib.Core.Bool.{Bool, true, false, cond, true≢false}
 use mathlib.Core.List.{List}
-use Prim.Native.Nat.{ℕ}
+use Prim.Native.Nat.{ℕ, _+_, _*_, _/_, _%_, _^_, _≤_, _<_}
 use native.Mathlib.Omega.{arith}
-use lib.ListN.{length}
-use Rattle.evaluation.specs.Inner.{byIndex, literalWord, nodesOf}
-use Rattle.evaluation.proofs.Index.{node-exclusive, node-majority}
 use borrow.Author.Needs.{needs}
+use borrow.Author.Tests.{eqb-false}
+use lib.ListN.{length, getD}
+use Rattle.graph.specs.Graph.{isXor}
+use Rattle.graph.specs.Literals.{bit, literals, bitOf}
+use Rattle.graph.specs.Value.{majority, exclusive, nodeValue}
+use Rattle.graph.proofs.Words.{three-apart}
+use Rattle.evaluation.specs.Inner.{byIndex, column, literalWord, nodesOf}
+use Rattle.evaluation.proofs.Index.{node-joined}
 use Rattle.evaluation.proofs.values.node_word.Statement.{statement}
 use Rattle.evaluation.proofs.values.node_word.Tie as tie
 
+is-mark-at-requires : tie.Need-is-mark-at-requires
+is-mark-at-requires c κs =
+    let b = c .before .before .before .before .pre .1 in
+    (omega (arith, b .there), λ n. omega (arith, b .few, b .third n))
+
+-- the bit of each of its words
+bit-of : (s : tie.Start) (k : ℕ) → k ≤ 2 → let a = s .args in
+    a .three / 2 ^ k % 2 ≡ bitOf (getD (literals (a .node-table .now) (a .node-bits .now)) (3 * length (a .node-words .now) + k) 0)
+bit-of s k h = let a = s .args in rw (s .pre .2) (three-apart (literals (a .node-table .now) (a .node-bits .now)) (length (a .node-words .now)) k h)
+
 literal-word-requires : tie.Need-literal-word-requires
-literal-word-requires c κs = let s = c .before .before .before .before .before in (s .pre .0, omega (arith, c .word-at2 .ensures, s .pre .2 .first))
+literal-word-requires c κs =
+    let s = c .before .before .before .before .before in
+    let a = s .args in
+    let b = s .pre .1 in
+    let e : 3 * length (a .node-words .now) + 0 ≡ 3 * length (a .node-words .now) = omega arith in
+    let q = rw e at (bit-of s 0 (omega arith)) in
+    (s .pre .0, omega (arith, b .few), omega (arith, b .there), b .first, omega (arith, q), omega arith)
 
 literal-word-requires-2 : tie.Need-literal-word-requires-2
-literal-word-requires-2 c κs = let s = c .before .before .before .before .before .before .before in (s .pre .0, omega (arith, c .word-at3 .ensures, s .pre .2 .second))
+literal-word-requires-2 c κs =
+    let s = c .before .before .before .before .before .before in
+    let b = s .pre .1 in
+    (s .pre .0, omega (arith, b .few), omega (arith, b .there), b .second, bit-of s 1 (omega arith), omega arith)
+
+third-word-requires : tie.Need-third-word-requires
+third-word-requires c κs =
+    let k = c .before .before .before in
+    let s = k .before .before .before .before .before in
+    let b = s .pre .1 in
+    (s .pre .0, omega (arith, b .few), b .there, b .first, λ e. b .third (eqb-false _ _ (sym (k .is-mark-at .ensures) ∙ e)), bit-of s 2 (omega arith), omega arith)
+
+where-true : (q : Bool) (a b r : ℕ) → q ≡ true → r ≡ a → r ≡ cond q a b
+where-true q a b r t e = rw t e
+
+-- what is joined of its words, of which the third counts for a majority alone
+module _ (y : tie.After-literal-word2) where
+  abbrev x : tie.After-literal-word
+  x = y .before
+
+  abbrev k : tie.After-is-mark-at
+  k = x .before
+
+  value-is : (z r : ℕ) → let a = k .before .before .before .before .before .args in
+      let ws = byIndex (a .inputs) (a .input-words .now) (a .node-words .now) in
+      let l = literals (a .node-table .now) (a .node-bits .now) in
+      (k .is-mark-at .result ≡ false → z ≡ literalWord ws (getD l (3 * length (a .node-words .now) + 2) 0))
+      → (n j : ℕ) → j < 64
+      → bit j r ≡ cond (k .is-mark-at .result) (exclusive (bit j (x .literal-word .result)) (bit j (y .literal-word2 .result))) (majority (bit j (x .literal-word .result)) (bit j (y .literal-word2 .result)) (bit j z))
+      → bit j r ≡ nodeValue (nodesOf (a .inputs) n l) (column j ws) (length (a .node-words .now))
+  unfolding isXor
+  value-is z r t n j h e =
+      let a = k .before .before .before .before .before .args in
+      let ws : List ℕ = byIndex (a .inputs) (a .input-words .now) (a .node-words .now) in
+      node-joined (nodesOf (a .inputs) n (literals (a .node-table .now) (a .node-bits .now))) (length (a .node-words .now)) ws
+      (x .literal-word .result) (y .literal-word2 .result) r (x .literal-word .ensures) (y .literal-word2 .ensures)
+      (k .is-mark-at .result) z (k .is-mark-at .ensures) t j h e
 
 returns : tie.Need-returns
-returns c = λ n j h.
-    let y = c .before .before in
-    let x = y .before .before in
-    let z = x .before .before in
-    let a = z .before .before .before .before .args in
-    let ws : List ℕ = byIndex (a .inputs) (a .input-words .now) (a .node-words .now) in
-    node-exclusive (nodesOf (a .inputs) n (a .node-table .now)) (length (a .node-words .now)) ws
-    (x .literal-word .result) (y .literal-word2 .result) (c .exclusive-word .result)
-    (x .literal-word .ensures ∙ ap (literalWord ws) (x .before .word-at2 .ensures)) (y .literal-word2 .ensures ∙ ap (literalWord ws) (y .before .word-at3 .ensures))
-    (sym (z .word-at .ensures) ∙ c .before .if1 .taken) j h (c .exclusive-word .ensures j)
-
-literal-word-requires-3 : tie.Need-literal-word-requires-3
-literal-word-requires-3 c κs =
-    let w = c .before .before .before .before .before in
-    let s = w .before .before .before .before in
-    (s .pre .0, omega (arith, w .word-at .ensures, s .pre .2 .third (λ e. c .if1 .left (w .word-at .ensures ∙ e))))
+returns c n j h =
+    let y = c .before .before .before in
+    let t = c .before .if2 .taken in
+    value-is y 0 (c .exclusive-word .result) (λ e. absurd (true≢false (sym t ∙ e))) n j h (where-true _ _ _ _ t (c .exclusive-word .ensures j))
 
 returns-2 : tie.Need-returns-2
-returns-2 c = λ n j h.
-    let z = c .before in
-    let y = z .before .before in
-    let x = y .before .before in
-    let w = x .before .before in
-    let a = w .before .before .before .before .args in
-    let ws : List ℕ = byIndex (a .inputs) (a .input-words .now) (a .node-words .now) in
-    node-majority (nodesOf (a .inputs) n (a .node-table .now)) (length (a .node-words .now)) ws
-    (x .literal-word .result) (y .literal-word2 .result) (c .majority-word .result)
-    (x .literal-word .ensures ∙ ap (literalWord ws) (x .before .word-at2 .ensures)) (y .literal-word2 .ensures ∙ ap (literalWord ws) (y .before .word-at3 .ensures))
-    (z .literal-word3 .result) (z .literal-word3 .ensures ∙ ap (literalWord ws) (w .word-at .ensures)) (λ e. z .before .if1 .left (w .word-at .ensures ∙ e))
-    j h (c .majority-word .ensures j)
+returns-2 c n j h = value-is (c .before .before .before) (c .before .third-word .result) (c .joined-word .result) (c .before .third-word .ensures) n j h (c .joined-word .ensures j h)
 
 pub node-word-spec : {M : Type 1} → statement M
 node-word-spec =
@@ -54,14 +89,12 @@ node-word-spec =
     (tie.spec
     (λ c. search needs)
     (λ c. search needs)
-    (λ c κs. search needs)
-    (λ c κs. search needs)
+    is-mark-at-requires
     literal-word-requires
     (λ c. search needs)
-    (λ c κs. search needs)
     literal-word-requires-2
     (λ c κs. search needs)
     returns
-    literal-word-requires-3
+    third-word-requires
     (λ c κs. search needs)
     returns-2)
