@@ -1,24 +1,26 @@
 -- A node's rows and its costs as numbers: bounds, and how the words' costs are met. From the laws on tests.
-use mathlib.Core.Path.{_≡_, refl}
+use mathlib.Core.Path.{_≡_, refl, sym}
 use mathlib.Core.Bool.{Bool, true, false, cond}
 use mathlib.Core.Logic.{⊎-elim}
 use mathlib.Core.List.{List, [], _∷_}
 use Prim.Native.Nat.{ℕ, zero, suc, _+_, _-_, _*_, _%_, _≤_, _<_}
 use native.Mathlib.Omega.{arith}
-use borrow.Author.Tests.{lt-ltb, ne-eqb}
+use borrow.Author.Tests.{lt-ltb, eqb-false}
 use lib.Dec.{eqb}
 use lib.ListN.{getD}
 use Rattle.graph.specs.Admission.{Admitted}
 use Rattle.graph.specs.Count.{adds, named, outputNamed, nodeReaders, readers}
 use Rattle.graph.specs.Finite.{ifLess, ifEqual, count}
-use Rattle.graph.specs.Graph.{Graph, mark, node, word, turn, isEdge}
+use Rattle.graph.specs.Graph.{Graph, mark, node, word, index, turn, isEdge, isXor}
+use Rattle.graph.specs.Inner.{IsWord}
 use Rattle.moves.specs.Rows.{rows, firstRow, arity, flag}
-use Rattle.moves.specs.Decide.{costBy, costWith, Weighed, Numbers, LeastBelow, Answered, FirstPair, wordAfter, wordsAdd, ownCosts, swapped, given, others, costOf, costGiven, pairCost, numbersOf, naming, Counted}
+use Rattle.moves.specs.Decide.{costBy, costWith, Weighed, Numbers, LeastBelow, Answered, FirstPair, wordAfter, bitsAdd, ownCosts, swapped, given, others, costOf, costGiven, pairCost, numbersOf, naming, Counted}
 use Rattle.moves.specs.declared.decide.NodeNumbers.{NodeNumbers}
 use Rattle.choice.specs.Choice.{FirstBelow}
 use Rattle.graph.proofs.Adds.{adds-le}
-use Rattle.graph.proofs.Cases.{true-or-false}
+use Rattle.graph.proofs.Edge.{edge-early, third-majority, third-xor}
 use Rattle.graph.proofs.Finite.{sum-le}
+use Rattle.graph.proofs.Tests.{equal, unequal}
 use Rattle.moves.proofs.Shown.{shown-both}
 use Rattle.moves.proofs.Flags.{by-flag}
 use Rattle.moves.proofs.Moves.{moves-of}
@@ -118,34 +120,43 @@ naming-le g v u (suc zero) = if-bit _ _ 1 (omega arith)
 naming-le g v u (suc (suc zero)) = if-bit _ _ 1 (omega arith)
 naming-le g v u (suc (suc (suc i))) = omega arith
 
-module _ (g : Graph) (v t : ℕ) where
-  pub first-two : (i x : ℕ) → i < 2 → x ≡ word g (3 * v + i) → adds (turn t x) ≡ wordAfter g v i t
-  unfolding wordAfter isEdge
-  first-two i x h e = let q : (3 * v + i) % 3 ≡ i = omega arith in rw (q, ne-eqb i 2 (omega arith), e)
+-- the third word of a majority
+pub third-low : (g : Graph) (v : ℕ) → IsWord (word g (3 * v + 2)) → isXor g v ≡ false → index (word g (3 * v + 2)) < 2147483647
+unfolding isXor
+third-low g v f e = f (eqb-false (word g (3 * v + 2)) mark e)
 
-  pub third : (x : ℕ) → x ≡ word g (3 * v + 2) → ifEqual x mark 0 (adds (turn t x)) ≡ wordAfter g v 2 t
-  unfolding wordAfter isEdge ifEqual
-  third x e =
-      let q : (3 * v + 2) % 3 ≡ 2 = omega arith in
-      rw (q, e)
-      (⊎-elim
-      (λ (b : eqb (word g (3 * v + 2)) mark ≡ true). rw b)
-      (λ (b : eqb (word g (3 * v + 2)) mark ≡ false). rw b)
-      (true-or-false (eqb (word g (3 * v + 2)) mark)))
+-- what the words of node v add, by their bits and the kind
+module _ (g : Graph) (v : ℕ) where
+  turned-bit : (t x b : ℕ) → b ≡ x % 2 → t ≤ 1 → adds (turn t x) ≡ ifEqual t 0 b (1 - b)
+  unfolding adds turn
+  turned-bit zero x b e h = equal zero 0 b (1 - b) refl (omega arith)
+  turned-bit (suc zero) x b e h = unequal (suc zero) 0 b (1 - b) (λ z. omega arith) (omega arith)
+  turned-bit (suc (suc t)) x b e h = absurd (omega arith)
 
-pub own-costs-are : (g : Graph) (v x y z : ℕ) → x ≡ word g (3 * v) → y ≡ word g (3 * v + 1) → z ≡ word g (3 * v + 2) → wordsAdd x y z ≡ ownCosts g v
-unfolding ownCosts
-own-costs-are g v x y z p q r =
-    let e : 3 * v + 0 ≡ 3 * v = omega arith in
-    let p′ : x ≡ word g (3 * v + 0) = rw e p in
-    rw (
-      first-two g v 0 0 x (omega arith) p′,
-      first-two g v 1 0 x (omega arith) p′,
-      first-two g v 0 1 y (omega arith) q,
-      first-two g v 1 1 y (omega arith) q,
-      third g v 0 z r,
-      third g v 1 z r,
-    )
+  edge-after : (i t b : ℕ) → isEdge g (3 * v + i) ≡ true → b ≡ word g (3 * v + i) % 2 → t ≤ 1 → wordAfter g v i t ≡ ifEqual t 0 b (1 - b)
+  unfolding wordAfter
+  edge-after i t b e q h = rw e (turned-bit t (word g (3 * v + i)) b q h)
+
+  edge-both : (i b : ℕ) → isEdge g (3 * v + i) ≡ true → b ≡ word g (3 * v + i) % 2 → (wordAfter g v i 0 ≡ b) × (wordAfter g v i 1 ≡ 1 - b)
+  unfolding ifEqual
+  edge-both i b e q = (edge-after i 0 b e q (omega arith), edge-after i 1 b e q (omega arith))
+
+  mark-after : (t : ℕ) → isXor g v ≡ true → wordAfter g v 2 t ≡ 0
+  unfolding wordAfter
+  mark-after t x = rw (third-xor g v x)
+
+  third-both : (b : ℕ) (k : Bool) → k ≡ isXor g v → (isXor g v ≡ false → b ≡ word g (3 * v + 2) % 2) → (wordAfter g v 2 0 ≡ cond k 0 b) × (wordAfter g v 2 1 ≡ cond k 0 (1 - b))
+  third-both b true x f = (mark-after 0 (sym x), mark-after 1 (sym x))
+  third-both b false x f = edge-both 2 b (third-majority g v (sym x)) (f (sym x))
+
+  pub own-costs-are : (x y z : ℕ) (k : Bool) → x ≡ word g (3 * v + 0) % 2 → y ≡ word g (3 * v + 1) % 2 → k ≡ isXor g v → (isXor g v ≡ false → z ≡ word g (3 * v + 2) % 2)
+      → bitsAdd x y z k ≡ ownCosts g v
+  unfolding ownCosts
+  own-costs-are x y z k p q r f =
+      let a = edge-both 0 x (edge-early g (3 * v + 0) (omega arith)) p in
+      let b = edge-both 1 y (edge-early g (3 * v + 1) (omega arith)) q in
+      let c = third-both z k r f in
+      rw (a .0, a .1, b .0, b .1, c .0, c .1)
 
 -- the words' costs once some have been turned
 pub onlyIf-le : (f w : ℕ) → w ≤ 1 → ifEqual f 0 0 w ≤ 1

@@ -28,3 +28,4 @@ pub mod Outside
 pub mod Rooted
 pub mod PairOthers
 pub mod Pair
+pub mod Made

@@ -2,7 +2,7 @@
 -- laws on tests and sums.
 use mathlib.Core.Path.{_≡_, refl, sym, ap, _∙_}
 use mathlib.Core.Bool.{Bool, true, false, not, cond, _&&_}
-use mathlib.Core.Logic.{⊎-elim}
+use mathlib.Core.Logic.{⊎-elim, _≢_}
 use mathlib.Core.List.{List}
 use Prim.Native.Nat.{ℕ, _+_, _*_, _/_, _%_, _≤_, _<_}
 use native.Mathlib.Omega.{arith}
@@ -17,6 +17,7 @@ use Rattle.moves.specs.Cost.{shown}
 use Rattle.moves.specs.Decide.{Tallied, Read}
 use Rattle.graph.proofs.Cases.{true-or-false}
 use Rattle.graph.proofs.Finite.{sum-same, sum-le}
+use Rattle.graph.proofs.Tests.{equal, unequal}
 
 pub if-bit : (a b x : ℕ) → x ≤ 1 → ifEqual a b x 0 ≤ 1
 unfolding ifEqual
@@ -31,10 +32,18 @@ module _ (l : List ℕ) (u : ℕ) where
   unfolding sum
   tally-zero = record { names = refl; odd = refl }
 
-  pub tally-suc : (n c d p q : ℕ) → Tallied l n u c d → p ≡ ifEqual (getD l n 0 / 2) u 1 0 → q ≡ ifEqual (getD l n 0 / 2) u (getD l n 0 % 2) 0
-      → Tallied l (n + 1) u (c + p) (d + q)
+  -- a word more, which names u or does not
+  pub tally-here : (n c d b : ℕ) → Tallied l n u c d → getD l n 0 / 2 ≡ u → b ≡ getD l n 0 % 2 → Tallied l (n + 1) u (c + 1) (d + b)
   unfolding sum
-  tally-suc n c d p q t e f = rw add-one (record { names = omega (arith, t .names, e); odd = omega (arith, t .odd, f) })
+  tally-here n c d b t e f =
+      let x = getD l n 0 in
+      rw add-one (record { names = omega (arith, t .names, equal {A = ℕ} {k = 1} (x / 2) u 1 0 e refl); odd = omega (arith, t .odd, equal {A = ℕ} {k = b} (x / 2) u (x % 2) 0 e f) })
+
+  pub tally-past : (n c d : ℕ) → Tallied l n u c d → getD l n 0 / 2 ≢ u → Tallied l (n + 1) u c d
+  unfolding sum
+  tally-past n c d t e =
+      let x = getD l n 0 in
+      rw add-one (record { names = omega (arith, t .names, unequal {A = ℕ} {k = 0} (x / 2) u 1 0 e refl); odd = omega (arith, t .odd, unequal {A = ℕ} {k = 0} (x / 2) u (x % 2) 0 e refl) })
 
   pub tally-le : (n c d : ℕ) → Tallied l n u c d → (c ≤ n) × (d ≤ n)
   tally-le n c d t =

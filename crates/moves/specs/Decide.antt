@@ -6,7 +6,7 @@ use mathlib.Core.Logic.{_⊎_}
 use Prim.Native.Nat.{ℕ, _+_, _-_, _*_, _/_, _%_, _≤_, _<_}
 use lib.ListN.{getD}
 use Rattle.graph.specs.Finite.{ifEqual, sum}
-use Rattle.graph.specs.Graph.{Graph, mark, node, word, turn, isEdge, isXor}
+use Rattle.graph.specs.Graph.{Graph, node, word, turn, isEdge, isXor}
 use Rattle.graph.specs.Count.{adds, nodeReaders, readers}
 use Rattle.moves.specs.Cost.{shown}
 use Rattle.moves.specs.Rows.{arity, flag, movesAt}
@@ -47,10 +47,9 @@ MovesOf x n = (n ≡ 1) ⊎ (n ≡ arity x)
 unfoldable pub wordAfter : Graph → ℕ → ℕ → ℕ → ℕ
 wordAfter g v i t = cond (isEdge g (3 * v + i)) (adds (turn t (word g (3 * v + i)))) 0
 
--- what the words x, y and z of a node add, each as it stands and turned
-abbrev pub wordsAdd : ℕ → ℕ → ℕ → List ℕ
-wordsAdd x y z =
-    adds (turn 0 x) ∷ adds (turn 1 x) ∷ adds (turn 0 y) ∷ adds (turn 1 y) ∷ ifEqual z mark 0 (adds (turn 0 z)) ∷ ifEqual z mark 0 (adds (turn 1 z)) ∷ []
+-- what words with the bits x, y and z add, each as it stands and turned; where t says that the third is the mark, it adds nothing
+abbrev pub bitsAdd : ℕ → ℕ → ℕ → Bool → List ℕ
+bitsAdd x y z t = x ∷ (1 - x) ∷ y ∷ (1 - y) ∷ cond t 0 z ∷ cond t 0 (1 - z) ∷ []
 
 -- the same of node v
 unfoldable pub ownCosts : Graph → ℕ → List ℕ

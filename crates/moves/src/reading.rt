@@ -3,7 +3,7 @@ ghost use mathlib.Core.Path.{_≡_};
 ghost use Prim.Native.Nat.{_+_, _*_, _≤_, _<_};
 ghost use lib.ListN.{length};
 ghost use Rattle.graph.specs.Admission.{Admitted};
-ghost use Rattle.graph.specs.Graph.{graphOf};
+ghost use Rattle.graph.specs.Literals.{graphIn, held, literals};
 ghost use Rattle.moves.specs.Decide.{Tallied, Read, numbersOf};
 use crate::decide::NodeNumbers;
 use crate::rows;
@@ -23,20 +23,32 @@ pub struct Readers {
     pub odd: u32,
 }
 
-pub fn count_names(table: &[u32], n: usize, u: u32) -> Tally
-    requires { ⌜ (n ≤ length (now table)) × (n ≤ 300000) ⌝ }
-    ensures { λ r. ⌜ Tallied (now (table .entry)) n u (r .count) (r .odd) ⌝ }
+// A tally of the words before place j, with the word there: its bit is looked at only where it names the index.
+fn tally_at(table: &[u32], bits: &[u64], j: usize, u: u32, t: Tally) -> Tally
+    requires { let l = literals (now table) (now bits) in
+        ⌜ (j < held l) × (j < 300000) × (u < 2147483647) × Tallied l j u (t .count) (t .odd) ⌝ }
+    ensures { λ r. ⌜ Tallied (literals (now (table .entry)) (now (bits .entry))) (j + 1) u (r .count) (r .odd) ⌝ }
 {
-    let mut count: u32 = 0;
-    let mut odd: u32 = 0;
+    if table::index_at(table, bits, j) == u {
+        return Tally {
+            count: t.count + 1,
+            odd: t.odd + table::odd_at(table, bits, j),
+        };
+    }
+    t
+}
+
+pub fn count_names(table: &[u32], bits: &[u64], n: usize, u: u32) -> Tally
+    requires { ⌜ (n ≤ held (literals (now table) (now bits))) × (n ≤ 300000) × (u < 2147483647) ⌝ }
+    ensures { λ r. ⌜ Tallied (literals (now (table .entry)) (now (bits .entry))) n u (r .count) (r .odd) ⌝ }
+{
+    let mut t = Tally { count: 0, odd: 0 };
     let mut j: usize = 0;
     while j < n {
-        let x = table::word_at(table, j);
-        count += words::names(x, u);
-        odd += words::names_odd(x, u);
+        t = tally_at(table, bits, j, u, t);
         j += 1;
     }
-    Tally { count, odd }
+    t
 }
 
 pub fn readers_of(
@@ -44,14 +56,18 @@ pub fn readers_of(
     nodes: u32,
     outputs: u32,
     node_table: &[u32],
+    node_bits: &[u64],
     output_table: &[u32],
+    output_bits: &[u64],
     u: u32,
 ) -> Readers
-    requires { ⌜ (nodes ≤ 100000) × (outputs ≤ 4096) × (3 * nodes ≤ length (now «node_table»)) × (outputs ≤ length (now «output_table»)) × (u < 2147483647) ⌝ }
-    ensures { λ r. ⌜ Read (graphOf inputs nodes outputs (now («node_table» .entry)) (now («output_table» .entry))) u (r .all) (r .in_nodes) (r .odd) ⌝ }
+    requires { let ns = literals (now «node_table») (now «node_bits») in
+        let os = literals (now «output_table») (now «output_bits») in
+        ⌜ (nodes ≤ 100000) × (outputs ≤ 4096) × (3 * nodes ≤ held ns) × (outputs ≤ held os) × (u < 2147483647) ⌝ }
+    ensures { λ r. ⌜ Read (graphIn inputs nodes outputs (now («node_table» .entry)) (now («node_bits» .entry)) (now («output_table» .entry)) (now («output_bits» .entry))) u (r .all) (r .in_nodes) (r .odd) ⌝ }
 {
-    let a = count_names(node_table, 3 * nodes as usize, u);
-    let b = count_names(output_table, outputs as usize, u);
+    let a = count_names(node_table, node_bits, 3 * nodes as usize, u);
+    let b = count_names(output_table, output_bits, outputs as usize, u);
     Readers {
         all: a.count + b.count,
         in_nodes: a.count,
@@ -65,12 +81,14 @@ pub fn numbers_of(
     nodes: u32,
     outputs: u32,
     node_table: &[u32],
+    node_bits: &[u64],
     output_table: &[u32],
+    output_bits: &[u64],
     locks: &[u8],
     v: u32,
 ) -> NodeNumbers
-    requires { ⌜ Admitted (graphOf inputs nodes outputs (now «node_table») (now «output_table»)) × (v < nodes) × (nodes ≤ length (now locks)) ⌝ }
-    ensures { λ r. ⌜ r ≡ numbersOf (graphOf inputs nodes outputs (now («node_table» .entry)) (now («output_table» .entry))) (now (locks .entry)) v ⌝ }
+    requires { ⌜ Admitted (graphIn inputs nodes outputs (now «node_table») (now «node_bits») (now «output_table») (now «output_bits»)) × (v < nodes) × (nodes ≤ length (now locks)) ⌝ }
+    ensures { λ r. ⌜ r ≡ numbersOf (graphIn inputs nodes outputs (now («node_table» .entry)) (now («node_bits» .entry)) (now («output_table» .entry)) (now («output_bits» .entry))) (now (locks .entry)) v ⌝ }
 {
     let at = v as usize;
     let all = readers_of(
@@ -78,13 +96,15 @@ pub fn numbers_of(
         nodes,
         outputs,
         node_table,
+        node_bits,
         output_table,
+        output_bits,
         inputs + 1 + v,
     );
     NodeNumbers {
-        xor: rows::is_xor(node_table, at),
-        moves: rows::moves_at(node_table, locks, at),
-        costs: words::own_costs(node_table, at),
+        xor: rows::is_xor(node_table, node_bits, at),
+        moves: rows::moves_at(node_table, node_bits, locks, at),
+        costs: words::own_costs(node_table, node_bits, at),
         readers: all.all,
         odd: all.odd,
     }

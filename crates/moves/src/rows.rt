@@ -1,10 +1,12 @@
 // Document 01's table of moves, and the kind of a node.
 ghost use mathlib.Core.Path.{_≡_};
 ghost use mathlib.Core.List.{List, []};
-ghost use Prim.Native.Nat.{ℕ, _+_, _*_, _≤_, _<_};
+ghost use Prim.Native.Nat.{ℕ, _+_, _≤_, _<_};
 ghost use lib.ListN.{length, getD};
 ghost use Rattle.graph.specs.Finite.{ifLess};
 ghost use Rattle.graph.specs.Graph.{graphOf, isXor};
+ghost use Rattle.graph.specs.Inner.{Readable};
+ghost use Rattle.graph.specs.Literals.{literals};
 ghost use Rattle.moves.specs.Rows.{rows, firstRow, arity, flag, movesAt};
 use graph::table;
 
@@ -26,23 +28,25 @@ pub fn row_flag(row: usize, k: usize) -> u32
 }
 
 // A third word that is the mark makes an XOR.
-pub fn is_xor(node_table: &[u32], v: usize) -> bool
-    requires { ⌜ (3 * v + 2 < length (now «node_table»)) × (v ≤ 100000) ⌝ }
-    ensures { λ r. ⌜ ((i n o : ℕ) (os : List ℕ) → r ≡ isXor (graphOf i n o (now («node_table» .entry)) os) v) ⌝ }
+pub fn is_xor(node_table: &[u32], node_bits: &[u64], v: usize) -> bool
+    requires { ⌜ Readable (literals (now «node_table») (now «node_bits»)) v ⌝ }
+    ensures { λ r. ⌜ ((i n o : ℕ) (os : List ℕ) → r ≡ isXor (graphOf i n o (literals (now («node_table» .entry)) (now («node_bits» .entry))) os) v) ⌝ }
 {
     let at = 3 * v + 2;
-    table::is_mark_at(node_table, at)
+    table::is_mark_at(node_table, node_bits, at)
 }
 
 // How many moves node v has: one where it is locked.
-pub fn moves_at(node_table: &[u32], locks: &[u8], v: usize) -> u32
-    requires { ⌜ (3 * v + 2 < length (now «node_table»)) × (v ≤ 100000) × (v < length (now locks)) ⌝ }
-    ensures { λ r. ⌜ ((i n o : ℕ) (os : List ℕ) → v < n → r ≡ movesAt (graphOf i n o (now («node_table» .entry)) os) (now (locks .entry)) (i + 1 + v)) ⌝ }
+pub fn moves_at(node_table: &[u32], node_bits: &[u64], locks: &[u8], v: usize) -> u32
+    requires { ⌜ Readable (literals (now «node_table») (now «node_bits»)) v × (v < length (now locks)) ⌝ }
+    ensures { λ r.
+        let ns = literals (now («node_table» .entry)) (now («node_bits» .entry)) in
+        ⌜ ((i n o : ℕ) (os : List ℕ) → v < n → r ≡ movesAt (graphOf i n o ns os) (now (locks .entry)) (i + 1 + v)) ⌝ }
 {
     if locks[v] == 1 {
         return 1;
     }
-    if is_xor(node_table, v) {
+    if is_xor(node_table, node_bits, v) {
         return 4;
     }
     2

@@ -1,92 +1,61 @@
 // What the words of a node add to C, as they stand and turned.
 ghost use mathlib.Core.Path.{_≡_};
 ghost use mathlib.Core.List.{List};
-ghost use Prim.Native.Nat.{ℕ, _+_, _-_, _*_, _/_, _%_, _≤_, _<_};
-ghost use lib.ListN.{length};
+ghost use Prim.Native.Nat.{ℕ, _+_, _-_, _≤_, _<_};
+ghost use lib.ListN.{getD};
 ghost use Rattle.graph.specs.Finite.{ifEqual};
-ghost use Rattle.graph.specs.Graph.{graphOf, turn, mark};
-ghost use Rattle.graph.specs.Count.{adds};
-ghost use Rattle.moves.specs.Decide.{wordsAdd, ownCosts, naming};
-use graph::edges;
-use graph::literal;
-use graph::literal::MARK;
+ghost use Rattle.graph.specs.Graph.{graphOf, index};
+ghost use Rattle.graph.specs.Inner.{Readable};
+ghost use Rattle.graph.specs.Literals.{held, literals};
+ghost use Rattle.moves.specs.Decide.{bitsAdd, ownCosts, naming};
+use crate::rows;
 use graph::table;
 
-// What a literal adds, turned t times.
-pub fn turned_adds(x: u32, t: u32) -> u32
-    requires { ⌜ t ≤ 1 ⌝ }
-    ensures { λ r. ⌜ r ≡ adds (turn t x) ⌝ }
+// What words with the bits x, y and z add, each as it stands and turned. An XOR's third is the mark, which adds nothing.
+pub fn costs_of(x: u32, y: u32, z: u32, xor: bool) -> [u32; 6]
+    requires { ⌜ (x ≤ 1) × (y ≤ 1) × (z ≤ 1) ⌝ }
+    ensures { λ r. ⌜ r ≡ bitsAdd x y z xor ⌝ }
 {
-    edges::literal_adds(literal::turned(t, x))
-}
-
-// A third word may be the mark, which adds nothing.
-pub fn third_adds(x: u32, t: u32) -> u32
-    requires { ⌜ t ≤ 1 ⌝ }
-    ensures { λ r. ⌜ r ≡ ifEqual x mark 0 (adds (turn t x)) ⌝ }
-{
-    if x == MARK {
-        return 0;
+    if xor {
+        return [x, 1 - x, y, 1 - y, 0, 0];
     }
-    turned_adds(x, t)
+    [x, 1 - x, y, 1 - y, z, 1 - z]
 }
 
-// What the words of a node add, each as it stands and turned.
-pub fn costs_of(x: u32, y: u32, z: u32) -> [u32; 6]
-    ensures { λ r. ⌜ r ≡ wordsAdd x y z ⌝ }
-{
-    [
-        turned_adds(x, 0),
-        turned_adds(x, 1),
-        turned_adds(y, 0),
-        turned_adds(y, 1),
-        third_adds(z, 0),
-        third_adds(z, 1),
-    ]
-}
-
-// Those of node v.
-pub fn own_costs(node_table: &[u32], v: usize) -> [u32; 6]
-    requires { ⌜ (3 * v + 2 < length (now «node_table»)) × (v ≤ 100000) ⌝ }
-    ensures { λ r. ⌜ ((i n o : ℕ) (os : List ℕ) → r ≡ ownCosts (graphOf i n o (now («node_table» .entry)) os) v) ⌝ }
+// What the words of node v add.
+pub fn own_costs(node_table: &[u32], node_bits: &[u64], v: usize) -> [u32; 6]
+    requires { ⌜ Readable (literals (now «node_table») (now «node_bits»)) v ⌝ }
+    ensures { λ r. ⌜ ((i n o : ℕ) (os : List ℕ) → r ≡ ownCosts (graphOf i n o (literals (now («node_table» .entry)) (now («node_bits» .entry))) os) v) ⌝ }
 {
     let at = 3 * v;
-    let x = table::word_at(node_table, at);
-    let y = table::word_at(node_table, at + 1);
-    let z = table::word_at(node_table, at + 2);
-    costs_of(x, y, z)
+    let xor = rows::is_xor(node_table, node_bits, v);
+    let x = table::odd_at(node_table, node_bits, at);
+    let y = table::odd_at(node_table, node_bits, at + 1);
+    let z = table::odd_at(node_table, node_bits, at + 2);
+    costs_of(x, y, z, xor)
 }
 
-// 1 where the literal x names index u.
-pub fn names(x: u32, u: u32) -> u32
-    ensures { λ r. ⌜ r ≡ ifEqual (x / 2) u 1 0 ⌝ }
+// 1 where the word at place j names index u.
+pub fn names_at(table: &[u32], bits: &[u64], j: usize, u: u32) -> u32
+    requires { ⌜ (j < held (literals (now table) (now bits))) × (u < 2147483647) ⌝ }
+    ensures { λ r. ⌜ r ≡ ifEqual (index (getD (literals (now (table .entry)) (now (bits .entry))) j 0)) u 1 0 ⌝ }
 {
-    if x / 2 == u {
+    if table::index_at(table, bits, j) == u {
         return 1;
     }
     0
 }
 
-// 1 where it names u and is complemented.
-pub fn names_odd(x: u32, u: u32) -> u32
-    ensures { λ r. ⌜ r ≡ ifEqual (x / 2) u (x % 2) 0 ⌝ }
-{
-    if x / 2 == u {
-        return x % 2;
-    }
-    0
-}
-
 // Which words of node v name index u.
-pub fn which_name(node_table: &[u32], v: usize, u: u32) -> [u32; 3]
-    requires { ⌜ (3 * v + 2 < length (now «node_table»)) × (v ≤ 100000) ⌝ }
-    ensures { λ r. ⌜ ((i n o : ℕ) (os : List ℕ) → r ≡ naming (graphOf i n o (now («node_table» .entry)) os) v u) ⌝ }
+pub fn which_name(node_table: &[u32], node_bits: &[u64], v: usize, u: u32) -> [u32; 3]
+    requires { ⌜ Readable (literals (now «node_table») (now «node_bits»)) v × (u < 2147483647) ⌝ }
+    ensures { λ r. ⌜ ((i n o : ℕ) (os : List ℕ) → r ≡ naming (graphOf i n o (literals (now («node_table» .entry)) (now («node_bits» .entry))) os) v u) ⌝ }
 {
     let at = 3 * v;
-    let x = table::word_at(node_table, at);
-    let y = table::word_at(node_table, at + 1);
-    let z = table::word_at(node_table, at + 2);
-    [names(x, u), names(y, u), names(z, u)]
+    let x = names_at(node_table, node_bits, at, u);
+    let y = names_at(node_table, node_bits, at + 1, u);
+    let z = names_at(node_table, node_bits, at + 2, u);
+    [x, y, z]
 }
 
 // a - b, or 0.

@@ -1,3 +1,3 @@
-pub mod Flags
 pub mod Refusing
+pub mod Turning
 pub mod Outcomes

@@ -1,8 +1,7 @@
 -- A decision from numbers, written, is the rewriting that the calls define. From the laws of best moves by numbers.
-use mathlib.Core.Path.{_≡_, sym, ap, _∙_, fun-ext}
+use mathlib.Core.Path.{_≡_, ap, _∙_}
 use mathlib.Core.List.{List, [], _∷_}
-use mathlib.Core.Logic.{⊎-elim, _≢_}
-use Prim.Native.Nat.{ℕ, zero, suc, _+_, _-_, _≤_, _<_}
+use Prim.Native.Nat.{ℕ, _+_, _-_, _≤_, _<_}
 use native.Mathlib.Omega.{arith}
 use Rattle.graph.specs.Admission.{Admitted}
 use borrow.Author.Tests.{lt-ltb, le-ltb}
@@ -13,10 +12,9 @@ use Rattle.graph.specs.Count.{C}
 use Rattle.graph.specs.Difference.{difference}
 use Rattle.graph.specs.Finite.{ifLess}
 use Rattle.graph.specs.Graph.{Graph, node}
-use Rattle.graph.proofs.Cases.{eq-or-ne}
 use Rattle.graph.proofs.Difference.{at-least}
 use Rattle.choice.specs.Choice.{FirstBelow}
-use Rattle.moves.specs.Apply.{Choice, none, at, put, apply}
+use Rattle.moves.specs.Apply.{none, at, put, apply}
 use Rattle.moves.specs.Call.{moved, movedC, rewrite, isNode, namedBy, pairRewrite}
 use Rattle.moves.specs.Decide.{costOf, pairCost, FirstPair, numbersOf, naming, Counted}
 use Rattle.moves.specs.Outside.{NodeOdds, PairOdds, savedBy}
@@ -26,7 +24,6 @@ use Rattle.moves.specs.Split.{split}
 use Rattle.moves.specs.Trial.{moveHad, trialSaving}
 use Rattle.moves.specs.declared.decide.NodeNumbers.{NodeNumbers}
 use Rattle.moves.specs.declared.gains.Odds.{Odds}
-use Rattle.moves.proofs.Changed.{at-same, at-other}
 use Rattle.moves.proofs.Deciding.{numbers-low, naming-le}
 use Rattle.moves.proofs.NodeBest.{node-cost, node-best, zero-is, pair-cost-is, pair-best, zeros-are}
 use Rattle.moves.proofs.Pair.{least-of-greatest, pair-saving, had-fits}
@@ -43,15 +40,6 @@ counted g ls v n adm e = rw e (numbers-low g ls v adm)
 pub naming-bits : (g : Graph) (v u : ℕ) (w : List ℕ) → w ≡ naming g v u → (i : ℕ) → getD w i 0 ≤ 1
 naming-bits g v u w e i = rw e (naming-le g v u i)
 
-at-twice : (d : Choice) (u k : ℕ) → at (at d u k) u k ≡ at d u k
-at-twice d u k =
-    fun-ext
-    (λ w.
-    ⊎-elim
-    (λ (e : w ≡ u). rw e (at-same (at d u k) u k ∙ sym (at-same d u k)))
-    (λ (e : w ≢ u). at-other (at d u k) u k w e)
-    (eq-or-ne w u))
-
 module _ (g : Graph) (ls : List ℕ) (adm : Admitted g) (v : ℕ) (h : v < g .N) (n : NodeNumbers) (e : n ≡ numbersOf g ls v) (m : ℕ) (b : FirstBelow (costOf n) (n .moves) m) where
   by-numbers : FirstBelow (costOf (numbersOf g ls v)) (movesAt g ls (node g v)) m
   unfolding numbersOf
@@ -66,13 +54,12 @@ module _ (g : Graph) (ls : List ℕ) (adm : Admitted g) (v : ℕ) (h : v < g .N)
   odds-are : (o : Odds) → NodeOdds n m o → split (node g v ∷ []) g (moved g (node g v ∷ []) (m ∷ [])) .others ≡ difference (o .before) (o .after)
   odds-are o r = node-others g adm v ls h m o (rw e at r)
 
-  pub node-outcome : (k : Graph) (b a : ℕ) (o : Odds) → k ≡ apply g (at (at none (node g v) m) (node g v) m) → b ≡ costOf n 0 → a ≡ costOf n m → NodeOdds n m o
+  pub node-outcome : (k : Graph) (b a : ℕ) (o : Odds) → k ≡ apply g (at none (node g v) m) → b ≡ costOf n 0 → a ≡ costOf n m → NodeOdds n m o
       → (x : Answer) → x ≡ savedBy b a (o .before) (o .after) → outcome x k ≡ rewrite g ls (node g v ∷ [])
   unfolding moved put
   node-outcome k b a o q t u r x y =
-      let d : k ≡ apply g (at none (node g v) m) = q ∙ rw (at-twice none (node g v) m) in
       ap (λ (z : Answer). outcome z k) y ∙
-      saved-outcome g ls (node g v ∷ []) k b a (o .before) (o .after) (d ∙ rw (← node-best g ls adm v h m by-numbers)) (rw (d, t, u) same-fall) (rw d (odds-are o r))
+      saved-outcome g ls (node g v ∷ []) k b a (o .before) (o .after) (q ∙ rw (← node-best g ls adm v h m by-numbers)) (rw (q, t, u) same-fall) (rw q (odds-are o r))
 
 module _ (g : Graph) (ls : List ℕ) (adm : Admitted g) (p v : ℕ) (l : p < v) (h : v < g .N) (a n : NodeNumbers) (w : List ℕ) (f : a ≡ numbersOf g ls p) (e : n ≡ numbersOf g ls v) (i : w ≡ naming g v (node g p))
     (k m : ℕ) (b : FirstGreatest (pairSaving a n w) (a .moves) (n .moves) k m) where

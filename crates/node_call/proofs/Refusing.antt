@@ -102,5 +102,8 @@ module _ (g : Graph) (ls : List ℕ) (u : ℕ) where
           let a = w .at-node in
           omega (arith, a .after, a .before, w .from-one, three-words (isXor g v) k (w .to-last), a .admitted .below (3 * v + (k - 1)) (omega (arith, a .after, a .before, w .from-one, three-words (isXor g v) k (w .to-last))) word-edge)
 
+      pub named-low : namedBy g u k < 2147483647
+      named-low = let a = w .at-node in omega (arith, named-below, a .before, a .admitted .few-inputs, a .admitted .few-nodes)
+
       pub within-three : k ≤ 3
       within-three = three-words (isXor g (u - (g .I + 1))) k (w .to-last)

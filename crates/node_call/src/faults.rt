@@ -2,7 +2,7 @@
 ghost use mathlib.Core.Path.{_≡_};
 ghost use mathlib.Core.Bool.{cond, _&&_};
 ghost use lib.Dec.{leb};
-ghost use Rattle.graph.specs.Graph.{graphOf};
+ghost use Rattle.graph.specs.Literals.{graphIn};
 ghost use Rattle.moves.specs.Call.{nodeNumber, pairNumber};
 use moves::rows;
 
@@ -11,18 +11,24 @@ pub fn node_number(
     nodes: u32,
     outputs: u32,
     node_table: &[u32],
+    node_bits: &[u64],
     output_table: &[u32],
+    output_bits: &[u64],
     locks: &[u8],
     node: u32,
 ) -> u32
-    ensures { λ r. ⌜ r ≡ nodeNumber (graphOf inputs nodes outputs (now («node_table» .entry)) (now («output_table» .entry))) (now (locks .entry)) node ⌝ }
+    ensures { λ r.
+        let g = graphIn inputs nodes outputs (now («node_table» .entry)) (now («node_bits» .entry)) (now («output_table» .entry)) (now («output_bits» .entry)) in
+        ⌜ r ≡ nodeNumber g (now (locks .entry)) node ⌝ }
 {
     let number = graph::faults::admission_number(
         inputs,
         nodes,
         outputs,
         node_table,
+        node_bits,
         output_table,
+        output_bits,
         locks,
     );
     if number != 0 {
@@ -55,19 +61,25 @@ pub fn pair_number(
     nodes: u32,
     outputs: u32,
     node_table: &[u32],
+    node_bits: &[u64],
     output_table: &[u32],
+    output_bits: &[u64],
     locks: &[u8],
     node: u32,
     word: u32,
 ) -> u32
-    ensures { λ r. ⌜ r ≡ pairNumber (graphOf inputs nodes outputs (now («node_table» .entry)) (now («output_table» .entry))) (now (locks .entry)) node word ⌝ }
+    ensures { λ r.
+        let g = graphIn inputs nodes outputs (now («node_table» .entry)) (now («node_bits» .entry)) (now («output_table» .entry)) (now («output_bits» .entry)) in
+        ⌜ r ≡ pairNumber g (now (locks .entry)) node word ⌝ }
 {
     let number = node_number(
         inputs,
         nodes,
         outputs,
         node_table,
+        node_bits,
         output_table,
+        output_bits,
         locks,
         node,
     );
@@ -75,5 +87,5 @@ pub fn pair_number(
         return number;
     }
     let v = node - (inputs + 1);
-    word_fault(rows::is_xor(node_table, v as usize), word)
+    word_fault(rows::is_xor(node_table, node_bits, v as usize), word)
 }

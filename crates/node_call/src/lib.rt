@@ -1,13 +1,13 @@
 ghost use mathlib.Core.Path.{_≡_};
 ghost use Rattle.graph.specs.Answer.{outcome};
-ghost use Rattle.graph.specs.Graph.{graphOf};
+ghost use Rattle.graph.specs.Literals.{graphIn};
 ghost use Rattle.moves.specs.Call.{savingAnswer, nodeCall, pairCall};
 ghost use Rattle.moves.specs.Trial.{gainAnswer, trialCall};
 
 mod faults;
 mod rewrite;
 mod trying;
-mod write;
+pub mod write;
 
 use moves::Gain;
 use moves::Saving;
@@ -17,19 +17,26 @@ pub fn node_call(
     inputs: u32,
     nodes: u32,
     outputs: u32,
-    node_table: &mut [u32],
-    output_table: &mut [u32],
+    node_table: &[u32],
+    node_bits: &mut [u64],
+    output_table: &[u32],
+    output_bits: &mut [u64],
     locks: &[u8],
     node: u32,
 ) -> Saving
-    ensures { λ r. ⌜ outcome (savingAnswer r) (graphOf inputs nodes outputs (now («node_table» .exit)) (now («output_table» .exit))) ≡ nodeCall (graphOf inputs nodes outputs (now («node_table» .entry)) (now («output_table» .entry))) (now (locks .entry)) node ⌝ }
+    ensures { λ r.
+        let g = graphIn inputs nodes outputs (now («node_table» .entry)) (now («node_bits» .entry)) (now («output_table» .entry)) (now («output_bits» .entry)) in
+        let h = graphIn inputs nodes outputs (now («node_table» .entry)) (now («node_bits» .exit)) (now («output_table» .entry)) (now («output_bits» .exit)) in
+        ⌜ outcome (savingAnswer r) h ≡ nodeCall g (now (locks .entry)) node ⌝ }
 {
     let number = faults::node_number(
         inputs,
         nodes,
         outputs,
         node_table,
+        node_bits,
         output_table,
+        output_bits,
         locks,
         node,
     );
@@ -37,7 +44,17 @@ pub fn node_call(
         return Saving::Refused(graph::faults::refused_by(number));
     }
     let v = node - (inputs + 1);
-    rewrite::rewrite_node(inputs, nodes, outputs, node_table, output_table, locks, v)
+    rewrite::rewrite_node(
+        inputs,
+        nodes,
+        outputs,
+        node_table,
+        node_bits,
+        output_table,
+        output_bits,
+        locks,
+        v,
+    )
 }
 
 // The pair call: of all moves at the node that a word names and at the node itself, those with the least C, the lowest move at
@@ -46,20 +63,27 @@ pub fn pair_call(
     inputs: u32,
     nodes: u32,
     outputs: u32,
-    node_table: &mut [u32],
-    output_table: &mut [u32],
+    node_table: &[u32],
+    node_bits: &mut [u64],
+    output_table: &[u32],
+    output_bits: &mut [u64],
     locks: &[u8],
     node: u32,
     word: u32,
 ) -> Saving
-    ensures { λ r. ⌜ outcome (savingAnswer r) (graphOf inputs nodes outputs (now («node_table» .exit)) (now («output_table» .exit))) ≡ pairCall (graphOf inputs nodes outputs (now («node_table» .entry)) (now («output_table» .entry))) (now (locks .entry)) node word ⌝ }
+    ensures { λ r.
+        let g = graphIn inputs nodes outputs (now («node_table» .entry)) (now («node_bits» .entry)) (now («output_table» .entry)) (now («output_bits» .entry)) in
+        let h = graphIn inputs nodes outputs (now («node_table» .entry)) (now («node_bits» .exit)) (now («output_table» .entry)) (now («output_bits» .exit)) in
+        ⌜ outcome (savingAnswer r) h ≡ pairCall g (now (locks .entry)) node word ⌝ }
 {
     let number = faults::pair_number(
         inputs,
         nodes,
         outputs,
         node_table,
+        node_bits,
         output_table,
+        output_bits,
         locks,
         node,
         word,
@@ -72,7 +96,9 @@ pub fn pair_call(
         nodes,
         outputs,
         node_table,
+        node_bits,
         output_table,
+        output_bits,
         locks,
         node,
         word,
@@ -85,21 +111,27 @@ pub fn trial(
     nodes: u32,
     outputs: u32,
     node_table: &[u32],
+    node_bits: &[u64],
     output_table: &[u32],
+    output_bits: &[u64],
     locks: &[u8],
     node: u32,
     word: u32,
     named_move: u32,
     node_move: u32,
 ) -> Gain
-    ensures { λ r. ⌜ gainAnswer r ≡ trialCall (graphOf inputs nodes outputs (now («node_table» .entry)) (now («output_table» .entry))) (now (locks .entry)) node word «named_move» «node_move» ⌝ }
+    ensures { λ r.
+        let g = graphIn inputs nodes outputs (now («node_table» .entry)) (now («node_bits» .entry)) (now («output_table» .entry)) (now («output_bits» .entry)) in
+        ⌜ gainAnswer r ≡ trialCall g (now (locks .entry)) node word «named_move» «node_move» ⌝ }
 {
     let number = faults::pair_number(
         inputs,
         nodes,
         outputs,
         node_table,
+        node_bits,
         output_table,
+        output_bits,
         locks,
         node,
         word,
@@ -112,7 +144,9 @@ pub fn trial(
         nodes,
         outputs,
         node_table,
+        node_bits,
         output_table,
+        output_bits,
         locks,
         node,
         word,

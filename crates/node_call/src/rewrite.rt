@@ -1,11 +1,12 @@
-// A decision from numbers, then one sweep of each table.
+// A decision from numbers, then its moves written.
 ghost use mathlib.Core.Path.{_≡_};
 ghost use mathlib.Core.List.{List, [], _∷_};
 ghost use Prim.Native.Nat.{ℕ, _+_, _-_, _*_, _≤_, _<_};
-ghost use lib.ListN.{length};
+ghost use lib.ListN.{length, getD};
 ghost use Rattle.graph.specs.Admission.{Admitted};
 ghost use Rattle.graph.specs.Answer.{outcome};
-ghost use Rattle.graph.specs.Graph.{graphOf};
+ghost use Rattle.graph.specs.Graph.{graphOf, index};
+ghost use Rattle.graph.specs.Literals.{graphIn, held, literals};
 ghost use Rattle.moves.specs.Call.{savingAnswer, rewrite, pairNumber, namedBy, pairRewrite};
 use crate::write;
 use graph::table;
@@ -20,21 +21,47 @@ pub fn rewrite_node(
     inputs: u32,
     nodes: u32,
     outputs: u32,
-    node_table: &mut [u32],
-    output_table: &mut [u32],
+    node_table: &[u32],
+    node_bits: &mut [u64],
+    output_table: &[u32],
+    output_bits: &mut [u64],
     locks: &[u8],
     v: u32,
 ) -> Saving
-    requires { ⌜ Admitted (graphOf inputs nodes outputs (now «node_table») (now «output_table»)) × (v < nodes) × (nodes ≤ length (now locks)) ⌝ }
-    ensures { λ r. ⌜ outcome (savingAnswer r) (graphOf inputs nodes outputs (now («node_table» .exit)) (now («output_table» .exit))) ≡ rewrite (graphOf inputs nodes outputs (now («node_table» .entry)) (now («output_table» .entry))) (now (locks .entry)) ((inputs + 1 + v) ∷ []) ⌝ }
+    requires { let g = graphIn inputs nodes outputs (now «node_table») (now «node_bits») (now «output_table») (now «output_bits») in
+        ⌜ Admitted g × (v < nodes) × (nodes ≤ length (now locks)) ⌝ }
+    ensures { λ r.
+        let g = graphIn inputs nodes outputs (now («node_table» .entry)) (now («node_bits» .entry)) (now («output_table» .entry)) (now («output_bits» .entry)) in
+        let h = graphIn inputs nodes outputs (now («node_table» .entry)) (now («node_bits» .exit)) (now («output_table» .entry)) (now («output_bits» .exit)) in
+        ⌜ outcome (savingAnswer r) h ≡ rewrite g (now (locks .entry)) ((inputs + 1 + v) ∷ []) ⌝ }
 {
-    let n = reading::numbers_of(inputs, nodes, outputs, node_table, output_table, locks, v);
+    let n = reading::numbers_of(
+        inputs,
+        nodes,
+        outputs,
+        node_table,
+        node_bits,
+        output_table,
+        output_bits,
+        locks,
+        v,
+    );
     let z = n.costs;
     let m = decide::first_least(n.xor, n.moves, z, n.readers, n.odd);
     let before = decide::move_cost(n.xor, z, n.readers, n.odd, 0);
     let after = decide::move_cost(n.xor, z, n.readers, n.odd, m);
     let odds = gains::node_odds(n, m);
-    write::make_moves(inputs, nodes, outputs, node_table, output_table, v, m, v, m);
+    write::write_move(
+        inputs,
+        nodes,
+        outputs,
+        node_table,
+        node_bits,
+        output_table,
+        output_bits,
+        v,
+        m,
+    );
     gains::saved_by(before, after, odds)
 }
 
@@ -43,34 +70,76 @@ pub fn rewrite_pair(
     inputs: u32,
     nodes: u32,
     outputs: u32,
-    node_table: &mut [u32],
-    output_table: &mut [u32],
+    node_table: &[u32],
+    node_bits: &mut [u64],
+    output_table: &[u32],
+    output_bits: &mut [u64],
     locks: &[u8],
     p: u32,
     v: u32,
 ) -> Saving
-    requires { ⌜ Admitted (graphOf inputs nodes outputs (now «node_table») (now «output_table»)) × (p < v) × (v < nodes) × (nodes ≤ length (now locks)) ⌝ }
-    ensures { λ r. ⌜ outcome (savingAnswer r) (graphOf inputs nodes outputs (now («node_table» .exit)) (now («output_table» .exit))) ≡ rewrite (graphOf inputs nodes outputs (now («node_table» .entry)) (now («output_table» .entry))) (now (locks .entry)) ((inputs + 1 + p) ∷ (inputs + 1 + v) ∷ []) ⌝ }
+    requires { let g = graphIn inputs nodes outputs (now «node_table») (now «node_bits») (now «output_table») (now «output_bits») in
+        ⌜ Admitted g × (p < v) × (v < nodes) × (nodes ≤ length (now locks)) ⌝ }
+    ensures { λ r.
+        let g = graphIn inputs nodes outputs (now («node_table» .entry)) (now («node_bits» .entry)) (now («output_table» .entry)) (now («output_bits» .entry)) in
+        let h = graphIn inputs nodes outputs (now («node_table» .entry)) (now («node_bits» .exit)) (now («output_table» .entry)) (now («output_bits» .exit)) in
+        ⌜ outcome (savingAnswer r) h ≡ rewrite g (now (locks .entry)) ((inputs + 1 + p) ∷ (inputs + 1 + v) ∷ []) ⌝ }
 {
-    let named = reading::numbers_of(inputs, nodes, outputs, node_table, output_table, locks, p);
-    let node = reading::numbers_of(inputs, nodes, outputs, node_table, output_table, locks, v);
-    let which = words::which_name(node_table, v as usize, inputs + 1 + p);
+    let named = reading::numbers_of(
+        inputs,
+        nodes,
+        outputs,
+        node_table,
+        node_bits,
+        output_table,
+        output_bits,
+        locks,
+        p,
+    );
+    let node = reading::numbers_of(
+        inputs,
+        nodes,
+        outputs,
+        node_table,
+        node_bits,
+        output_table,
+        output_bits,
+        locks,
+        v,
+    );
+    let which = words::which_name(node_table, node_bits, v as usize, inputs + 1 + p);
     let best = decide::best_pair(named, node, which);
     let k = best.named;
     let m = best.node;
     let odds = gains::pair_odds(named, node, which, k, m);
-    write::make_moves(inputs, nodes, outputs, node_table, output_table, p, k, v, m);
+    write::write_pair(
+        inputs,
+        nodes,
+        outputs,
+        node_table,
+        node_bits,
+        output_table,
+        output_bits,
+        p,
+        k,
+        v,
+        m,
+    );
     gains::saved_by(best.saving, 0, odds)
 }
 
 // The index that a word of a node names.
-pub fn named_by(inputs: u32, node_table: &[u32], node: u32, word: u32) -> u32
-    requires { ⌜ (inputs < node) × (node ≤ 200000) × (1 ≤ word) × (word ≤ 3) × (3 * (node - (inputs + 1)) + (word - 1) < length (now «node_table»)) ⌝ }
-    ensures { λ r. ⌜ ((n o : ℕ) (os : List ℕ) → r ≡ namedBy (graphOf inputs n o (now («node_table» .entry)) os) node word) ⌝ }
+pub fn named_by(inputs: u32, node_table: &[u32], node_bits: &[u64], node: u32, word: u32) -> u32
+    requires { let l = literals (now «node_table») (now «node_bits») in
+        let j = 3 * (node - (inputs + 1)) + (word - 1) in
+        ⌜ (inputs < node) × (node ≤ 200000) × (1 ≤ word) × (word ≤ 3) × (j < held l) × (index (getD l j 0) < 2147483647) ⌝ }
+    ensures { λ r.
+        let l = literals (now («node_table» .entry)) (now («node_bits» .entry)) in
+        ⌜ ((n o : ℕ) (os : List ℕ) → r ≡ namedBy (graphOf inputs n o l os) node word) ⌝ }
 {
     let v = node - (inputs + 1);
     let at = 3 * v as usize + (word - 1) as usize;
-    table::index_at(node_table, at)
+    table::index_at(node_table, node_bits, at)
 }
 
 // The best moves of a node and of the node that one of its words names, if it names one; what they save.
@@ -78,16 +147,22 @@ pub fn rewrite_named(
     inputs: u32,
     nodes: u32,
     outputs: u32,
-    node_table: &mut [u32],
-    output_table: &mut [u32],
+    node_table: &[u32],
+    node_bits: &mut [u64],
+    output_table: &[u32],
+    output_bits: &mut [u64],
     locks: &[u8],
     node: u32,
     word: u32,
 ) -> Saving
-    requires { ⌜ pairNumber (graphOf inputs nodes outputs (now «node_table») (now «output_table»)) (now locks) node word ≡ 0 ⌝ }
-    ensures { λ r. ⌜ outcome (savingAnswer r) (graphOf inputs nodes outputs (now («node_table» .exit)) (now («output_table» .exit))) ≡ pairRewrite (graphOf inputs nodes outputs (now («node_table» .entry)) (now («output_table» .entry))) (now (locks .entry)) node word ⌝ }
+    requires { let g = graphIn inputs nodes outputs (now «node_table») (now «node_bits») (now «output_table») (now «output_bits») in
+        ⌜ pairNumber g (now locks) node word ≡ 0 ⌝ }
+    ensures { λ r.
+        let g = graphIn inputs nodes outputs (now («node_table» .entry)) (now («node_bits» .entry)) (now («output_table» .entry)) (now («output_bits» .entry)) in
+        let h = graphIn inputs nodes outputs (now («node_table» .entry)) (now («node_bits» .exit)) (now («output_table» .entry)) (now («output_bits» .exit)) in
+        ⌜ outcome (savingAnswer r) h ≡ pairRewrite g (now (locks .entry)) node word ⌝ }
 {
-    let named = named_by(inputs, node_table, node, word);
+    let named = named_by(inputs, node_table, node_bits, node, word);
     if named <= inputs {
         return Saving::Saved { own: 0, others: 0 };
     }
@@ -98,7 +173,9 @@ pub fn rewrite_named(
         nodes,
         outputs,
         node_table,
+        node_bits,
         output_table,
+        output_bits,
         locks,
         p,
         v,

@@ -6,7 +6,7 @@ ghost use lib.ListN.{length};
 ghost use Rattle.graph.specs.Admission.{Admitted};
 ghost use Rattle.graph.specs.Count.{C};
 ghost use Rattle.graph.specs.Difference.{difference};
-ghost use Rattle.graph.specs.Graph.{graphOf};
+ghost use Rattle.graph.specs.Literals.{graphIn};
 ghost use Rattle.moves.specs.Call.{movedC, pairNumber};
 ghost use Rattle.moves.specs.Trial.{moveHad, trialSaving};
 use crate::rewrite;
@@ -21,19 +21,44 @@ pub fn pair_saving(
     nodes: u32,
     outputs: u32,
     node_table: &[u32],
+    node_bits: &[u64],
     output_table: &[u32],
+    output_bits: &[u64],
     locks: &[u8],
     p: u32,
     v: u32,
     a: u32,
     k: u32,
 ) -> i64
-    requires { ⌜ Admitted (graphOf inputs nodes outputs (now «node_table») (now «output_table»)) × (p < v) × (v < nodes) × (nodes ≤ length (now locks)) ⌝ }
-    ensures { λ r. ⌜ r ≡ difference (C (graphOf inputs nodes outputs (now («node_table» .entry)) (now («output_table» .entry)))) (movedC (graphOf inputs nodes outputs (now («node_table» .entry)) (now («output_table» .entry))) ((inputs + 1 + p) ∷ (inputs + 1 + v) ∷ []) (moveHad (graphOf inputs nodes outputs (now («node_table» .entry)) (now («output_table» .entry))) (now (locks .entry)) (inputs + 1 + p) a ∷ moveHad (graphOf inputs nodes outputs (now («node_table» .entry)) (now («output_table» .entry))) (now (locks .entry)) (inputs + 1 + v) k ∷ [])) ⌝ }
+    requires { let g = graphIn inputs nodes outputs (now «node_table») (now «node_bits») (now «output_table») (now «output_bits») in
+        ⌜ Admitted g × (p < v) × (v < nodes) × (nodes ≤ length (now locks)) ⌝ }
+    ensures { λ r.
+        let g = graphIn inputs nodes outputs (now («node_table» .entry)) (now («node_bits» .entry)) (now («output_table» .entry)) (now («output_bits» .entry)) in
+        ⌜ r ≡ difference (C g) (movedC g ((inputs + 1 + p) ∷ (inputs + 1 + v) ∷ []) (moveHad g (now (locks .entry)) (inputs + 1 + p) a ∷ moveHad g (now (locks .entry)) (inputs + 1 + v) k ∷ [])) ⌝ }
 {
-    let named = reading::numbers_of(inputs, nodes, outputs, node_table, output_table, locks, p);
-    let node = reading::numbers_of(inputs, nodes, outputs, node_table, output_table, locks, v);
-    let which = words::which_name(node_table, v as usize, inputs + 1 + p);
+    let named = reading::numbers_of(
+        inputs,
+        nodes,
+        outputs,
+        node_table,
+        node_bits,
+        output_table,
+        output_bits,
+        locks,
+        p,
+    );
+    let node = reading::numbers_of(
+        inputs,
+        nodes,
+        outputs,
+        node_table,
+        node_bits,
+        output_table,
+        output_bits,
+        locks,
+        v,
+    );
+    let which = words::which_name(node_table, node_bits, v as usize, inputs + 1 + p);
     let first = rows::had(named.moves, a);
     let second = rows::had(node.moves, k);
     decide::pair_saving(named, node, which, first, second)
@@ -45,17 +70,22 @@ pub fn named_saving(
     nodes: u32,
     outputs: u32,
     node_table: &[u32],
+    node_bits: &[u64],
     output_table: &[u32],
+    output_bits: &[u64],
     locks: &[u8],
     node: u32,
     word: u32,
     a: u32,
     k: u32,
 ) -> i64
-    requires { ⌜ pairNumber (graphOf inputs nodes outputs (now «node_table») (now «output_table»)) (now locks) node word ≡ 0 ⌝ }
-    ensures { λ r. ⌜ r ≡ trialSaving (graphOf inputs nodes outputs (now («node_table» .entry)) (now («output_table» .entry))) (now (locks .entry)) node word a k ⌝ }
+    requires { let g = graphIn inputs nodes outputs (now «node_table») (now «node_bits») (now «output_table») (now «output_bits») in
+        ⌜ pairNumber g (now locks) node word ≡ 0 ⌝ }
+    ensures { λ r.
+        let g = graphIn inputs nodes outputs (now («node_table» .entry)) (now («node_bits» .entry)) (now («output_table» .entry)) (now («output_bits» .entry)) in
+        ⌜ r ≡ trialSaving g (now (locks .entry)) node word a k ⌝ }
 {
-    let named = rewrite::named_by(inputs, node_table, node, word);
+    let named = rewrite::named_by(inputs, node_table, node_bits, node, word);
     if named <= inputs {
         return 0;
     }
@@ -66,7 +96,9 @@ pub fn named_saving(
         nodes,
         outputs,
         node_table,
+        node_bits,
         output_table,
+        output_bits,
         locks,
         p,
         v,

@@ -1,131 +1,131 @@
-// A choice of two moves, written into both tables in one sweep of each.
+// A move written into both tables: the node's own words by their places, then a sweep for its readers by indices alone.
 ghost use mathlib.Core.Path.{_≡_};
+ghost use mathlib.Core.Logic.{_≢_};
 ghost use Prim.Native.Nat.{_+_, _*_, _≤_, _<_};
-ghost use lib.ListN.{length};
+ghost use lib.Dec.{eqb};
+ghost use lib.ListN.{getD};
 ghost use Rattle.graph.specs.Admission.{Admitted};
-ghost use Rattle.graph.specs.Graph.{graphOf, node};
-ghost use Rattle.graph.specs.Turned.{Low};
+ghost use Rattle.graph.specs.Graph.{mark};
+ghost use Rattle.graph.specs.Inner.{Readable};
+ghost use Rattle.graph.specs.Literals.{graphIn, held, literals};
+ghost use Rattle.graph.specs.Turned.{turnedTable, only};
 ghost use Rattle.moves.specs.Apply.{none, at, apply};
 ghost use Rattle.moves.specs.Rows.{arity, kindMoves};
-ghost use Rattle.node_call.specs.Write.{moveWith, Bits, flagAt, wordTurns, readTurns, nodesAfter, outputsAfter};
-use graph::literal;
+ghost use Rattle.node_call.specs.Write.{ownTurns, readTurns, readersAfter};
 use graph::table;
 use moves::rows;
 
-// A node's index, and what its move turns: words 1 to 3, and every reader.
-pub struct NodeMove {
-    pub node: u32,
-    pub flags: [u32; 4],
+// Turns the words of node v as move m of its kind says.
+pub fn turn_own(node_table: &[u32], node_bits: &mut [u64], v: usize, xor: bool, m: u32)
+    requires { let l = literals (now «node_table») (now «node_bits») in
+        ⌜ Readable l v × (m < arity xor) × (xor ≡ eqb (getD l (3 * v + 2) 0) mark) ⌝ }
+    ensures { λ _.
+        let l = literals (now («node_table» .entry)) (now («node_bits» .entry)) in
+        ⌜ literals (now («node_table» .entry)) (now («node_bits» .exit)) ≡ turnedTable l (ownTurns v xor m) ⌝ }
+{
+    let at = 3 * v;
+    table::turn_word(node_table, node_bits, at, rows::flag_of(xor, m, 0));
+    table::turn_word(node_table, node_bits, at + 1, rows::flag_of(xor, m, 1));
+    table::turn_word(node_table, node_bits, at + 2, rows::flag_of(xor, m, 2));
 }
 
-pub fn move_with(xor: bool, u: u32, m: u32) -> NodeMove
-    requires { ⌜ m < arity xor ⌝ }
-    ensures { λ r. ⌜ r ≡ moveWith xor u m ⌝ }
+// Turns the word at place j t times where it names index u.
+fn turn_reader(table: &[u32], bits: &mut [u64], j: usize, u: u32, t: u32)
+    requires { ⌜ (j < held (literals (now table) (now bits))) × (u < 2147483647) × (t ≤ 2) ⌝ }
+    ensures { λ _.
+        let l = literals (now (table .entry)) (now (bits .entry)) in
+        ⌜ literals (now (table .entry)) (now (bits .exit)) ≡ turnedTable l (only j (readTurns u t j (getD l j 0))) ⌝ }
 {
-    NodeMove {
-        node: u,
-        flags: [
-            rows::flag_of(xor, m, 0),
-            rows::flag_of(xor, m, 1),
-            rows::flag_of(xor, m, 2),
-            rows::flag_of(xor, m, 3),
-        ],
+    if table::index_at(table, bits, j) == u {
+        table::turn_word(table, bits, j, t);
     }
 }
 
-// Flag k of the later of two moves at index u.
-pub fn flag_at(a: NodeMove, b: NodeMove, u: u32, k: usize) -> u32
-    requires { ⌜ Bits a × Bits b × (k < 4) ⌝ }
-    ensures { λ r. ⌜ (r ≡ flagAt a b u k) × (r ≤ 1) ⌝ }
+// The same of the first n places.
+pub fn turn_readers(table: &[u32], bits: &mut [u64], n: usize, u: u32, t: u32)
+    requires { ⌜ (n ≤ held (literals (now table) (now bits))) × (u < 2147483647) × (t ≤ 2) ⌝ }
+    ensures { λ _.
+        let l = literals (now (table .entry)) (now (bits .entry)) in
+        ⌜ literals (now (table .entry)) (now (bits .exit)) ≡ readersAfter n u t l ⌝ }
 {
-    if u == b.node {
-        let flags = b.flags;
-        return flags[k];
-    }
-    if u == a.node {
-        let flags = a.flags;
-        return flags[k];
-    }
-    0
-}
-
-// How often the word x at place j of the node table is turned.
-pub fn word_turns(inputs: u32, a: NodeMove, b: NodeMove, j: usize, x: u32) -> u32
-    requires { ⌜ Bits a × Bits b × (inputs ≤ 4096) × (j < 300000) ⌝ }
-    ensures { λ r. ⌜ (r ≡ wordTurns inputs a b j x) × (r ≤ 2) ⌝ }
-{
-    if literal::is_edge(j, x) {
-        let own = flag_at(a, b, inputs + 1 + (j / 3) as u32, j % 3);
-        let read = flag_at(a, b, literal::index_of(x), 3);
-        return own + read;
-    }
-    0
-}
-
-pub fn write_nodes(inputs: u32, nodes: u32, node_table: &mut [u32], a: NodeMove, b: NodeMove)
-    requires { ⌜ Bits a × Bits b × (inputs ≤ 4096) × (nodes ≤ 100000) × (3 * nodes ≤ length (now «node_table»)) × Low (wordTurns inputs a b) (3 * nodes) (now «node_table») ⌝ }
-    ensures { λ _. ⌜ now («node_table» .exit) ≡ nodesAfter inputs nodes a b (now («node_table» .entry)) ⌝ }
-{
-    let end = 3 * nodes as usize;
-    let mut j: usize = 0;
-    while j < end {
-        let t = word_turns(inputs, a, b, j, table::word_at(node_table, j));
-        table::turn_word(node_table, j, t);
-        j += 1;
-    }
-}
-
-pub fn write_outputs(outputs: u32, output_table: &mut [u32], a: NodeMove, b: NodeMove)
-    requires { ⌜ Bits a × Bits b × (outputs ≤ length (now «output_table»)) × Low (readTurns a b) outputs (now «output_table») ⌝ }
-    ensures { λ _. ⌜ now («output_table» .exit) ≡ outputsAfter outputs a b (now («output_table» .entry)) ⌝ }
-{
-    let end = outputs as usize;
-    let mut j: usize = 0;
-    while j < end {
-        let t = flag_at(a, b, table::index_at(output_table, j), 3);
-        table::turn_word(output_table, j, t);
-        j += 1;
-    }
-}
-
-// Move k at node p and then move m at node v, counted from 0, made at once.
-pub fn write_moves(
-    inputs: u32,
-    nodes: u32,
-    outputs: u32,
-    node_table: &mut [u32],
-    output_table: &mut [u32],
-    p: u32,
-    k: u32,
-    v: u32,
-    m: u32,
-)
-    requires { ⌜ Admitted (graphOf inputs nodes outputs (now «node_table») (now «output_table»)) × (p < nodes) × (v < nodes) × (k < kindMoves (graphOf inputs nodes outputs (now «node_table») (now «output_table»)) (inputs + 1 + p)) × (m < kindMoves (graphOf inputs nodes outputs (now «node_table») (now «output_table»)) (inputs + 1 + v)) ⌝ }
-    ensures { λ _. ⌜ graphOf inputs nodes outputs (now («node_table» .exit)) (now («output_table» .exit)) ≡ apply (graphOf inputs nodes outputs (now («node_table» .entry)) (now («output_table» .entry))) (at (at none (inputs + 1 + p) k) (inputs + 1 + v) m) ⌝ }
-{
-    let a = move_with(rows::is_xor(node_table, p as usize), inputs + 1 + p, k);
-    let b = move_with(rows::is_xor(node_table, v as usize), inputs + 1 + v, m);
-    write_nodes(inputs, nodes, node_table, a, b);
-    write_outputs(outputs, output_table, a, b);
-}
-
-// The same, with no sweep where neither move turns a word.
-pub fn make_moves(
-    inputs: u32,
-    nodes: u32,
-    outputs: u32,
-    node_table: &mut [u32],
-    output_table: &mut [u32],
-    p: u32,
-    k: u32,
-    v: u32,
-    m: u32,
-)
-    requires { ⌜ Admitted (graphOf inputs nodes outputs (now «node_table») (now «output_table»)) × (p < nodes) × (v < nodes) × (k < kindMoves (graphOf inputs nodes outputs (now «node_table») (now «output_table»)) (inputs + 1 + p)) × (m < kindMoves (graphOf inputs nodes outputs (now «node_table») (now «output_table»)) (inputs + 1 + v)) ⌝ }
-    ensures { λ _. ⌜ graphOf inputs nodes outputs (now («node_table» .exit)) (now («output_table» .exit)) ≡ apply (graphOf inputs nodes outputs (now («node_table» .entry)) (now («output_table» .entry))) (at (at none (inputs + 1 + p) k) (inputs + 1 + v) m) ⌝ }
-{
-    if k + m == 0 {
+    if t == 0 {
         return;
     }
-    write_moves(inputs, nodes, outputs, node_table, output_table, p, k, v, m);
+    let mut j: usize = 0;
+    while j < n {
+        turn_reader(table, bits, j, u, t);
+        j += 1;
+    }
+}
+
+// Move m at node v, counted from 0.
+pub fn write_move(
+    inputs: u32,
+    nodes: u32,
+    outputs: u32,
+    node_table: &[u32],
+    node_bits: &mut [u64],
+    output_table: &[u32],
+    output_bits: &mut [u64],
+    v: u32,
+    m: u32,
+)
+    requires { let g = graphIn inputs nodes outputs (now «node_table») (now «node_bits») (now «output_table») (now «output_bits») in
+        ⌜ Admitted g × (v < nodes) × (m < kindMoves g (inputs + 1 + v)) ⌝ }
+    ensures { λ _.
+        let g = graphIn inputs nodes outputs (now («node_table» .entry)) (now («node_bits» .entry)) (now («output_table» .entry)) (now («output_bits» .entry)) in
+        let h = graphIn inputs nodes outputs (now («node_table» .entry)) (now («node_bits» .exit)) (now («output_table» .entry)) (now («output_bits» .exit)) in
+        ⌜ h ≡ apply g (at none (inputs + 1 + v) m) ⌝ }
+{
+    let xor = rows::is_xor(node_table, node_bits, v as usize);
+    let u = inputs + 1 + v;
+    let t = rows::flag_of(xor, m, 3);
+    turn_own(node_table, node_bits, v as usize, xor, m);
+    turn_readers(node_table, node_bits, 3 * nodes as usize, u, t);
+    turn_readers(output_table, output_bits, outputs as usize, u, t);
+}
+
+// Move k at node p and then move m at node v, another one.
+pub fn write_pair(
+    inputs: u32,
+    nodes: u32,
+    outputs: u32,
+    node_table: &[u32],
+    node_bits: &mut [u64],
+    output_table: &[u32],
+    output_bits: &mut [u64],
+    p: u32,
+    k: u32,
+    v: u32,
+    m: u32,
+)
+    requires { let g = graphIn inputs nodes outputs (now «node_table») (now «node_bits») (now «output_table») (now «output_bits») in
+        ⌜ Admitted g × (p < nodes) × (v < nodes) × (p ≢ v) × (k < kindMoves g (inputs + 1 + p)) × (m < kindMoves g (inputs + 1 + v)) ⌝ }
+    ensures { λ _.
+        let g = graphIn inputs nodes outputs (now («node_table» .entry)) (now («node_bits» .entry)) (now («output_table» .entry)) (now («output_bits» .entry)) in
+        let h = graphIn inputs nodes outputs (now («node_table» .entry)) (now («node_bits» .exit)) (now («output_table» .entry)) (now («output_bits» .exit)) in
+        ⌜ h ≡ apply g (at (at none (inputs + 1 + p) k) (inputs + 1 + v) m) ⌝ }
+{
+    write_move(
+        inputs,
+        nodes,
+        outputs,
+        node_table,
+        node_bits,
+        output_table,
+        output_bits,
+        p,
+        k,
+    );
+    write_move(
+        inputs,
+        nodes,
+        outputs,
+        node_table,
+        node_bits,
+        output_table,
+        output_bits,
+        v,
+        m,
+    );
 }

@@ -8,15 +8,16 @@ use Rattle.graph.proofs.Difference.{read-as}
 use Rattle.moves.specs.Call.{pairNumber}
 use Rattle.moves.specs.Trial.{trialCall, trialSaving}
 use Rattle.node_call.proofs.Refusing.{pair-range}
+use Rattle.graph.specs.Literals.{literals}
 use Rattle.node_call.proofs.trial.Statement.{statement}
 use Rattle.node_call.proofs.trial.Tie as tie
 
 abbrev graph : tie.Start → Graph
-graph s = let a = s .args in graphOf (a .inputs) (a .nodes) (a .outputs) (a .node-table .now) (a .output-table .now)
+graph s = let a = s .args in graphOf (a .inputs) (a .nodes) (a .outputs) (literals (a .node-table .now) (a .node-bits .now)) (literals (a .output-table .now) (a .output-bits .now))
 
 refused-by-requires : tie.Need-refused-by-requires
 refused-by-requires c κs =
-    let s = c .before .before .before .before .before in
+    let s = c .before .before .before .before .before .before .before in
     pair-range (graph s) (s .args .locks .now) (s .args .node) (s .args .word) _ (c .before .pair-number .ensures) (c .if1 .taken)
 
 returns : tie.Need-returns
@@ -33,7 +34,7 @@ returns-2 : tie.Need-returns-2
 unfolding trialCall
 returns-2 c =
     let n = c .before .before in
-    let s = n .before .before .before .before in
+    let s = n .before .before .before .before .before .before in
     let a = s .args in
     ap whole (read-as _ (c .named-saving .ok) ∙ c .named-saving .ensures)
     ∙ accepted-is (pairNumber (graph s) (s .args .locks .now) (a .node) (a .word)) (whole (trialSaving (graph s) (s .args .locks .now) (a .node) (a .word) (a .named-move) (a .node-move))) (sym (n .pair-number .ensures) ∙ c .before .if1 .left)
