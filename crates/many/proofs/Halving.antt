@@ -127,6 +127,32 @@ module _ (us : List ℕ) (u : ℕ) where
       rw (← k) (between-one low low (omega arith) (lower-half r low (low + size) low b (omega arith) (omega arith) q)))
       (lt-or-le (getD us low 0) u)
 
+-- the place of the next index
+module _ (us : List ℕ) (u k : ℕ) (s : Stands us u k) where
+  pub stands-next : Rises us → k < length us → getD us k 0 ≡ u → Stands us (u + 1) (k + 1)
+  stands-next r h e =
+      record {
+        within = omega arith;
+        before = λ i l.
+            ⊎-elim
+            (λ (q : i < k). omega (arith, s .before i q))
+            (λ (q : k ≤ i). let z : i ≡ k = omega arith in rw z (omega (arith, e)))
+            (lt-or-le i k);
+        after = λ i l q. omega (arith, r k i (omega arith) q, e);
+      }
+
+  pub stands-still : Rises us → (k < length us → getD us k 0 ≢ u) → Stands us (u + 1) k
+  stands-still r n =
+      record {
+        within = s .within;
+        before = λ i l. omega (arith, s .before i l);
+        after = λ i l q.
+            ⊎-elim
+            (λ (e : k ≡ i). let z : getD us k 0 ≢ u = n (omega arith) in rw (← e) (omega (arith, s .after k (omega arith) (omega arith))))
+            (λ (p : k < i). omega (arith, r k i p q, s .after k (omega arith) (omega arith)))
+            (eq-or-lt-of-le l);
+      }
+
 -- the move that a list gives
 pub put-out : (us ms : List ℕ) (d : Choice) (u : ℕ) → ((j : ℕ) → j < length us → getD us j 0 ≢ u) → put d us ms u ≡ d u
 unfolding put

@@ -9,13 +9,15 @@ use native.Mathlib.Omega.{arith}
 use lib.ListN.{length, getD}
 use Rattle.graph.specs.Admission.{Admitted}
 use Rattle.graph.specs.Graph.{Graph, graphOf, node, output, index, isEdge, isXor}
+use Rattle.graph.specs.Finite.{sum}
+use Rattle.graph.specs.Literals.{held, strays}
 use Rattle.graph.specs.Turned.{turnedTable, never, only, upTo}
 use Rattle.graph.proofs.Alike.{Alike, alike-xor, alike-admitted}
 use Rattle.graph.proofs.Cases.{eq-or-ne, lt-or-le}
-use Rattle.graph.proofs.Turned.{Sparing, turned-both, turned-length, turned-same, turned-never, turned-more, turned-left, turned-start, upTo-in, upTo-past, upTo-zero, only-zero, only-sparing, by-alike}
+use Rattle.graph.proofs.Turned.{Sparing, turned-both, turned-length, turned-held, turned-same, turned-never, turned-more, turned-left, turned-start, upTo-in, upTo-past, upTo-zero, only-zero, only-sparing, by-alike}
 use Rattle.moves.specs.Apply.{Choice, none, at, put, own, seen, turns, outputTurns, apply}
 use Rattle.moves.specs.Call.{moved}
-use Rattle.moves.specs.Rows.{flag, arity, kindMoves}
+use Rattle.moves.specs.Rows.{arity, kindMoves}
 use Rattle.moves.proofs.Apply.{admitted, turns-past, turns-mark, outputTurns-past, outputTurns-at}
 use Rattle.moves.proofs.Changed.{at-same, at-other}
 use Rattle.moves.proofs.Compose.{alike-turns, alike-outputTurns}
@@ -70,6 +72,10 @@ bare-turns : (i n o : ℕ) (ns os : List ℕ) (m : Choice) (j : ℕ) → turns (
 unfolding turns own seen isXor isEdge
 bare-turns i n o ns os m j = refl
 
+no-strays : (l : List ℕ) → strays 0 l ≡ 0
+unfolding strays sum
+no-strays l = refl
+
 bare-admitted : (i n o : ℕ) (ns os : List ℕ) → Admitted (graphOf i n o ns os) → Admitted (bare i n ns)
 unfolding isEdge
 bare-admitted i n o ns os a =
@@ -79,6 +85,10 @@ bare-admitted i n o ns os a =
       few-outputs = omega arith;
       long-nodes = a .long-nodes;
       long-outputs = omega arith;
+      held-nodes = a .held-nodes;
+      held-outputs = omega arith;
+      clean-nodes = a .clean-nodes;
+      clean-outputs = no-strays [];
       below = a .below;
       output-below = λ j h. absurd (omega arith);
     }
@@ -153,14 +163,21 @@ module _ (g : Graph) (m : Choice) where
     unfolding outputsTo
     out-length = ap length e ∙ turned-length (g .outputs) _
 
+    pub out-held : held k ≡ held (g .outputs)
+    unfolding outputsTo
+    out-held = ap held e ∙ turned-held (g .outputs) _
+
     module _ (h : j < g .O) where
       pub out-left : getD k j 0 ≡ output g j
       unfolding outputsTo
       out-left = turned-left (g .outputs) (outputTurns g m) j k e (omega (arith, adm .long-outputs))
 
       -- what turning output j asks
-      pub out-asks : (t : ℕ) → t ≤ 1 → (t ≤ 2) × (j < length k) × ((0 < t) → index (getD k j 0) < 2147483647)
-      out-asks t b = (omega arith, omega (arith, out-length, adm .long-outputs), (λ p. omega (arith, out-left, adm .output-below j h, adm .few-inputs, adm .few-nodes)))
+      pub out-low : index (getD k j 0) < 2147483647
+      out-low = omega (arith, out-left, adm .output-below j h, adm .few-inputs, adm .few-nodes)
+
+      pub out-asks : (t : ℕ) → t ≤ 1 → (t ≤ 2) × (j < held k) × ((0 < t) → index (getD k j 0) < 2147483647)
+      out-asks t b = (omega arith, omega (arith, out-held, adm .held-outputs), (λ p. out-low))
 
       -- one output further, by the index that it names
       pub out-next : (u t : ℕ) (k′ : List ℕ) → u ≡ index (getD k j 0) → t ≡ seen g m u → k′ ≡ turnedTable k (only j t) → k′ ≡ outputsTo g m (j + 1)

@@ -1,9 +1,10 @@
 -- Moves looked up in a rising list and made word by word, in one sweep of each table: what the inner functions ask of each other, and
 -- no promise to a caller.
 use mathlib.Core.List.{List, []}
-use Prim.Native.Nat.{ℕ, _*_, _≤_, _<_}
+use Prim.Native.Nat.{ℕ, _≤_, _<_}
 use lib.ListN.{length, getD}
 use Rattle.graph.specs.Graph.{Graph, graphOf}
+use Rattle.graph.specs.Inner.{Readable}
 use Rattle.graph.specs.Admission.{Admitted}
 use Rattle.graph.specs.Turned.{turnedTable, upTo}
 use Rattle.moves.specs.Rows.{kindMoves}
@@ -37,7 +38,7 @@ bare i n ns = graphOf i n 0 ns []
 pub record Rooms (i n : ℕ) (ns ls : List ℕ) : Type 0 where
   pub few-inputs : i ≤ 4096
   pub few-nodes : n ≤ 100000
-  pub long-nodes : 3 * n ≤ length ns
+  pub words : (v : ℕ) → v < n → Readable ns v
   pub enough-locks : n ≤ length ls
 
 -- a node table on which it can be made

@@ -5,12 +5,13 @@ ghost use Prim.Native.Nat.{ℕ, _≤_, _<_};
 ghost use lib.ListN.{length};
 ghost use Rattle.graph.specs.Finite.{ifLess, ifEqual};
 ghost use Rattle.graph.specs.Graph.{graphOf};
+ghost use Rattle.graph.specs.Literals.{graphIn, literals};
 ghost use Rattle.moves.specs.Rows.{arity};
 ghost use Rattle.many.specs.Many.{risingFault, entryNumber, listNumber, manyNumber};
 ghost use Rattle.many.specs.Making.{Rooms};
 use graph::faults::content_number;
 use graph::faults::first_fault;
-use graph::faults::room_number;
+use graph::faults::tables_number;
 use graph::table::byte_at;
 use moves::faults::node_fault;
 use moves::rows;
@@ -62,13 +63,17 @@ pub fn entry_number(
     inputs: u32,
     nodes: u32,
     node_table: &[u32],
+    node_bits: &[u64],
     locks: &[u8],
     list: &[u32],
     bytes: &[u8],
     j: usize,
 ) -> u32
-    requires { ⌜ Rooms inputs nodes (now «node_table») (now locks) × (j < length (now list)) × (length (now list) ≤ length (now bytes)) ⌝ }
-    ensures { λ r. ⌜ ((o : ℕ) (os : List ℕ) → r ≡ entryNumber (graphOf inputs nodes o (now («node_table» .entry)) os) (now (locks .entry)) (now (list .entry)) (now (bytes .entry)) j) ⌝ }
+    requires { let l = literals (now «node_table») (now «node_bits») in
+        ⌜ Rooms inputs nodes l (now locks) × (j < length (now list)) × (length (now list) ≤ length (now bytes)) ⌝ }
+    ensures { λ r.
+        let l = literals (now («node_table» .entry)) (now («node_bits» .entry)) in
+        ⌜ ((o : ℕ) (os : List ℕ) → r ≡ entryNumber (graphOf inputs nodes o l os) (now (locks .entry)) (now (list .entry)) (now (bytes .entry)) j) ⌝ }
 {
     let u = list[j];
     let place = first_fault(node_fault(inputs, nodes, u), rising_fault(list, j));
@@ -78,7 +83,7 @@ pub fn entry_number(
     let m = byte_at(bytes, j);
     let v = (u - (inputs + 1)) as usize;
     first_fault(
-        move_fault(rows::is_xor(node_table, v), m),
+        move_fault(rows::is_xor(node_table, node_bits, v), m),
         locked_fault(locks[v], m),
     )
 }
@@ -87,16 +92,20 @@ pub fn list_number(
     inputs: u32,
     nodes: u32,
     node_table: &[u32],
+    node_bits: &[u64],
     locks: &[u8],
     list: &[u32],
     bytes: &[u8],
 ) -> u32
-    requires { ⌜ Rooms inputs nodes (now «node_table») (now locks) × (length (now list) ≤ length (now bytes)) ⌝ }
-    ensures { λ r. ⌜ ((o : ℕ) (os : List ℕ) → r ≡ listNumber (graphOf inputs nodes o (now («node_table» .entry)) os) (now (locks .entry)) (now (list .entry)) (now (bytes .entry))) ⌝ }
+    requires { let l = literals (now «node_table») (now «node_bits») in
+        ⌜ Rooms inputs nodes l (now locks) × (length (now list) ≤ length (now bytes)) ⌝ }
+    ensures { λ r.
+        let l = literals (now («node_table» .entry)) (now («node_bits» .entry)) in
+        ⌜ ((o : ℕ) (os : List ℕ) → r ≡ listNumber (graphOf inputs nodes o l os) (now (locks .entry)) (now (list .entry)) (now (bytes .entry))) ⌝ }
 {
     let mut j: usize = 0;
     while j < list.len() {
-        let fault = entry_number(inputs, nodes, node_table, locks, list, bytes, j);
+        let fault = entry_number(inputs, nodes, node_table, node_bits, locks, list, bytes, j);
         if fault != 0 {
             return fault;
         }
@@ -110,20 +119,26 @@ pub fn many_number(
     nodes: u32,
     outputs: u32,
     node_table: &[u32],
+    node_bits: &[u64],
     output_table: &[u32],
+    output_bits: &[u64],
     locks: &[u8],
     list: &[u32],
     bytes: &[u8],
 ) -> u32
-    ensures { λ r. ⌜ r ≡ manyNumber (graphOf inputs nodes outputs (now («node_table» .entry)) (now («output_table» .entry))) (now (locks .entry)) (now (list .entry)) (now (bytes .entry)) ⌝ }
+    ensures { λ r.
+        let g = graphIn inputs nodes outputs (now («node_table» .entry)) (now («node_bits» .entry)) (now («output_table» .entry)) (now («output_bits» .entry)) in
+        ⌜ r ≡ manyNumber g (now (locks .entry)) (now (list .entry)) (now (bytes .entry)) ⌝ }
 {
-    let room = room_number(
+    let room = tables_number(
         inputs,
         nodes,
         outputs,
-        node_table.len(),
-        output_table.len(),
-        locks.len(),
+        node_table,
+        node_bits,
+        output_table,
+        output_bits,
+        locks,
     );
     if room != 0 {
         return room;
@@ -131,9 +146,18 @@ pub fn many_number(
     if bytes.len() < list.len() {
         return 4;
     }
-    let content = content_number(inputs, nodes, outputs, node_table, output_table, locks);
+    let content = content_number(
+        inputs,
+        nodes,
+        outputs,
+        node_table,
+        node_bits,
+        output_table,
+        output_bits,
+        locks,
+    );
     if content != 0 {
         return content;
     }
-    list_number(inputs, nodes, node_table, locks, list, bytes)
+    list_number(inputs, nodes, node_table, node_bits, locks, list, bytes)
 }

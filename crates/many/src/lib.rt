@@ -1,7 +1,7 @@
 // Many moves together: a list of nodes with a move each, made all or none.
 ghost use mathlib.Core.Path.{_≡_};
-ghost use Rattle.graph.specs.Graph.{graphOf};
 ghost use Rattle.graph.specs.Answer.{outcome};
+ghost use Rattle.graph.specs.Literals.{graphIn};
 ghost use Rattle.moves.specs.Trial.{gainAnswer};
 ghost use Rattle.many.specs.Many.{manyCall};
 
@@ -17,20 +17,27 @@ pub fn many(
     inputs: u32,
     nodes: u32,
     outputs: u32,
-    node_table: &mut [u32],
-    output_table: &mut [u32],
+    node_table: &[u32],
+    node_bits: &mut [u64],
+    output_table: &[u32],
+    output_bits: &mut [u64],
     locks: &[u8],
     list: &[u32],
     bytes: &[u8],
 ) -> Gain
-    ensures { λ r. ⌜ outcome (gainAnswer r) (graphOf inputs nodes outputs (now («node_table» .exit)) (now («output_table» .exit))) ≡ manyCall (graphOf inputs nodes outputs (now («node_table» .entry)) (now («output_table» .entry))) (now (locks .entry)) (now (list .entry)) (now (bytes .entry)) ⌝ }
+    ensures { λ r.
+        let g = graphIn inputs nodes outputs (now («node_table» .entry)) (now («node_bits» .entry)) (now («output_table» .entry)) (now («output_bits» .entry)) in
+        let h = graphIn inputs nodes outputs (now («node_table» .entry)) (now («node_bits» .exit)) (now («output_table» .entry)) (now («output_bits» .exit)) in
+        ⌜ outcome (gainAnswer r) h ≡ manyCall g (now (locks .entry)) (now (list .entry)) (now (bytes .entry)) ⌝ }
 {
     let number = faults::many_number(
         inputs,
         nodes,
         outputs,
         node_table,
+        node_bits,
         output_table,
+        output_bits,
         locks,
         list,
         bytes,
@@ -43,7 +50,9 @@ pub fn many(
         nodes,
         outputs,
         node_table,
+        node_bits,
         output_table,
+        output_bits,
         list,
         bytes,
     ))

@@ -10,16 +10,17 @@ use Rattle.graph.proofs.Difference.{read-as}
 use Rattle.moves.specs.Call.{moved}
 use Rattle.many.specs.Many.{manyNumber, manyCall}
 use Rattle.many.proofs.Refusing.{many-range, accepted-many}
+use Rattle.graph.specs.Literals.{literals}
 use Rattle.many.proofs.many.Statement.{statement}
 use Rattle.many.proofs.many.Tie as tie
 
 abbrev graph : tie.Start → Graph
-graph s = let a = s .args in graphOf (a .inputs) (a .nodes) (a .outputs) (a .node-table .now) (a .output-table .now)
+graph s = let a = s .args in graphOf (a .inputs) (a .nodes) (a .outputs) (literals (a .node-table .now) (a .node-bits .now)) (literals (a .output-table .now) (a .output-bits .now))
 
 refused-by-requires : tie.Need-refused-by-requires
 refused-by-requires c κs =
     let n = c .before in
-    let s = n .before .before .before .before .before .before .before .before in
+    let s = n .before .before .before .before .before .before .before .before .before .before in
     many-range (graph s) (s .args .locks .now) (s .args .list .now) (s .args .bytes .now) _ (n .many-number .ensures) (c .if1 .taken)
 
 returns : tie.Need-returns
@@ -33,7 +34,7 @@ make-all-requires : tie.Need-make-all-requires
 make-all-requires c κs =
     let i = c .before .before in
     let n = i .before in
-    let s = n .before .before .before .before .before .before .before .before in
+    let s = n .before .before .before .before .before .before .before .before .before .before in
     accepted-many (graph s) (s .args .locks .now) (s .args .list .now) (s .args .bytes .now) (sym (n .many-number .ensures) ∙ i .if1 .left)
 
 returns-2 : tie.Need-returns-2
@@ -42,7 +43,7 @@ returns-2 c =
     let m = c .before .before .before .before in
     let i = m .before .before .before in
     let n = i .before in
-    let s = n .before .before .before .before .before .before .before .before in
+    let s = n .before .before .before .before .before .before .before .before .before .before in
     let a = s .args in
     let g : Graph = graph s in
     let h : Graph = moved g (a .list .now) (a .bytes .now) in

@@ -1,7 +1,7 @@
 -- `entry_number` meets its contract: the tests of an entry, in their order. From the laws on an entry.
 use mathlib.Core.Path.{_≡_, refl, sym, _∙_}
 use mathlib.Core.List.{List, []}
-use Prim.Native.Nat.{ℕ, _+_, _<_}
+use Prim.Native.Nat.{ℕ, _+_, _-_, _<_}
 use native.Mathlib.Omega.{arith}
 use borrow.Author.Needs.{needs}
 use lib.ListN.{getD}
@@ -11,6 +11,7 @@ use Rattle.moves.specs.Call.{nodeFault}
 use Rattle.moves.proofs.Known.{node-known}
 use Rattle.many.specs.Many.{risingFault}
 use Rattle.many.proofs.Refusing.{entry-place, entry-move}
+use Rattle.graph.specs.Literals.{literals}
 use Rattle.many.proofs.faults.entry_number.Statement.{statement}
 use Rattle.many.proofs.faults.entry_number.Tie as tie
 
@@ -18,36 +19,35 @@ returns : tie.Need-returns
 returns c =
     let r = c .before .before in
     let n = r .before in
-    let a = n .before .before .before .before .before .before .args in
+    let a = n .before .before .before .before .before .before .before .args in
     λ o os.
-    entry-place (graphOf (a .inputs) (a .nodes) o (a .node-table .now) os) (a .locks .now) (a .list .now) (a .bytes .now) (a .j) _ _ _
-    (n .node-fault .ensures o (a .node-table .now) os) (r .rising-fault .ensures) (c .before .first-fault .ensures) (c .if1 .taken)
+    entry-place (graphOf (a .inputs) (a .nodes) o (literals (a .node-table .now) (a .node-bits .now)) os) (a .locks .now) (a .list .now) (a .bytes .now) (a .j) _ _ _
+    (n .node-fault .ensures o (literals (a .node-table .now) (a .node-bits .now)) os) (r .rising-fault .ensures) (c .before .first-fault .ensures) (c .if1 .taken)
 
 -- what is known of an entry whose place is accepted
-placed : (c : tie.Else1) (o : ℕ) (os : List ℕ) → let a = c .before .before .before .before .before .before .before .before .before .args in
-    (nodeFault (graphOf (a .inputs) (a .nodes) o (a .node-table .now) os) (getD (a .list .now) (a .j) 0) ≡ 0) × (risingFault (a .list .now) (a .j) ≡ 0)
+placed : (c : tie.Else1) (o : ℕ) (os : List ℕ) → let a = c .before .before .before .before .before .before .before .before .before .before .args in
+    (nodeFault (graphOf (a .inputs) (a .nodes) o (literals (a .node-table .now) (a .node-bits .now)) os) (getD (a .list .now) (a .j) 0) ≡ 0) × (risingFault (a .list .now) (a .j) ≡ 0)
 placed c o os =
     let r = c .before .before in
     let n = r .before in
-    let a = n .before .before .before .before .before .before .args in
+    let a = n .before .before .before .before .before .before .before .args in
     let b = both _ _ (sym (c .before .first-fault .ensures) ∙ c .if1 .left) in
-    (sym (n .node-fault .ensures o (a .node-table .now) os) ∙ b .0, sym (r .rising-fault .ensures) ∙ b .1)
+    (sym (n .node-fault .ensures o (literals (a .node-table .now) (a .node-bits .now)) os) ∙ b .0, sym (r .rising-fault .ensures) ∙ b .1)
 
-known : (c : tie.Else1) → let a = c .before .before .before .before .before .before .before .before .before .args in
+known : (c : tie.Else1) → let a = c .before .before .before .before .before .before .before .before .before .before .args in
     (a .inputs < getD (a .list .now) (a .j) 0) × (getD (a .list .now) (a .j) 0 < a .inputs + 1 + a .nodes)
-known c = let a = c .before .before .before .before .before .before .before .before .before .args in node-known (graphOf (a .inputs) (a .nodes) 0 (a .node-table .now) []) _ (placed c 0 [] .0)
+known c = let a = c .before .before .before .before .before .before .before .before .before .before .args in node-known (graphOf (a .inputs) (a .nodes) 0 (literals (a .node-table .now) (a .node-bits .now)) []) _ (placed c 0 [] .0)
 
 sub-v : tie.Need-sub-v
 sub-v c = omega (arith, known (c .before))
 
 is-xor-requires : tie.Need-is-xor-requires
 is-xor-requires c κs =
-    let k = known (c .before) in
-    let p = c .before .before .before .before .before .before .before .before .before .before .pre .0 in
-    (omega (arith, k, p .long-nodes), omega (arith, k, p .few-nodes))
+    let s = c .before .before .before .before .before .before .before .before .before .before .before in
+    s .pre .0 .words (getD (s .args .list .now) (s .args .j) 0 - (s .args .inputs + 1)) (omega (arith, known (c .before)))
 
 lock-read : tie.Need-shared-slice-read-locked-fault
-lock-read c = omega (arith, known (c .before .before .before .before), c .before .before .before .before .before .before .before .before .before .before .before .before .before .pre .0 .enough-locks)
+lock-read c = omega (arith, known (c .before .before .before .before), c .before .before .before .before .before .before .before .before .before .before .before .before .before .before .pre .0 .enough-locks)
 
 returns-2 : tie.Need-returns-2
 returns-2 c =
@@ -56,9 +56,9 @@ returns-2 c =
     let x = m .before in
     let b = x .before in
     let e = b .before in
-    let a = e .before .before .before .before .before .before .before .before .before .args in
+    let a = e .before .before .before .before .before .before .before .before .before .before .args in
     λ o os.
-    entry-move (graphOf (a .inputs) (a .nodes) o (a .node-table .now) os) (a .locks .now) (a .list .now) (a .bytes .now) (a .j) _ _ _ _ _ _ (placed e o os .0) (placed e o os .1) refl
+    entry-move (graphOf (a .inputs) (a .nodes) o (literals (a .node-table .now) (a .node-bits .now)) os) (a .locks .now) (a .list .now) (a .bytes .now) (a .j) _ _ _ _ _ _ (placed e o os .0) (placed e o os .1) refl
     (x .is-xor .ensures (a .inputs) (a .nodes) o os) (b .byte-at .ensures) (m .move-fault .ensures) (l .locked-fault .ensures) (c .first-fault2 .ensures)
 
 pub entry-number-spec : {M : Type 1} → statement M

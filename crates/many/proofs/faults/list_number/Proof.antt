@@ -8,27 +8,28 @@ use Rattle.graph.specs.Finite.{firstOf}
 use Rattle.graph.specs.Graph.{graphOf}
 use Rattle.graph.proofs.Steps.{stays, one-further}
 use Rattle.many.specs.Many.{entryNumber, listNumber}
+use Rattle.graph.specs.Literals.{literals}
 use Rattle.many.proofs.faults.list_number.Statement.{statement}
 use Rattle.many.proofs.faults.list_number.Tie as tie
 
 abbrev Inv-loop : tie.InvT-loop
-Inv-loop inputs nodes node-table locks list bytes j₀ j = (j ≤ length list) × ((o : ℕ) (os : List ℕ) → firstOf j (entryNumber (graphOf inputs nodes o node-table os) locks list bytes) ≡ 0)
+Inv-loop inputs nodes node-table node-bits locks list bytes j₀ j = (j ≤ length list) × ((o : ℕ) (os : List ℕ) → firstOf j (entryNumber (graphOf inputs nodes o (literals node-table node-bits) os) locks list bytes) ≡ 0)
 
 abbrev μ-loop : tie.MeasureT-loop
-μ-loop inputs nodes node-table locks list bytes j₀ j = length list - j
+μ-loop inputs nodes node-table node-bits locks list bytes j₀ j = length list - j
 
 loop-holds : tie.Need-loop-holds Inv-loop μ-loop
 unfolding firstOf
 loop-holds c = (omega arith, (λ o os. refl))
 
 entry-number-requires : tie.Need-entry-number-requires Inv-loop μ-loop
-entry-number-requires c κs = let s = c .before .before .before .before .before .before in (s .pre .0, omega (arith, c .loop-test .taken), s .pre .1)
+entry-number-requires c κs = let s = c .before .before .before .before .before .before .before in (s .pre .0, omega (arith, c .loop-test .taken), s .pre .1)
 
 -- after the entry that was looked at
 further : (c : tie.After-entry-number Inv-loop μ-loop) (o : ℕ) (os : List ℕ) →
     let l = c .before .before in
-    let a = l .before .before .before .before .before .args in
-    c .entry-number .result ≡ firstOf (l .loop .j + 1) (entryNumber (graphOf (a .inputs) (a .nodes) o (a .node-table .now) os) (a .locks .now) (a .list .now) (a .bytes .now))
+    let a = l .before .before .before .before .before .before .args in
+    c .entry-number .result ≡ firstOf (l .loop .j + 1) (entryNumber (graphOf (a .inputs) (a .nodes) o (literals (a .node-table .now) (a .node-bits .now)) os) (a .locks .now) (a .list .now) (a .bytes .now))
 further c o os = let l = c .before .before in one-further (l .loop .j) _ _ (l .loop .inv .1 o os) (c .entry-number .ensures o os)
 
 returns : tie.Need-returns Inv-loop μ-loop
@@ -45,9 +46,9 @@ returns-2 : tie.Need-returns-2 Inv-loop μ-loop
 unfolding listNumber
 returns-2 c =
     let l = c .before in
-    let a = l .before .before .before .before .before .args in
+    let a = l .before .before .before .before .before .before .args in
     let e : l .loop .j ≡ length (a .list .now) = omega (arith, c .loop-test .left, l .loop .inv .0) in
-    λ o os. sym (l .loop .inv .1 o os) ∙ ap (λ (n : ℕ). firstOf n (entryNumber (graphOf (a .inputs) (a .nodes) o (a .node-table .now) os) (a .locks .now) (a .list .now) (a .bytes .now))) e
+    λ o os. sym (l .loop .inv .1 o os) ∙ ap (λ (n : ℕ). firstOf n (entryNumber (graphOf (a .inputs) (a .nodes) o (literals (a .node-table .now) (a .node-bits .now)) os) (a .locks .now) (a .list .now) (a .bytes .now))) e
 
 pub list-number-spec : {M : Type 1} → statement M
 list-number-spec =

@@ -9,40 +9,41 @@ use Rattle.graph.proofs.Difference.{read-as}
 use Rattle.moves.specs.Call.{moved}
 use Rattle.many.specs.Making.{Ready}
 use Rattle.many.proofs.Sweeping.{ready-first, ready-to, between-admitted, both-made, made-admitted}
+use Rattle.graph.specs.Literals.{literals}
 use Rattle.many.proofs.making.make_all.Statement.{statement}
 use Rattle.many.proofs.making.make_all.Tie as tie
 
 abbrev graph : (s : tie.Start) → Graph
-graph s = graphOf (s .args .inputs) (s .args .nodes) (s .args .outputs) (s .args .node-table .now) (s .args .output-table .now)
+graph s = graphOf (s .args .inputs) (s .args .nodes) (s .args .outputs) (literals (s .args .node-table .now) (s .args .node-bits .now)) (literals (s .args .output-table .now) (s .args .output-bits .now))
 
-ready : (s : tie.Start) → let a = s .args in Ready (a .inputs) (a .nodes) (a .node-table .now) (a .list .now) (a .bytes .now)
+ready : (s : tie.Start) → let a = s .args in Ready (a .inputs) (a .nodes) (literals (a .node-table .now) (a .node-bits .now)) (a .list .now) (a .bytes .now)
 ready s = ready-first (graph s) (s .args .list .now) (s .args .bytes .now) (s .pre .0) (s .pre .1)
 
 turn-outputs-requires : tie.Need-turn-outputs-requires
 turn-outputs-requires c κs =
     let t = c .before .before .before .before in
-    let s = t .before .before .before .before .before .before .before .before .before in
+    let s = t .before .before .before .before .before .before .before .before .before .before .before in
     let a = s .args in (
-      between-admitted (graph s) (a .list .now) (a .bytes .now) (t .turn-nodes .last .1 .1 .0) (s .pre .0) (t .turn-nodes .ensures),
-      ready-to (a .inputs) (a .nodes) (a .list .now) (a .bytes .now) (a .node-table .now) _ (t .turn-nodes .last .1 .1 .0) (t .turn-nodes .ensures) (ready s),
+      between-admitted (graph s) (a .list .now) (a .bytes .now) (literals (a .node-table .now) (t .turn-nodes .last .1 .1 .1 .0)) (s .pre .0) (t .turn-nodes .ensures),
+      ready-to (a .inputs) (a .nodes) (a .list .now) (a .bytes .now) (literals (a .node-table .now) (a .node-bits .now)) _ (literals (a .node-table .now) (t .turn-nodes .last .1 .1 .1 .0)) (t .turn-nodes .ensures) (ready s),
     )
 
 -- after both sweeps
 made : (c : tie.After-turn-outputs) →
     let t = c .before .before .before .before .before in
-    let s = t .before .before .before .before .before .before .before .before .before in
+    let s = t .before .before .before .before .before .before .before .before .before .before .before in
     let a = s .args in
-    graphOf (a .inputs) (a .nodes) (a .outputs) (t .turn-nodes .last .1 .1 .0) (c .turn-outputs .last .1 .1 .1 .1 .0) ≡ moved (graph s) (a .list .now) (a .bytes .now)
+    graphOf (a .inputs) (a .nodes) (a .outputs) (literals (a .node-table .now) (t .turn-nodes .last .1 .1 .1 .0)) (literals (a .output-table .now) (c .turn-outputs .last .1 .1 .1 .1 .1 .1 .0)) ≡ moved (graph s) (a .list .now) (a .bytes .now)
 made c =
     let t = c .before .before .before .before .before in
-    let s = t .before .before .before .before .before .before .before .before .before in
+    let s = t .before .before .before .before .before .before .before .before .before .before .before in
     let a = s .args in
-    both-made (graph s) (a .list .now) (a .bytes .now) (t .turn-nodes .last .1 .1 .0) (s .pre .0) (t .turn-nodes .ensures) (c .turn-outputs .last .1 .1 .1 .1 .0) (c .turn-outputs .ensures)
+    both-made (graph s) (a .list .now) (a .bytes .now) (literals (a .node-table .now) (t .turn-nodes .last .1 .1 .1 .0)) (s .pre .0) (t .turn-nodes .ensures) (literals (a .output-table .now) (c .turn-outputs .last .1 .1 .1 .1 .1 .1 .0)) (c .turn-outputs .ensures)
 
 complemented-requires-2 : tie.Need-complemented-requires-2
 complemented-requires-2 c κs =
     let o = c .before .before .before .before in
-    let s = o .before .before .before .before .before .before .before .before .before .before .before .before .before .before in
+    let s = o .before .before .before .before .before .before .before .before .before .before .before .before .before .before .before .before in
     rw (made o) (made-admitted (graph s) (s .args .list .now) (s .args .bytes .now) (s .pre .0))
 
 returns : tie.Need-returns
@@ -57,7 +58,7 @@ make-all-spec =
     tie.close
     (tie.spec
     (λ c κs. search needs)
-    (λ c κs. ready (c .before .before .before .before .before .before .before .before))
+    (λ c κs. ready (c .before .before .before .before .before .before .before .before .before .before))
     turn-outputs-requires
     complemented-requires-2
     (λ c. search needs)
