@@ -103,9 +103,9 @@ module _ (g : Graph) (ls sc : List ℕ) (o : Ordered g sc) (v : ℕ) (l : v < g 
         subst (λ u. apply (stands g sc) (at none u m) ≡ apply (stands g sc) (put none (u ∷ []) (bestAt (stands g sc) ls (u ∷ [])))) node-now
         (ap (λ l. apply (stands g sc) (put none (node (stands g sc) v ∷ []) l)) (node-best (stands g sc) ls (stands-admitted g sc (o .admitted)) v within-now m first-now))
 
-    pub node-made : (g′ : Graph) (sc′ : List ℕ) (r : ℕ) → Made sc g′ sc′ (apply (stands g sc) (at none (node g v) m)) r
-        → Made sc g′ sc′ (moved (stands g sc) (node g v ∷ []) (bestAt (stands g sc) ls (node g v ∷ []))) r
-    node-made g′ sc′ r h = subst (λ k. Made sc g′ sc′ k r) best-now h
+    pub node-made : (sc′ : List ℕ) (r : ℕ) → Made sc g sc′ (apply (stands g sc) (at none (node g v) m)) r
+        → Made sc g sc′ (moved (stands g sc) (node g v ∷ []) (bestAt (stands g sc) ls (node g v ∷ []))) r
+    node-made sc′ r h = subst (λ k. Made sc g sc′ k r) best-now h
 
 -- no move made
 pub made-none : (g : Graph) (sc : List ℕ) → Ordered g sc → (u m c : ℕ) → m ≡ 0 → c ≡ C (stands g sc) → Made sc g sc (apply (stands g sc) (at none u m)) c

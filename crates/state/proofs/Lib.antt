@@ -9,3 +9,4 @@ pub mod Counting
 pub mod Pairs
 pub mod Parting
 pub mod Pending
+pub mod Written

@@ -11,23 +11,23 @@ use lib.Dec.{eqb}
 use Rattle.graph.specs.Admission.{Admitted}
 use Rattle.graph.specs.Count.{named, outputNamed}
 use Rattle.graph.specs.Finite.{sum}
-use Rattle.graph.specs.Graph.{Graph, mark, node, word, output, isEdge}
+use Rattle.graph.specs.Graph.{Graph, node, word, output, isEdge, isXor}
 use Rattle.graph.specs.Turned.{turnedBy, only, never}
-use Rattle.graph.proofs.Alike.{Alike, alike-admitted, alike-edge, alike-named, alike-outNamed, alike-readers}
+use Rattle.graph.proofs.Alike.{alike-edge, alike-named, alike-outNamed, alike-readers}
 use Rattle.graph.proofs.Cases.{eq-or-ne}
+use Rattle.graph.proofs.Edge.{third-xor}
 use Rattle.graph.proofs.Finite.{sum-same, sum-but-one, sum-le}
 use Rattle.graph.proofs.Turn.{turn-bit}
 use Rattle.graph.proofs.Turned.{Sparing, by-word, by-out, by-alike, only-at, only-off, only-sparing}
 use Rattle.moves.specs.Cost.{shown}
-use Rattle.moves.specs.Tree.{isRoot, place}
 use Rattle.moves.proofs.Count.{clash}
 use Rattle.moves.proofs.Readers.{names}
 use Rattle.moves.proofs.Shown.{shown-both}
-use Rattle.state.specs.State.{field, stands, Ordered}
+use Rattle.state.specs.State.{field, bitIn, stands, Ordered}
 use Rattle.state.specs.Step.{wordTurned, readTurns, outputReadTurns, readersTurned, TreesKept}
-use Rattle.state.proofs.Alike.{alike-isRoot, alike-place, alike-linked}
+use Rattle.state.proofs.Alike.{alike-linked}
 use Rattle.state.proofs.Turned.{readTurns-at, outputReadTurns-at, readers-sparing}
-use Rattle.state.proofs.Stands.{itself, stands-alike, stands-admitted, word-alike, stands-wordTurned, Flipped, stands-readersTurned}
+use Rattle.state.proofs.Stands.{itself, kept-at, stands-alike, stands-admitted, BitTurned, stands-wordTurned, Flipped, stands-readersTurned}
 
 cond-le : (b : Bool) (x : ℕ) → x ≤ 1 → cond b x 0 ≤ 1
 cond-le true x h = h
@@ -118,21 +118,18 @@ module _ (h : Graph) (adm : Admitted h) (u : ℕ) where
 
 -- the state stays in order
 module _ (g : Graph) (sc : List ℕ) (o : Ordered g sc) where
-  ordered-by : (g′ : Graph) (sc′ : List ℕ) → Alike g g′ → TreesKept sc sc′ → ((v : ℕ) → v < g .N → field sc′ v 1 ≡ shown (stands g′ sc′) (node g v) 0)
-      → ((v : ℕ) → v < g .N → field sc′ v 2 ≤ 1) → Ordered g′ sc′
-  ordered-by g′ sc′ a k odd pending =
+  ordered-by : (sc′ : List ℕ) → TreesKept sc sc′ → ((v : ℕ) → v < g .N → field sc′ v 1 ≡ shown (stands g sc′) (node g v) 0) → ((v : ℕ) → v < g .N → isXor g v ≡ true → bitIn sc′ v 3 ≡ bitIn sc v 3)
+      → Ordered g sc′
+  ordered-by sc′ k odd third =
       record {
-        admitted = alike-admitted g g′ a (o .admitted);
-        long = rw (a .same-N, k .long) (o .long);
-        reads = λ v l. rw (alike-readers g g′ a (node g′ v), a .same-I) (k .others v 0 (omega arith) (omega arith) (omega arith) ∙ o .reads v (rw (a .same-N) at l));
-        odd = λ v l. odd v (rw (a .same-N) at l) ∙ ap (λ i. shown (stands g′ sc′) (i + 1 + v) 0) (sym (a .same-I));
-        pending = λ v l. pending v (rw (a .same-N) at l);
-        placed = λ v l. k .others v 3 (omega arith) (omega arith) (omega arith) ∙ o .placed v (rw (a .same-N) at l) ∙ sym (places (node g v) (node g′ v) (ap (λ i. i + 1 + v) (sym (a .same-I))));
-        linked = alike-linked g g′ a sc sc′ k (o .linked);
+        admitted = o .admitted;
+        long = rw (k .long) (o .long);
+        reads = λ v l. k .others v 0 (omega arith) (omega arith) (omega arith) ∙ o .reads v l;
+        odd = odd;
+        marks = λ v l x. third v l x ∙ o .marks v l x;
+        placed = λ v l. k .others v 3 (omega arith) (omega arith) (omega arith) ∙ o .placed v l;
+        linked = alike-linked g g (itself g) sc sc′ k (o .linked);
       }
-    where
-      places : (u w : ℕ) → u ≡ w → cond (isRoot g′ w) mark (place g′ w) ≡ cond (isRoot g u) mark (place g u)
-      places u w e = rw (e, alike-isRoot g g′ a w, alike-place g g′ a w)
 
   -- the counts of the nodes, all of them few
   pub odd-le : (v : ℕ) → v < g .N → field sc v 1 ≤ 304096
@@ -143,7 +140,7 @@ module _ (g : Graph) (sc : List ℕ) (o : Ordered g sc) where
   odd-reads v l = omega (arith, o .odd v l, o .reads v l, shown-both (stands g sc) (node g v), alike-readers g (stands g sc) (stands-alike g sc (o .admitted)) (node g v))
 
   -- a word turned
-  module _ (j : ℕ) (l : j < 3 * g .N) (e : isEdge g j ≡ true) (sc′ : List ℕ) (k : TreesKept sc sc′) (same : (v : ℕ) → field sc′ v 2 ≡ field sc v 2)
+  module _ (j : ℕ) (l : j < 3 * g .N) (e : isEdge g j ≡ true) (sc′ : List ℕ) (k : TreesKept sc sc′) (b : BitTurned sc sc′ j 1)
       (counts : (v : ℕ) → v < g .N → field sc′ v 1 + cond (named g (node g v) j) (word (stands g sc) j % 2) 0 ≡ field sc v 1 + cond (named g (node g v) j) ((word (stands g sc) j + 1) % 2) 0) where
     edge : {A : Type 0} → isEdge g j ≡ false → A
     edge z = absurd (clash e z)
@@ -156,14 +153,18 @@ module _ (g : Graph) (sc : List ℕ) (o : Ordered g sc) where
         let s = shown-word (stands g sc) (stands-admitted g sc (o .admitted)) j 1 (rw (a .same-N) l) (λ q. edge (sym (alike-edge g (stands g sc) a j) ∙ q)) (node g v) in
         omega (arith, counts v p, o .odd v p, rw (n, z) at s)
 
-    pub ordered-word : Ordered (wordTurned g j 1) sc′
+    third-kept : (v : ℕ) → v < g .N → isXor g v ≡ true → bitIn sc′ v 3 ≡ bitIn sc v 3
+    third-kept v p x =
+        sym (kept-at sc′ v 2 (omega arith)) ∙ b .elsewhere (3 * v + 2) (λ z. clash e (ap (isEdge g) (sym z) ∙ third-xor g v x)) ∙ kept-at sc v 2 (omega arith)
+
+    pub ordered-word : Ordered g sc′
     ordered-word =
-        ordered-by (wordTurned g j 1) sc′ (word-alike g (o .admitted) j 1 l edge) k
-        (λ v p. odd-word v p ∙ ap (λ x. shown x (node g v) 0) (sym (stands-wordTurned g (o .admitted) j 1 l edge sc sc′ same)))
-        (λ v p. rw (same v) (o .pending v p))
+        ordered-by sc′ k
+        (λ v p. odd-word v p ∙ ap (λ x. shown x (node g v) 0) (sym (stands-wordTurned g j 1 l e sc sc′ b)))
+        third-kept
 
   -- all readers of a node turned
-  module _ (v : ℕ) (l : v < g .N) (sc′ : List ℕ) (k : TreesKept sc sc′) (flip : Flipped sc sc′ v 1) (low : field sc′ v 2 ≤ 1)
+  module _ (v : ℕ) (l : v < g .N) (sc′ : List ℕ) (k : TreesKept sc sc′) (flip : Flipped sc sc′ v 1)
       (here : field sc′ v 1 + field sc v 1 ≡ field sc v 0) (elsewhere : (w : ℕ) → w ≢ v → field sc′ w 1 ≡ field sc w 1) where
     odd-readers : (w : ℕ) → w < g .N → field sc′ w 1 ≡ shown (readersTurned (stands g sc) (node g v) 1) (node g w) 0
     odd-readers w p =
@@ -177,6 +178,6 @@ module _ (g : Graph) (sc : List ℕ) (o : Ordered g sc) where
 
     pub ordered-readers : Ordered g sc′
     ordered-readers =
-        ordered-by g sc′ (itself g) k
+        ordered-by sc′ k
         (λ w p. odd-readers w p ∙ ap (λ x. shown x (node g w) 0) (sym (stands-readersTurned g (o .admitted) v 1 l sc sc′ flip)))
-        (λ w p. ⊎-elim (λ (e : w ≡ v). rw e low) (λ (e : w ≢ v). rw (flip .elsewhere w e) (o .pending w p)) (eq-or-ne w v))
+        (λ w p x. sym (kept-at sc′ w 2 (omega arith)) ∙ flip .words (3 * w + 2) ∙ kept-at sc w 2 (omega arith))

@@ -1,12 +1,12 @@
 -- Two moves at different nodes, made one after the other, are the pair's choice made at once; and the first least pair by both
 -- nodes' numbers is the best of the pair. From the law of composition and the pair's decision.
 use mathlib.Core.Path.{_≡_, refl, sym, ap, _∙_, subst, fun-ext}
-use mathlib.Core.Bool.{Bool, true, false, cond, _&&_, and-false}
+use mathlib.Core.Bool.{Bool, true, false, cond, _&&_}
 use mathlib.Core.List.{List, [], _∷_}
 use mathlib.Core.Logic.{⊎-elim, _≢_}
-use Prim.Native.Nat.{ℕ, _+_, _-_, _*_, _/_, _%_, _≤_, _<_}
+use Prim.Native.Nat.{ℕ, _+_, _-_, _*_, _/_, _≤_, _<_}
 use native.Mathlib.Omega.{arith}
-use borrow.Author.Tests.{lt-ltb, le-ltb, leb-true, ne-eqb}
+use borrow.Author.Tests.{lt-ltb, le-ltb, leb-true}
 use lib.Dec.{leb}
 use lib.IntN.{pos}
 use Rattle.graph.specs.Admission.{Admitted}
@@ -15,6 +15,7 @@ use Rattle.graph.specs.Count.{C}
 use Rattle.graph.specs.Graph.{Graph, node, word, isEdge, isXor}
 use Rattle.graph.proofs.DifferenceSum.{no-difference}
 use Rattle.graph.proofs.Cases.{lt-or-le, eq-or-ne, true-or-false}
+use Rattle.graph.proofs.Edge.{edge-early, third-majority}
 use Rattle.moves.specs.Apply.{none, at, put, apply, compose, Permitted}
 use Rattle.moves.specs.Call.{moved, bestAt, rewrite, isNode, namedBy, pairRewrite, wordFault}
 use Rattle.moves.specs.Decide.{numbersOf, naming, pairCost, FirstPair}
@@ -29,11 +30,9 @@ use Rattle.moves.proofs.Moves.{arity-pos, kind-pos, moves-no-more, node-row}
 use Rattle.state.specs.State.{stands, Ordered}
 use Rattle.state.specs.Step.{Made, Parted}
 use Rattle.state.specs.declared.moving.Step.{Step}
-use Rattle.state.proofs.Alike.{alike-kindMoves, alike-movesAt, alike-isNode}
-use Rattle.moves.proofs.Apply.{apply-alike}
+use Rattle.state.proofs.Alike.{alike-kindMoves, alike-isNode}
 use Rattle.state.proofs.Stands.{stands-alike, stands-admitted}
 use Rattle.state.proofs.Stores.{kept-same, kept-then}
-use Rattle.state.proofs.Made.{became-alike}
 use Rattle.state.proofs.Counting.{moves-now, node-now, within-now}
 
 -- a move joined to none
@@ -110,17 +109,12 @@ module _ (g : Graph) (ls sc : List ℕ) (o : Ordered g sc) (p v : ℕ) (d : p < 
         (pair-best h ls (stands-admitted g sc (o .admitted)) p v d (within-now g ls sc o v l) a k first-now))
 
   -- both moves
-  module _ (a k : ℕ) (pa : a < movesAt g ls (node g p)) (pk : k < movesAt g ls (node g v)) (g₁ : Graph) (s₁ : List ℕ) (c₁ : ℕ) (m₁ : Made sc g₁ s₁ (apply h (at none (node g p) a)) c₁) where
-    pub still-fits : k < movesAt g₁ ls (node g₁ v)
-    still-fits =
-        let al = became-alike g sc g₁ s₁ (apply h (at none (node g p) a)) (o .admitted) (apply-alike h (at none (node g p) a) (stands-admitted g sc (o .admitted))) (m₁ .became) in
-        rw (alike-movesAt g g₁ al ls v) pk
-
-    pub still-counts : c₁ ≡ C (stands g₁ s₁)
+  module _ (a k : ℕ) (pa : a < movesAt g ls (node g p)) (pk : k < movesAt g ls (node g v)) (s₁ : List ℕ) (c₁ : ℕ) (m₁ : Made sc g s₁ (apply h (at none (node g p) a)) c₁) where
+    pub still-counts : c₁ ≡ C (stands g s₁)
     still-counts = m₁ .count ∙ ap C (sym (m₁ .became .stands-for))
 
-    module _ (b : a ∷ k ∷ [] ≡ bestAt h ls pair) (g₂ : Graph) (s₂ : List ℕ) (c₂ : ℕ) (m₂ : Made s₁ g₂ s₂ (apply (stands g₁ s₁) (at none (node g v) k)) c₂) where
-      both-moved : apply (stands g₁ s₁) (at none (node g v) k) ≡ moved h pair (bestAt h ls pair)
+    module _ (b : a ∷ k ∷ [] ≡ bestAt h ls pair) (s₂ : List ℕ) (c₂ : ℕ) (m₂ : Made s₁ g s₂ (apply (stands g s₁) (at none (node g v) k)) c₂) where
+      both-moved : apply (stands g s₁) (at none (node g v) k) ≡ moved h pair (bestAt h ls pair)
       unfolding moved put
       both-moved =
           let x : (w m : ℕ) → m < movesAt g ls (node g w) → m < kindMoves h (node h w) = λ w m q. omega (arith, q, alike-kindMoves g h (stands-alike g sc (o .admitted)) w, moves-no-more g ls (node g w)) in
@@ -130,7 +124,7 @@ module _ (g : Graph) (ls sc : List ℕ) (o : Ordered g sc) (p v : ℕ) (d : p < 
           (λ i. apply h (at (at none (node-now g ls sc o p (omega arith) i) a) (node-now g ls sc o v l i) k))) ∙
           ap (λ ms. apply h (put none pair ms)) b
 
-      pub pair-made : Made sc g₂ s₂ (moved h pair (bestAt h ls pair)) c₂
+      pub pair-made : Made sc g s₂ (moved h pair (bestAt h ls pair)) c₂
       pair-made =
           record {
             became = record { ordered = m₂ .became .ordered; stands-for = m₂ .became .stands-for ∙ both-moved; kept = kept-then sc s₁ s₂ (m₁ .became .kept) (m₂ .became .kept) };
@@ -140,14 +134,6 @@ module _ (g : Graph) (ls sc : List ℕ) (o : Ordered g sc) (p v : ℕ) (d : p < 
 no-fault : (b : Bool) → _≡_ {A = ℕ} (cond b 0 7) 0 → b ≡ true
 no-fault true e = refl
 no-fault false e = absurd (omega arith)
-
-early-edge : (g : Graph) (j : ℕ) → j % 3 < 2 → isEdge g j ≡ true
-unfolding isEdge
-early-edge g j h = rw (ne-eqb (j % 3) 2 (omega arith))
-
-third-edge : (g : Graph) (v : ℕ) → isXor g v ≡ false → isEdge g (3 * v + 2) ≡ true
-unfolding isEdge isXor
-third-edge g v e = rw (e, and-false)
 
 -- the pair call at a word: it names a node, or none
 module _ (g : Graph) (ls sc : List ℕ) (o : Ordered g sc) (v k : ℕ) (l : v < g .N) where
@@ -190,12 +176,12 @@ module _ (g : Graph) (ls sc : List ℕ) (o : Ordered g sc) (v k : ℕ) (l : v < 
       )
 
   -- it names node p: the pair's best
-  pub pair-is : (p : ℕ) → p < g .N → named ≡ node g p → (g′ : Graph) (sc′ : List ℕ) (s : Step)
-      → Made sc g′ sc′ (moved (stands g sc) (node g p ∷ node g v ∷ []) (bestAt (stands g sc) ls (node g p ∷ node g v ∷ []))) (s .count) × Parted (rewrite (stands g sc) ls (node g p ∷ node g v ∷ [])) s
-      → Made sc g′ sc′ (pairRewrite (stands g sc) ls (node g v) k .graph) (s .count) × Parted (pairRewrite (stands g sc) ls (node g v) k) s
-  pair-is p q e g′ sc′ s m =
+  pub pair-is : (p : ℕ) → p < g .N → named ≡ node g p → (sc′ : List ℕ) (s : Step)
+      → Made sc g sc′ (moved (stands g sc) (node g p ∷ node g v ∷ []) (bestAt (stands g sc) ls (node g p ∷ node g v ∷ []))) (s .count) × Parted (rewrite (stands g sc) ls (node g p ∷ node g v ∷ [])) s
+      → Made sc g sc′ (pairRewrite (stands g sc) ls (node g v) k .graph) (s .count) × Parted (pairRewrite (stands g sc) ls (node g v) k) s
+  pair-is p q e sc′ s m =
       rw (pair-outcome p q e) (
-        subst (λ x. Made sc g′ sc′ x (s .count)) (sym (rewrite-graph (stands g sc) ls (stands-admitted g sc (o .admitted)) (node g p ∷ node g v ∷ []))) (m .0),
+        subst (λ x. Made sc g sc′ x (s .count)) (sym (rewrite-graph (stands g sc) ls (stands-admitted g sc (o .admitted)) (node g p ∷ node g v ∷ []))) (m .0),
         m .1,
       )
 
@@ -211,12 +197,12 @@ module _ (g : Graph) (ls sc : List ℕ) (o : Ordered g sc) (v k : ℕ) (l : v < 
         let lo : 1 ≤ k = leb-true 1 k (b .0) in
         let hi : k ≤ cond (isXor g v) 2 3 = leb-true k (cond (isXor g v) 2 3) (b .1) in
         ⊎-elim
-        (λ (x : isXor g v ≡ true). let z : k ≤ 2 = rw x at hi in (lo, omega arith, early-edge g (3 * v + (k - 1)) (omega arith)))
+        (λ (x : isXor g v ≡ true). let z : k ≤ 2 = rw x at hi in (lo, omega arith, edge-early g (3 * v + (k - 1)) (omega arith)))
         (λ (x : isXor g v ≡ false).
         let z : k ≤ 3 = rw x at hi in
         ⊎-elim
-        (λ (q : k < 3). (lo, z, early-edge g (3 * v + (k - 1)) (omega arith)))
-        (λ (q : 3 ≤ k). (lo, z, ap (isEdge g) (omega arith) ∙ third-edge g v x))
+        (λ (q : k < 3). (lo, z, edge-early g (3 * v + (k - 1)) (omega arith)))
+        (λ (q : 3 ≤ k). (lo, z, ap (isEdge g) (omega arith) ∙ third-majority g v x))
         (lt-or-le k 3))
         (true-or-false (isXor g v))
 

@@ -4,12 +4,11 @@ use mathlib.Core.List.{List}
 use mathlib.Core.Logic.{⊎-elim, _⊎_}
 use Prim.Native.Nat.{ℕ, _+_, _-_, _*_, _<_, _≤_}
 use native.Mathlib.Omega.{arith}
-use Rattle.graph.specs.Graph.{Graph, graphOf}
-use Rattle.graph.specs.Turned.{turnedTable, upTo}
+use Rattle.graph.specs.Graph.{index}
+use Rattle.graph.specs.Inner.{Names}
 use Rattle.graph.proofs.Cases.{lt-or-le}
-use Rattle.graph.proofs.Turned.{turned-both}
 use Rattle.moves.proofs.NodeOf.{IsNodeOf, IsNearest, node-found, node-missed, Nearby, nearby}
-use Rattle.state.specs.State.{field, pendingAt, dueIn, due, outputDue, stands}
+use Rattle.state.specs.State.{bitIn, pendingAt}
 use Rattle.state.proofs.Stands.{pending-low, pending-high, pending-node}
 
 -- what is pending is so for a node
@@ -24,18 +23,20 @@ module _ (i n : ℕ) (sc : List ℕ) (u v : ℕ) (is : IsNodeOf i u v) where
   pub missed : n ≤ v → 0 ≡ pendingAt i n sc u
   missed l = sym (pending-none i n sc u (node-missed i n u v is l))
 
-  pub found : n ≤ 100000 → v < n → field sc v 2 ≡ pendingAt i n sc u
+  pub found : n ≤ 100000 → v < n → bitIn sc v 0 ≡ pendingAt i n sc u
   found few l =
       let f = node-found i n u v is few l in
-      ap (λ k. field sc k 2) (f .1) ∙ sym (pending-node i n sc u (f .0) (omega (arith, f .1)))
+      ap (λ k. bitIn sc k 0) (f .1) ∙ sym (pending-node i n sc u (f .0) (omega (arith, f .1)))
 
 -- a sweep reads it of node w, the nearest to v
 pub due-nearby : (i n : ℕ) (sc : List ℕ) (u v w : ℕ) → 0 < n → n ≤ 100000 → IsNodeOf i u v → IsNearest n v w
-    → Nearby n (pendingAt i n sc u) (λ k. field sc k 2) v w
-due-nearby i n sc u v w p few is near = nearby i n u v w (pendingAt i n sc u) (λ k. field sc k 2) p few is near (pending-node i n sc u) (pending-none i n sc u)
+    → Nearby n (pendingAt i n sc u) (λ k. bitIn sc k 0) v w
+due-nearby i n sc u v w p few is near = nearby i n u v w (pendingAt i n sc u) (λ k. bitIn sc k 0) p few is near (pending-node i n sc u) (pending-none i n sc u)
 
--- both tables written
-pub written : (g : Graph) (sc ns os : List ℕ) → ns ≡ turnedTable (g .nodes) (upTo (3 * g .N) (dueIn (g .I) (g .N) sc (g .nodes)))
-    → os ≡ turnedTable (g .outputs) (upTo (g .O) (dueIn (g .I) (g .N) sc (g .outputs))) → graphOf (g .I) (g .N) (g .O) ns os ≡ stands g sc
-unfolding stands due outputDue
-written g sc ns os p q = turned-both g (due g sc) (outputDue g sc) ns os p q
+-- by what the index table has: it is the index that the word names, or neither is a node's
+pub pending-index : (i n : ℕ) (sc : List ℕ) (x u : ℕ) → i ≤ 4096 → n ≤ 100000 → Names x u → pendingAt i n sc u ≡ pendingAt i n sc (index x)
+pending-index i n sc x u p q names =
+    ⊎-elim
+    (λ (l : u < 2147483647). ap (pendingAt i n sc) (sym (names .low l)))
+    (λ (l : 2147483647 ≤ u). pending-high i n sc u (omega arith) ∙ sym (pending-high i n sc (index x) (omega (arith, names .high l))))
+    (lt-or-le u 2147483647)

@@ -55,23 +55,22 @@ module _ (h : Graph) (adm : Admitted h) (v m : ℕ) (l : v < h .N) where
 
   -- how often v's own words are turned
   abbrev mine : ℕ → ℕ
-  mine i = only (3 * v) (f 0) i + only (3 * v + 1) (f 1) i + only (3 * v + 2) (f 2) i
+  mine i = only (3 * v + 0) (f 0) i + only (3 * v + 1) (f 1) i + only (3 * v + 2) (f 2) i
 
   elsewhere : (i : ℕ) → i / 3 ≢ v → mine i ≡ 0
   elsewhere i d =
       omega (
         arith,
-        only-off (3 * v) (f 0) i (λ z. d (omega arith)),
+        only-off (3 * v + 0) (f 0) i (λ z. d (omega arith)),
         only-off (3 * v + 1) (f 1) i (λ z. d (omega arith)),
         only-off (3 * v + 2) (f 2) i (λ z. d (omega arith)),
       )
 
   here : (k i : ℕ) → k < 3 → i ≡ 3 * v + k → mine i ≡ f k
   here zero i p e =
-      let q : i ≡ 3 * v = omega arith in
-      rw q (omega (arith, only-at (3 * v) (f 0), only-off (3 * v + 1) (f 1) (3 * v) (omega arith), only-off (3 * v + 2) (f 2) (3 * v) (omega arith)))
-  here (suc zero) i p e = rw e (omega (arith, only-at (3 * v + 1) (f 1), only-off (3 * v) (f 0) (3 * v + 1) (omega arith), only-off (3 * v + 2) (f 2) (3 * v + 1) (omega arith)))
-  here (suc (suc zero)) i p e = rw e (omega (arith, only-at (3 * v + 2) (f 2), only-off (3 * v) (f 0) (3 * v + 2) (omega arith), only-off (3 * v + 1) (f 1) (3 * v + 2) (omega arith)))
+      rw e (omega (arith, only-at (3 * v + 0) (f 0), only-off (3 * v + 1) (f 1) (3 * v + 0) (omega arith), only-off (3 * v + 2) (f 2) (3 * v + 0) (omega arith)))
+  here (suc zero) i p e = rw e (omega (arith, only-at (3 * v + 1) (f 1), only-off (3 * v + 0) (f 0) (3 * v + 1) (omega arith), only-off (3 * v + 2) (f 2) (3 * v + 1) (omega arith)))
+  here (suc (suc zero)) i p e = rw e (omega (arith, only-at (3 * v + 2) (f 2), only-off (3 * v + 0) (f 0) (3 * v + 2) (omega arith), only-off (3 * v + 1) (f 1) (3 * v + 2) (omega arith)))
   here (suc (suc (suc k))) i p e = absurd (omega arith)
 
   own-is : (i : ℕ) → own h choice i ≡ mine i
@@ -120,7 +119,7 @@ module _ (h : Graph) (adm : Admitted h) (v m : ℕ) (l : v < h .N) where
       (lt-or-le i (h .O))
 
   abbrev one : Graph
-  one = wordTurned h (3 * v) (f 0)
+  one = wordTurned h (3 * v + 0) (f 0)
 
   abbrev two : Graph
   two = wordTurned one (3 * v + 1) (f 1)
@@ -129,7 +128,7 @@ module _ (h : Graph) (adm : Admitted h) (v m : ℕ) (l : v < h .N) where
   three = wordTurned two (3 * v + 2) (f 2)
 
   one-alike : Alike h one
-  one-alike = word-alike h adm (3 * v) (f 0) (omega arith) (λ e. mark-still h v 0 m (omega arith) (ap (isEdge h) (omega arith) ∙ e))
+  one-alike = word-alike h adm (3 * v + 0) (f 0) (omega arith) (mark-still h v 0 m (omega arith))
 
   two-alike : Alike h two
   two-alike =
@@ -145,8 +144,8 @@ module _ (h : Graph) (adm : Admitted h) (v m : ℕ) (l : v < h .N) where
 
   three-by : three ≡ turnedBy h mine (λ i. 0 + 0 + 0)
   three-by =
-      ap (λ x. turnedBy x (only (3 * v + 2) (f 2)) never) (by-by h (only (3 * v) (f 0)) never (only (3 * v + 1) (f 1)) never) ∙
-      by-by h (λ i. only (3 * v) (f 0) i + only (3 * v + 1) (f 1) i) (λ i. 0 + 0) (only (3 * v + 2) (f 2)) never
+      ap (λ x. turnedBy x (only (3 * v + 2) (f 2)) never) (by-by h (only (3 * v + 0) (f 0)) never (only (3 * v + 1) (f 1)) never) ∙
+      by-by h (λ i. only (3 * v + 0) (f 0) i + only (3 * v + 1) (f 1) i) (λ i. 0 + 0) (only (3 * v + 2) (f 2)) never
 
   pub step : readersTurned three (node h v) (f 3) ≡ apply h choice
   step =

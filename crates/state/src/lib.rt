@@ -1,3 +1,4 @@
+mod flags;
 pub mod moving;
 pub mod now;
 mod turning;

@@ -3,8 +3,8 @@ ghost use mathlib.Core.Path.{_≡_};
 ghost use mathlib.Core.List.{[], _∷_};
 ghost use Prim.Native.Nat.{_+_, _≤_, _<_};
 ghost use lib.ListN.{length};
-ghost use Rattle.graph.specs.Graph.{graphOf};
 ghost use Rattle.graph.specs.Count.{C};
+ghost use Rattle.graph.specs.Literals.{graphIn};
 ghost use Rattle.moves.specs.Rows.{movesAt};
 ghost use Rattle.moves.specs.Apply.{none, at, apply};
 ghost use Rattle.moves.specs.Call.{moved, bestAt, rewrite, wordFault, pairRewrite};
@@ -52,16 +52,21 @@ pub fn make_move(
     inputs: u32,
     nodes: u32,
     outputs: u32,
-    node_table: &mut [u32],
+    node_table: &[u32],
+    node_bits: &[u64],
     output_table: &[u32],
+    output_bits: &[u64],
     locks: &[u8],
     v: usize,
     m: u32,
     count: u32,
     scratch: &mut [u32],
 ) -> u32
-    requires { ⌜ Ordered (graphOf inputs nodes outputs (now «node_table») (now «output_table»)) (now scratch) × (v < nodes) × (m < movesAt (graphOf inputs nodes outputs (now «node_table») (now «output_table»)) (now locks) (inputs + 1 + v)) × (count ≡ C (stands (graphOf inputs nodes outputs (now «node_table») (now «output_table»)) (now scratch))) × (nodes ≤ length (now locks)) ⌝ }
-    ensures { λ r. ⌜ Made (now (scratch .entry)) (graphOf inputs nodes outputs (now («node_table» .exit)) (now («output_table» .entry))) (now (scratch .exit)) (apply (stands (graphOf inputs nodes outputs (now («node_table» .entry)) (now («output_table» .entry))) (now (scratch .entry))) (at none (inputs + 1 + v) m)) r ⌝ }
+    requires { let g = graphIn inputs nodes outputs (now «node_table») (now «node_bits») (now «output_table») (now «output_bits») in
+        ⌜ Ordered g (now scratch) × (v < nodes) × (m < movesAt g (now locks) (inputs + 1 + v)) × (count ≡ C (stands g (now scratch))) × (nodes ≤ length (now locks)) ⌝ }
+    ensures { λ r.
+        let g = graphIn inputs nodes outputs (now («node_table» .entry)) (now («node_bits» .entry)) (now («output_table» .entry)) (now («output_bits» .entry)) in
+        ⌜ Made (now (scratch .entry)) g (now (scratch .exit)) (apply (stands g (now (scratch .entry))) (at none (inputs + 1 + v) m)) r ⌝ }
 {
     if m == 0 {
         return count;
@@ -71,7 +76,9 @@ pub fn make_move(
         nodes,
         outputs,
         node_table,
+        node_bits,
         output_table,
+        output_bits,
         locks,
         v,
         scratch,
@@ -82,7 +89,9 @@ pub fn make_move(
         nodes,
         outputs,
         node_table,
+        node_bits,
         output_table,
+        output_bits,
         v,
         m,
         scratch,
@@ -95,22 +104,30 @@ pub fn node_step(
     inputs: u32,
     nodes: u32,
     outputs: u32,
-    node_table: &mut [u32],
+    node_table: &[u32],
+    node_bits: &[u64],
     output_table: &[u32],
+    output_bits: &[u64],
     locks: &[u8],
     v: usize,
     count: u32,
     scratch: &mut [u32],
 ) -> Step
-    requires { ⌜ Ordered (graphOf inputs nodes outputs (now «node_table») (now «output_table»)) (now scratch) × (v < nodes) × (count ≡ C (stands (graphOf inputs nodes outputs (now «node_table») (now «output_table»)) (now scratch))) × (nodes ≤ length (now locks)) ⌝ }
-    ensures { λ r. ⌜ Made (now (scratch .entry)) (graphOf inputs nodes outputs (now («node_table» .exit)) (now («output_table» .entry))) (now (scratch .exit)) (moved (stands (graphOf inputs nodes outputs (now («node_table» .entry)) (now («output_table» .entry))) (now (scratch .entry))) ((inputs + 1 + v) ∷ []) (bestAt (stands (graphOf inputs nodes outputs (now («node_table» .entry)) (now («output_table» .entry))) (now (scratch .entry))) (now (locks .entry)) ((inputs + 1 + v) ∷ []))) (r .count) × Parted (rewrite (stands (graphOf inputs nodes outputs (now («node_table» .entry)) (now («output_table» .entry))) (now (scratch .entry))) (now (locks .entry)) ((inputs + 1 + v) ∷ [])) r ⌝ }
+    requires { let g = graphIn inputs nodes outputs (now «node_table») (now «node_bits») (now «output_table») (now «output_bits») in
+        ⌜ Ordered g (now scratch) × (v < nodes) × (count ≡ C (stands g (now scratch))) × (nodes ≤ length (now locks)) ⌝ }
+    ensures { λ r.
+        let g = graphIn inputs nodes outputs (now («node_table» .entry)) (now («node_bits» .entry)) (now («output_table» .entry)) (now («output_bits» .entry)) in
+        let h = stands g (now (scratch .entry)) in
+        ⌜ Made (now (scratch .entry)) g (now (scratch .exit)) (moved h ((inputs + 1 + v) ∷ []) (bestAt h (now (locks .entry)) ((inputs + 1 + v) ∷ []))) (r .count) × Parted (rewrite h (now (locks .entry)) ((inputs + 1 + v) ∷ [])) r ⌝ }
 {
     let node = now::numbers_now(
         inputs,
         nodes,
         outputs,
         node_table,
+        node_bits,
         output_table,
+        output_bits,
         locks,
         v,
         scratch,
@@ -123,7 +140,9 @@ pub fn node_step(
         nodes,
         outputs,
         node_table,
+        node_bits,
         output_table,
+        output_bits,
         locks,
         v,
         m,
@@ -143,21 +162,29 @@ pub fn pair_moves(
     nodes: u32,
     outputs: u32,
     node_table: &[u32],
+    node_bits: &[u64],
     output_table: &[u32],
+    output_bits: &[u64],
     locks: &[u8],
     p: usize,
     v: usize,
     scratch: &[u32],
 ) -> PairChoice
-    requires { ⌜ Ordered (graphOf inputs nodes outputs (now «node_table») (now «output_table»)) (now scratch) × (p < v) × (v < nodes) × (nodes ≤ length (now locks)) ⌝ }
-    ensures { λ r. ⌜ (r .named < movesAt (graphOf inputs nodes outputs (now («node_table» .entry)) (now («output_table» .entry))) (now (locks .entry)) (inputs + 1 + p)) × (r .node < movesAt (graphOf inputs nodes outputs (now («node_table» .entry)) (now («output_table» .entry))) (now (locks .entry)) (inputs + 1 + v)) × (r .named ∷ r .node ∷ [] ≡ bestAt (stands (graphOf inputs nodes outputs (now («node_table» .entry)) (now («output_table» .entry))) (now (scratch .entry))) (now (locks .entry)) ((inputs + 1 + p) ∷ (inputs + 1 + v) ∷ [])) × Parted (rewrite (stands (graphOf inputs nodes outputs (now («node_table» .entry)) (now («output_table» .entry))) (now (scratch .entry))) (now (locks .entry)) ((inputs + 1 + p) ∷ (inputs + 1 + v) ∷ [])) (record { count = 0; before = r .before; after = r .after }) ⌝ }
+    requires { let g = graphIn inputs nodes outputs (now «node_table») (now «node_bits») (now «output_table») (now «output_bits») in
+        ⌜ Ordered g (now scratch) × (p < v) × (v < nodes) × (nodes ≤ length (now locks)) ⌝ }
+    ensures { λ r.
+        let g = graphIn inputs nodes outputs (now («node_table» .entry)) (now («node_bits» .entry)) (now («output_table» .entry)) (now («output_bits» .entry)) in
+        let h = stands g (now (scratch .entry)) in
+        ⌜ (r .named < movesAt g (now (locks .entry)) (inputs + 1 + p)) × (r .node < movesAt g (now (locks .entry)) (inputs + 1 + v)) × (r .named ∷ r .node ∷ [] ≡ bestAt h (now (locks .entry)) ((inputs + 1 + p) ∷ (inputs + 1 + v) ∷ [])) × Parted (rewrite h (now (locks .entry)) ((inputs + 1 + p) ∷ (inputs + 1 + v) ∷ [])) (record { count = 0; before = r .before; after = r .after }) ⌝ }
 {
     let named = now::numbers_now(
         inputs,
         nodes,
         outputs,
         node_table,
+        node_bits,
         output_table,
+        output_bits,
         locks,
         p,
         scratch,
@@ -167,12 +194,14 @@ pub fn pair_moves(
         nodes,
         outputs,
         node_table,
+        node_bits,
         output_table,
+        output_bits,
         locks,
         v,
         scratch,
     );
-    let which = words::which_name(node_table, v, inputs + 1 + p as u32);
+    let which = words::which_name(node_table, node_bits, v, inputs + 1 + p as u32);
     let best = decide::first_pair(named, node, which);
     let odds = gains::pair_odds(named, node, which, best.named, best.node);
     PairChoice {
@@ -188,23 +217,31 @@ pub fn move_pair(
     inputs: u32,
     nodes: u32,
     outputs: u32,
-    node_table: &mut [u32],
+    node_table: &[u32],
+    node_bits: &[u64],
     output_table: &[u32],
+    output_bits: &[u64],
     locks: &[u8],
     p: usize,
     v: usize,
     count: u32,
     scratch: &mut [u32],
 ) -> Step
-    requires { ⌜ Ordered (graphOf inputs nodes outputs (now «node_table») (now «output_table»)) (now scratch) × (p < v) × (v < nodes) × (count ≡ C (stands (graphOf inputs nodes outputs (now «node_table») (now «output_table»)) (now scratch))) × (nodes ≤ length (now locks)) ⌝ }
-    ensures { λ r. ⌜ Made (now (scratch .entry)) (graphOf inputs nodes outputs (now («node_table» .exit)) (now («output_table» .entry))) (now (scratch .exit)) (moved (stands (graphOf inputs nodes outputs (now («node_table» .entry)) (now («output_table» .entry))) (now (scratch .entry))) ((inputs + 1 + p) ∷ (inputs + 1 + v) ∷ []) (bestAt (stands (graphOf inputs nodes outputs (now («node_table» .entry)) (now («output_table» .entry))) (now (scratch .entry))) (now (locks .entry)) ((inputs + 1 + p) ∷ (inputs + 1 + v) ∷ []))) (r .count) × Parted (rewrite (stands (graphOf inputs nodes outputs (now («node_table» .entry)) (now («output_table» .entry))) (now (scratch .entry))) (now (locks .entry)) ((inputs + 1 + p) ∷ (inputs + 1 + v) ∷ [])) r ⌝ }
+    requires { let g = graphIn inputs nodes outputs (now «node_table») (now «node_bits») (now «output_table») (now «output_bits») in
+        ⌜ Ordered g (now scratch) × (p < v) × (v < nodes) × (count ≡ C (stands g (now scratch))) × (nodes ≤ length (now locks)) ⌝ }
+    ensures { λ r.
+        let g = graphIn inputs nodes outputs (now («node_table» .entry)) (now («node_bits» .entry)) (now («output_table» .entry)) (now («output_bits» .entry)) in
+        let h = stands g (now (scratch .entry)) in
+        ⌜ Made (now (scratch .entry)) g (now (scratch .exit)) (moved h ((inputs + 1 + p) ∷ (inputs + 1 + v) ∷ []) (bestAt h (now (locks .entry)) ((inputs + 1 + p) ∷ (inputs + 1 + v) ∷ []))) (r .count) × Parted (rewrite h (now (locks .entry)) ((inputs + 1 + p) ∷ (inputs + 1 + v) ∷ [])) r ⌝ }
 {
     let both = pair_moves(
         inputs,
         nodes,
         outputs,
         node_table,
+        node_bits,
         output_table,
+        output_bits,
         locks,
         p,
         v,
@@ -215,7 +252,9 @@ pub fn move_pair(
         nodes,
         outputs,
         node_table,
+        node_bits,
         output_table,
+        output_bits,
         locks,
         p,
         both.named,
@@ -227,7 +266,9 @@ pub fn move_pair(
         nodes,
         outputs,
         node_table,
+        node_bits,
         output_table,
+        output_bits,
         locks,
         v,
         both.node,
@@ -246,19 +287,25 @@ pub fn pair_step(
     inputs: u32,
     nodes: u32,
     outputs: u32,
-    node_table: &mut [u32],
+    node_table: &[u32],
+    node_bits: &[u64],
     output_table: &[u32],
+    output_bits: &[u64],
     locks: &[u8],
     v: usize,
     k: usize,
     count: u32,
     scratch: &mut [u32],
 ) -> Step
-    requires { ⌜ Ordered (graphOf inputs nodes outputs (now «node_table») (now «output_table»)) (now scratch) × (v < nodes) × (wordFault (graphOf inputs nodes outputs (now «node_table») (now «output_table»)) (inputs + 1 + v) k ≡ 0) × (count ≡ C (stands (graphOf inputs nodes outputs (now «node_table») (now «output_table»)) (now scratch))) × (nodes ≤ length (now locks)) ⌝ }
-    ensures { λ r. ⌜ Made (now (scratch .entry)) (graphOf inputs nodes outputs (now («node_table» .exit)) (now («output_table» .entry))) (now (scratch .exit)) (pairRewrite (stands (graphOf inputs nodes outputs (now («node_table» .entry)) (now («output_table» .entry))) (now (scratch .entry))) (now (locks .entry)) (inputs + 1 + v) k .graph) (r .count) × Parted (pairRewrite (stands (graphOf inputs nodes outputs (now («node_table» .entry)) (now («output_table» .entry))) (now (scratch .entry))) (now (locks .entry)) (inputs + 1 + v) k) r ⌝ }
+    requires { let g = graphIn inputs nodes outputs (now «node_table») (now «node_bits») (now «output_table») (now «output_bits») in
+        ⌜ Ordered g (now scratch) × (v < nodes) × (wordFault g (inputs + 1 + v) k ≡ 0) × (count ≡ C (stands g (now scratch))) × (nodes ≤ length (now locks)) ⌝ }
+    ensures { λ r.
+        let g = graphIn inputs nodes outputs (now («node_table» .entry)) (now («node_bits» .entry)) (now («output_table» .entry)) (now («output_bits» .entry)) in
+        let h = stands g (now (scratch .entry)) in
+        ⌜ Made (now (scratch .entry)) g (now (scratch .exit)) (pairRewrite h (now (locks .entry)) (inputs + 1 + v) k .graph) (r .count) × Parted (pairRewrite h (now (locks .entry)) (inputs + 1 + v) k) r ⌝ }
 {
     let at = 3 * v + (k - 1);
-    let u = table::index_at(node_table, at);
+    let u = table::index_at(node_table, node_bits, at);
     if u <= inputs {
         return Step {
             count,
@@ -272,7 +319,9 @@ pub fn pair_step(
         nodes,
         outputs,
         node_table,
+        node_bits,
         output_table,
+        output_bits,
         locks,
         p,
         v,

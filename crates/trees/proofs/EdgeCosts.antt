@@ -1,6 +1,6 @@
 -- What an edge, a word and a node cost, as the code finds it in scratch. From the laws on tests and on a node's numbers.
-use mathlib.Core.Path.{_≡_, refl, sym, ap, _∙_}
-use mathlib.Core.Bool.{Bool, true, false, not, cond, _&&_}
+use mathlib.Core.Path.{_≡_, refl, sym, _∙_}
+use mathlib.Core.Bool.{Bool, true, false, cond}
 use mathlib.Core.List.{List, []}
 use mathlib.Core.Logic.{_≢_}
 use Prim.Native.Nat.{ℕ, _+_, _-_, _*_, _/_, _%_, _≤_, _<_}
@@ -9,7 +9,6 @@ use borrow.Author.Tests.{eq-eqb, ne-eqb, lt-ltb, le-ltb}
 use lib.Dec.{eqb}
 use Rattle.graph.specs.Finite.{ifEqual}
 use Rattle.graph.specs.Graph.{Graph, mark, node, word, isEdge, isXor}
-use Rattle.graph.specs.Turned.{turnedBy}
 use Rattle.moves.specs.Cost.{edgeCost, turnedCost, wordCosts, bitCost}
 use Rattle.choice.specs.Choice.{FirstBelow}
 use Rattle.moves.specs.Rows.{movesAt}
@@ -18,8 +17,8 @@ use Rattle.moves.proofs.Deciding as deciding
 use Rattle.moves.proofs.Moves.{moves-of}
 use Rattle.moves.proofs.Shown.{shown-both}
 use Rattle.state.specs.State.{field, stands, Ordered}
-use Rattle.state.proofs.Alike.{alike-xor, alike-movesAt, alike-readers}
-use Rattle.state.proofs.Stands.{stands-alike, stands-admitted}
+use Rattle.state.proofs.Alike.{alike-edge, alike-xor, alike-movesAt, alike-readers}
+use Rattle.state.proofs.Stands.{stands-alike}
 use Rattle.trees.specs.Costing.{innerAt, costAt, CostBits}
 use Rattle.moves.proofs.NodeCosts.{numbers-low}
 use Rattle.trees.proofs.TreeNumbers.{bits-are}
@@ -46,30 +45,23 @@ costs-low i sc u s = go (eqb s 0)
     go true = omega arith
     go false = omega arith
 
-bit-sum : (x f : ℕ) → (x % 2 + f) % 2 ≡ (x + f) % 2
-bit-sum x f = omega arith
+-- a word of the graph that the state stands for, by the index that it names and its bit
+module _ (g : Graph) (sc : List ℕ) (o : Ordered g sc) (t : ℕ → Bool) (c : ℕ → ℕ → ℕ) (v i : ℕ) (h : v < g .N) (l : i < 3) where
+  abbrev j : ℕ
+  j = 3 * v + i
 
-module _ (t : ℕ → Bool) (c : ℕ → ℕ → ℕ) (j x f : ℕ) where
-  pub as-edge : (p r : ℕ) → p ≡ (x % 2 + f) % 2 → not (eqb (j % 3) 2 && eqb x mark) ≡ true → r ≡ edgeCost t c (x / 2) p
-      → r ≡ cond (not (eqb (j % 3) 2 && eqb x mark)) (edgeCost t c (x / 2) ((x + f) % 2)) 0
-  as-edge p r q e s = rw (e, ← bit-sum x f, ← q) s
+  pub edge-fits : isEdge g j ≡ true → word g j / 2 < g .I + 1 + g .N
+  edge-fits e = omega (arith, o .admitted .below j (omega arith) e)
 
-  pub as-none : not (eqb (j % 3) 2 && eqb x mark) ≡ false → 0 ≡ cond (not (eqb (j % 3) 2 && eqb x mark)) (edgeCost t c (x / 2) ((x + f) % 2)) 0
-  as-none e = rw e
+  pub edge-is : (u b f r : ℕ) → isEdge g j ≡ true → u ≡ word g j / 2 → (b + f) % 2 ≡ (word (stands g sc) j + f) % 2 → r ≡ edgeCost t c u ((b + f) % 2) → r ≡ turnedCost (stands g sc) t c v i f
+  unfolding turnedCost
+  edge-is u b f r e p q s =
+      let a = stands-alike g sc (o .admitted) in
+      rw (alike-edge g (stands g sc) a j, e, ← q, a .wired j, ← p) s
 
--- a word of the graph that the state stands for
-pub number-fits : (g : Graph) (sc : List ℕ) → Ordered g sc → (j x : ℕ) → j < 3 * g .N → x ≡ word (stands g sc) j
-    → not (eqb (j % 3) 2 && eqb x mark) ≡ true → x / 2 < g .I + 1 + g .N
-unfolding isEdge stands turnedBy
-number-fits g sc o j x h e t =
-    let a = stands-admitted g sc (o .admitted) in
-    let b = a .below j h (rw (← e) t) in
-    omega (arith, ap (λ z. z / 2) e)
-
-pub number-is : (h : Graph) (t : ℕ → Bool) (c : ℕ → ℕ → ℕ) (v i f j x r : ℕ) → j ≡ 3 * v + i → x ≡ word h j
-    → r ≡ cond (not (eqb (j % 3) 2 && eqb x mark)) (edgeCost t c (x / 2) ((x + f) % 2)) 0 → r ≡ turnedCost h t c v i f
-unfolding turnedCost isEdge
-number-is h t c v i f j x r e q s = rw (← e, ← q) s
+  pub mark-is : (f : ℕ) → isEdge g j ≡ false → turnedCost (stands g sc) t c v i f ≡ 0
+  unfolding turnedCost
+  mark-is f e = rw (alike-edge g (stands g sc) (stands-alike g sc (o .admitted)) j, e)
 
 pub numbers-of : (h : Graph) (i : ℕ) (sc : List ℕ) (v : ℕ) (z : List ℕ) (s : ℕ) → z ≡ wordCosts h (innerAt i sc) (costAt i sc) v → s ≤ 1 → Numbers z 1 s
 numbers-of h i sc v z s e l = numbers-low h (innerAt i sc) (costAt i sc) v (costs-low i sc) z 1 s e l (omega arith)

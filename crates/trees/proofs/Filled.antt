@@ -1,47 +1,95 @@
 -- The state after the sweeps at the start is in order, and stands for the graph itself. From the laws on noting, on tallies and on
 -- links.
-use mathlib.Core.Path.{_≡_, refl, sym, _∙_}
+use mathlib.Core.Path.{_≡_, refl, sym, ap, _∙_}
 use mathlib.Core.Bool.{true, false, not, cond, _&&_}
 use mathlib.Core.List.{List}
 use mathlib.Core.Logic.{⊎-elim, _≢_}
 use Prim.Native.Nat.{ℕ, zero, suc, _+_, _-_, _*_, _/_, _%_, _≤_, _<_}
 use native.Mathlib.Omega.{arith}
-use borrow.Author.Tests.{eq-eqb, ne-eqb}
+use borrow.Author.Tests.{eq-eqb, ne-eqb, eqb-true}
 use lib.Dec.{eqb}
 use lib.ListN.{length, getD}
 use Rattle.graph.specs.Finite.{ifEqual, sum}
-use Rattle.graph.specs.Graph.{Graph, mark, node, word, output}
+use Rattle.graph.specs.Graph.{Graph, graphOf, mark, node, word, output, isEdge, isXor}
+use Rattle.graph.specs.Inner.{threeBits}
+use Rattle.graph.specs.Literals.{bit, bitOf}
 use Rattle.graph.specs.Count.{named, readers}
 use Rattle.graph.specs.Admission.{Admitted}
 use Rattle.graph.proofs.Cases.{true-or-false, lt-or-le, eq-or-ne}
 use Rattle.graph.proofs.Finite.{sum-le}
-use Rattle.graph.proofs.Turned.{by-never, upTo-zero}
+use Rattle.graph.proofs.Literals.{bit-mark, bitOf-le}
+use Rattle.graph.proofs.Turned.{by-never, by-same, upTo-zero}
+use Rattle.graph.proofs.Words.{edge-low, edge-bit}
 use Rattle.moves.specs.Tree.{last, isRoot, place}
 use Rattle.moves.specs.Cost.{shown}
 use Rattle.moves.specs.Decide.{Read}
 use Rattle.moves.proofs.Tally.{names-by, read-is, if-bit}
-use Rattle.state.specs.State.{field, pendingAt, due, outputDue, stands, Ordered}
-use Rattle.state.proofs.Stands.{pending-low, pending-high, pending-node}
-use Rattle.trees.specs.Filling.{Cleared, Noting, Notes, GatheredTo, onlyPlace}
+use Rattle.state.specs.State.{field, bitIn, keptBit, pendingAt, dueIn, due, outputDue, stands, Ordered}
+use Rattle.state.proofs.Stands.{kept-at, pending-low, pending-high, pending-node, due-edge, due-mark, due-past}
+use Rattle.trees.specs.Filling.{Cleared, Noting, Notes, GatheredTo, flagsOf, onlyPlace}
 use Rattle.trees.specs.Linking.{Rising, LowKept, Linking}
 use Rattle.trees.proofs.LinkSteps.{linking-all, placed-rising}
 
--- nothing pending: the graph itself
-module _ (g : Graph) (sc : List ℕ) (still : (v : ℕ) → v < g .N → field sc v 2 ≡ 0) where
-  none-pending : (u : ℕ) → pendingAt (g .I) (g .N) sc u ≡ 0
+-- what field 2 keeps of the table's bits
+module _ (l : List ℕ) (v : ℕ) where
+  flags-low : (x y z : ℕ) → x ≤ 1 → y ≤ 1 → z ≤ 1 → (bit 0 (2 * (x + 2 * y + 4 * z)) ≡ 0) × (bit 1 (2 * (x + 2 * y + 4 * z)) ≡ x) × (bit 2 (2 * (x + 2 * y + 4 * z)) ≡ y) × (bit 3 (2 * (x + 2 * y + 4 * z)) ≡ z)
+  unfolding bit
+  flags-low x y z p q r = (omega arith, omega arith, omega arith, omega arith)
+
+  abbrev at : ℕ → ℕ
+  at k = bitOf (getD l (3 * v + k) 0)
+
+  flags-are : (bit 0 (flagsOf l v) ≡ 0) × (bit 1 (flagsOf l v) ≡ bitOf (getD l (3 * v) 0)) × (bit 2 (flagsOf l v) ≡ at 1) × (bit 3 (flagsOf l v) ≡ at 2)
+  unfolding flagsOf threeBits
+  flags-are = flags-low (bitOf (getD l (3 * v) 0)) (at 1) (at 2) (bitOf-le _) (bitOf-le _) (bitOf-le _)
+
+-- nothing pending, and each word's bit kept: the graph itself
+module _ (i n o : ℕ) (ns os sc : List ℕ) (adm : Admitted (graphOf i n o ns os)) (kept : (v : ℕ) → v < n → field sc v 2 ≡ flagsOf ns v) where
+  abbrev g : Graph
+  g = graphOf i n o ns os
+
+  none-pending : (u : ℕ) → pendingAt i n sc u ≡ 0
   none-pending u =
       ⊎-elim
-      (λ (p : g .I < u).
+      (λ (p : i < u).
       ⊎-elim
-      (λ (q : u < node g (g .N)). pending-node (g .I) (g .N) sc u p q ∙ still (u - (g .I + 1)) (omega arith))
-      (λ (q : node g (g .N) ≤ u). pending-high (g .I) (g .N) sc u q)
-      (lt-or-le u (node g (g .N))))
-      (λ (p : u ≤ g .I). pending-low (g .I) (g .N) sc u p)
-      (lt-or-le (g .I) u)
+      (λ (q : u < node g n). pending-node i n sc u p q ∙ ap (bit 0) (kept (u - (i + 1)) (omega arith)) ∙ flags-are ns (u - (i + 1)) .0)
+      (λ (q : node g n ≤ u). pending-high i n sc u q)
+      (lt-or-le u (node g n)))
+      (λ (p : u ≤ i). pending-low i n sc u p)
+      (lt-or-le i u)
+
+  -- by its place among the node's words
+  kept-by : (k j : ℕ) → k < 3 → j ≡ 3 * (j / 3) + k → j < 3 * n → bitIn sc (j / 3) (1 + k) ≡ bitOf (word g j)
+  kept-by zero j h e l = ap (bit 1) (kept (j / 3) (omega arith)) ∙ flags-are ns (j / 3) .1 ∙ ap (λ (x : ℕ). bitOf (word g x)) (omega arith)
+  kept-by (suc zero) j h e l = ap (bit 2) (kept (j / 3) (omega arith)) ∙ flags-are ns (j / 3) .2 ∙ ap (λ (x : ℕ). bitOf (word g x)) (omega arith)
+  kept-by (suc (suc zero)) j h e l = ap (bit 3) (kept (j / 3) (omega arith)) ∙ flags-are ns (j / 3) .3 ∙ ap (λ (x : ℕ). bitOf (word g x)) (omega arith)
+  kept-by (suc (suc (suc k))) j h e l = absurd (omega arith)
+
+  kept-bit : (j : ℕ) → j < 3 * n → keptBit sc j ≡ bitOf (word g j)
+  kept-bit j h = kept-by (j % 3) j (omega arith) (omega arith) h
+
+  pub marks-kept : (v : ℕ) → v < n → isXor g v ≡ true → bitIn sc v 3 ≡ 0
+  unfolding isXor
+  marks-kept v h x =
+      sym (kept-at sc v 2 (omega arith)) ∙ kept-bit (3 * v + 2) (omega arith) ∙ bit-mark (word g (3 * v + 2)) (eqb-true (word g (3 * v + 2)) mark x)
+
+  -- what is due goes by twos
+  due-even : (j : ℕ) → due g sc j % 2 ≡ 0
+  due-even j =
+      ⊎-elim
+      (λ (h : j < 3 * n).
+      ⊎-elim
+      (λ (e : isEdge g j ≡ true). rw (due-edge g sc j h e, none-pending (word g j / 2)) (omega (arith, kept-bit j h, edge-bit (word g j) (edge-low g adm j h e))))
+      (λ (e : isEdge g j ≡ false). rw (due-mark g sc j e))
+      (true-or-false (isEdge g j)))
+      (λ (h : 3 * n ≤ j). rw (due-past g sc j h))
+      (lt-or-le j (3 * n))
 
   pub stands-itself : stands g sc ≡ g
-  unfolding stands due outputDue
-  stands-itself = by-never g (due g sc) (outputDue g sc) (λ j. upTo-zero (3 * g .N) _ j (none-pending (word g j / 2))) (λ j. upTo-zero (g .O) _ j (none-pending (output g j / 2)))
+  unfolding stands outputDue
+  stands-itself =
+      by-same g (due g sc) (outputDue g sc) (λ j. 0) (λ j. 0) due-even (λ j. ap (λ x. x % 2) (upTo-zero o (dueIn i n sc os) j (none-pending (output g j / 2)))) ∙ by-never g (λ j. 0) (λ j. 0) (λ j. refl) (λ j. refl)
 
 -- the last word whose literal names u is the last that names it
 last-same : (g : Graph) (u : ℕ) → u < 2147483647 → (n : ℕ) → last n (λ j. eqb (getD (g .nodes) j 0 / 2) u) ≡ last n (named g u)
@@ -131,64 +179,65 @@ gather-few i n l k w x sc₁ sc₂ sc₃ z ns os a b v h =
     (omega arith, omega (arith, os .counted v h))
 
 -- all sweeps
-module _ (g : Graph) (adm : Admitted g) (sc₁ sc₂ sc₃ sc₄ : List ℕ) (z : Cleared (g .N) sc₁) (ns : Notes (g .I) (g .N) 4 (g .nodes) sc₁ sc₂ (3 * g .N))
-    (os : Notes (g .I) (g .N) 6 (g .outputs) sc₂ sc₃ (g .O)) (ga : GatheredTo (g .N) sc₃ sc₄ (g .N)) where
-  module _ (v : ℕ) (h : v < g .N) where
+module _ (i n o : ℕ) (ps qs : List ℕ) (adm : Admitted (graphOf i n o ps qs)) (sc₁ sc₂ sc₃ sc₄ : List ℕ) (z : Cleared n sc₁)
+    (ns : Notes i n 4 ps sc₁ sc₂ (3 * n)) (os : Notes i n 6 qs sc₂ sc₃ o) (ga : GatheredTo ps n sc₃ sc₄ n) where
+  abbrev k : Graph
+  k = graphOf i n o ps qs
+
+  module _ (v : ℕ) (h : v < n) where
     odd-sum : ℕ
-    odd-sum = sum (3 * g .N) (λ j. ifEqual (getD (g .nodes) j 0 / 2) (node g v) (getD (g .nodes) j 0 % 2) 0)
+    odd-sum = sum (3 * n) (λ j. ifEqual (getD ps j 0 / 2) (node k v) (getD ps j 0 % 2) 0)
 
     out-odd-sum : ℕ
-    out-odd-sum = sum (g .O) (λ j. ifEqual (getD (g .outputs) j 0 / 2) (node g v) (getD (g .outputs) j 0 % 2) 0)
+    out-odd-sum = sum o (λ j. ifEqual (getD qs j 0 / 2) (node k v) (getD qs j 0 % 2) 0)
 
     four : field sc₃ v 4 ≡ field sc₂ v 4
     four = os .kept (8 * v + 4) (omega arith) (omega arith) (omega arith)
 
-    read : Read g (node g v) (field sc₃ v 4 + field sc₃ v 6) (field sc₃ v 4) (odd-sum + out-odd-sum)
+    read : Read k (node k v) (field sc₃ v 4 + field sc₃ v 6) (field sc₃ v 4) (odd-sum + out-odd-sum)
     unfolding odd-sum out-odd-sum
     read =
-        read-is g (node g v) (omega (arith, adm .few-inputs, adm .few-nodes)) (field sc₃ v 4) odd-sum (field sc₃ v 6) out-odd-sum
+        read-is k (node k v) (omega (arith, adm .few-inputs, adm .few-nodes)) (field sc₃ v 4) odd-sum (field sc₃ v 6) out-odd-sum
         (record { names = four ∙ ns .counted v h; odd = refl }) (record { names = os .counted v h; odd = refl })
 
-    pub placed-four : field sc₄ v 3 ≡ cond (isRoot g (node g v)) mark (place g (node g v))
+    pub placed-four : field sc₄ v 3 ≡ cond (isRoot k (node k v)) mark (place k (node k v))
     unfolding isRoot place
     placed-four =
         ga .only v h ∙ only-if (field sc₃ v 4) (field sc₃ v 6) (field sc₃ v 5) ∙
         rw (
           read .all,
           read .in-nodes,
-          os .kept (8 * v + 5) (omega arith) (omega arith) (omega arith) ∙ ns .placed v h ∙ last-same g (node g v) (omega (arith, adm .few-inputs, adm .few-nodes)) (3 * g .N),
+          os .kept (8 * v + 5) (omega arith) (omega arith) (omega arith) ∙ ns .placed v h ∙ last-same k (node k v) (omega (arith, adm .few-inputs, adm .few-nodes)) (3 * n),
         )
 
-  pub rising-four : Rising (g .N) sc₄
-  rising-four = placed-rising g adm sc₄ placed-four
+  pub rising-four : Rising n sc₄
+  rising-four = placed-rising k adm sc₄ placed-four
 
   module _ (sc₅ : List ℕ) (lk : LowKept sc₄ sc₅) where
-    module _ (v : ℕ) (h : v < g .N) where
-      reads-are : field sc₅ v 0 ≡ readers g (node g v)
+    module _ (v : ℕ) (h : v < n) where
+      reads-are : field sc₅ v 0 ≡ readers k (node k v)
       reads-are = lk (8 * v + 0) (omega arith) ∙ ga .all v h ∙ read v h .all
 
-      odd-is : field sc₅ v 1 ≡ shown g (node g v) 0
+      odd-is : field sc₅ v 1 ≡ shown k (node k v) 0
       unfolding odd-sum out-odd-sum
       odd-is =
-          lk (8 * v + 1) (omega arith) ∙ ga .kept (8 * v + 1) (omega arith) (omega arith) ∙ os .odd v h ∙
+          lk (8 * v + 1) (omega arith) ∙ ga .kept (8 * v + 1) (omega arith) (omega arith) (omega arith) ∙ os .odd v h ∙
           omega (arith, ns .odd v h, z (8 * v + 1) (omega arith), read v h .odd)
 
-      still : field sc₅ v 2 ≡ 0
-      still =
-          lk (8 * v + 2) (omega arith) ∙ ga .kept (8 * v + 2) (omega arith) (omega arith) ∙ os .kept (8 * v + 2) (omega arith) (omega arith) (omega arith) ∙
-          ns .kept (8 * v + 2) (omega arith) (omega arith) (omega arith) ∙ z (8 * v + 2) (omega arith)
+      flags-kept : field sc₅ v 2 ≡ flagsOf ps v
+      flags-kept = lk (8 * v + 2) (omega arith) ∙ ga .flags v h
 
-    pub filled : 8 * g .N ≤ length sc₅ → Linking g sc₅ 0 → Ordered g sc₅ × (stands g sc₅ ≡ g)
+    pub filled : 8 * n ≤ length sc₅ → Linking k sc₅ 0 → Ordered k sc₅ × (stands k sc₅ ≡ k)
     filled l links =
-        let s = stands-itself g sc₅ still in (
+        let s = stands-itself i n o ps qs sc₅ adm flags-kept in (
           record {
             admitted = adm;
             long = l;
             reads = reads-are;
             odd = λ v h. rw s (odd-is v h);
-            pending = λ v h. omega (arith, still v h);
+            marks = marks-kept i n o ps qs sc₅ adm flags-kept;
             placed = λ v h. lk (8 * v + 3) (omega arith) ∙ placed-four v h;
-            linked = linking-all g sc₅ links;
+            linked = linking-all k sc₅ links;
           },
           s,
         )

@@ -10,5 +10,6 @@ pub mod CostPass
 pub mod Falling
 pub mod Shown
 pub mod DecidePass
+pub mod Decided
 pub mod MakePass
 pub mod Parting

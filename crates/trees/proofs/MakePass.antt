@@ -45,26 +45,26 @@ in-or-out h r m d u same off low high =
     (λ (a : u ≤ h .I). rw (le-ltb (h .I) u a) (sym (low a)))
     (lt-or-le (h .I) u)
 
--- the moves of the tree's nodes from n on, as scratch sc₁ has them, are made
-pub record MadeFrom (h : Graph) (sc₁ : List ℕ) (r n : ℕ) (g : Graph) (sc : List ℕ) : Type 0 where
-  pub d : Choice
-  pub ordered : Ordered g sc
-  pub stands-for : stands g sc ≡ apply h d
-  pub kept : TreesKept sc₁ sc
+-- d is the choice of the moves that scratch sc has for the tree's nodes from n on
+pub record Chosen (h : Graph) (sc : List ℕ) (r n : ℕ) (d : Choice) : Type 0 where
   pub permitted : Permitted h d
   pub off : Off h (node h r) d
   pub low : (u : ℕ) → u < node h n → d u ≡ 0
   pub high : (u : ℕ) → node h (h .N) ≤ u → d u ≡ 0
-  pub made : (v : ℕ) → n ≤ v → v < h .N → rootOf h (node h v) ≡ node h r → d (node h v) ≡ field sc₁ v 4
+  pub made : (v : ℕ) → n ≤ v → v < h .N → rootOf h (node h v) ≡ node h r → d (node h v) ≡ field sc v 4
+
+-- the state in which they are made
+pub record MadeFrom (h : Graph) (sc₁ : List ℕ) (r n : ℕ) (g : Graph) (sc : List ℕ) : Type 0 where
+  pub d : Choice
+  pub chosen : Chosen h sc₁ r n d
+  pub ordered : Ordered g sc
+  pub stands-for : stands g sc ≡ apply h d
+  pub kept : TreesKept sc₁ sc
 
 module _ (h : Graph) (sc₁ : List ℕ) (adm : Admitted h) (r : ℕ) (rn : r < h .N) where
-  pub made-begin : (g : Graph) → Ordered g sc₁ → stands g sc₁ ≡ h → MadeFrom h sc₁ r (suc r) g sc₁
-  made-begin g o e =
+  pub chosen-none : Chosen h sc₁ r (suc r) none
+  chosen-none =
       record {
-        d = none;
-        ordered = o;
-        stands-for = e ∙ sym (apply-idle h none adm (λ u. refl));
-        kept = record { long = refl; others = λ v f l p q. refl };
         permitted = λ v l. kind-pos h (node h v);
         off = λ u q. refl;
         low = λ u q. refl;
@@ -73,95 +73,109 @@ module _ (h : Graph) (sc₁ : List ℕ) (adm : Admitted h) (r : ℕ) (rn : r < h
       }
 
   -- fewer nodes than n, none of the tree between
-  pub made-down : (n n′ : ℕ) (g : Graph) (sc : List ℕ) → n′ ≤ n → ((x : ℕ) → n′ ≤ x → x < n → rootOf h (node h x) ≢ node h r) → MadeFrom h sc₁ r n g sc → MadeFrom h sc₁ r n′ g sc
-  made-down n n′ g sc l free mf =
+  pub chosen-down : (n n′ : ℕ) (d : Choice) → n′ ≤ n → ((x : ℕ) → n′ ≤ x → x < n → rootOf h (node h x) ≢ node h r) → Chosen h sc₁ r n d → Chosen h sc₁ r n′ d
+  chosen-down n n′ d l free c =
       record {
-        d = mf .d;
-        ordered = mf .ordered;
-        stands-for = mf .stands-for;
-        kept = mf .kept;
-        permitted = mf .permitted;
-        off = mf .off;
-        low = λ u q. mf .low u (omega arith);
-        high = mf .high;
-        made = λ v k b t. ⊎-elim (λ (a : v < n). absurd (free v k a t)) (λ (a : n ≤ v). mf .made v a b t) (lt-or-le v n);
+        permitted = c .permitted;
+        off = c .off;
+        low = λ u q. c .low u (omega arith);
+        high = c .high;
+        made = λ v k b t. ⊎-elim (λ (a : v < n). absurd (free v k a t)) (λ (a : n ≤ v). c .made v a b t) (lt-or-le v n);
       }
 
-  -- all made: the tree call
-  pub made-all : (ls : List ℕ) (g : Graph) (sc : List ℕ) → TreeDecided h ls (node h r) sc₁ → MadeFrom h sc₁ r 0 g sc → stands g sc ≡ moved h (tree h (node h r)) (bestAt h ls (tree h (node h r)))
+  -- all of them: the tree call
+  pub chosen-all : (ls : List ℕ) (d : Choice) → TreeDecided h ls (node h r) sc₁ → Chosen h sc₁ r 0 d → apply h d ≡ moved h (tree h (node h r)) (bestAt h ls (tree h (node h r)))
   unfolding moved
-  made-all ls g sc td mf =
-      mf .stands-for ∙ ap (apply h) (sym only-tree) ∙ ap (apply h) (sym (put-tree h (node h r) (movesIn (h .I) sc₁))) ∙
-      ap (λ ms. apply h (put none (tree h (node h r)) ms)) (td .best)
+  chosen-all ls d td c =
+      ap (apply h) (sym only-tree) ∙ ap (apply h) (sym (put-tree h (node h r) (movesIn (h .I) sc₁))) ∙ ap (λ ms. apply h (put none (tree h (node h r)) ms)) (td .best)
     where
-      inside : (u : ℕ) → h .I < u → u < node h (h .N) → rootOf h u ≡ node h r → movesIn (h .I) sc₁ u ≡ mf .d u
+      inside : (u : ℕ) → h .I < u → u < node h (h .N) → rootOf h u ≡ node h r → movesIn (h .I) sc₁ u ≡ d u
       inside u a b t =
           let v : ℕ = u - (h .I + 1) in
           let q : node h v ≡ u = omega arith in
-          (rw q at (moves-at h sc₁ v ∙ sym (mf .made v (omega arith) (omega arith) (rw q t))))
+          (rw q at (moves-at h sc₁ v ∙ sym (c .made v (omega arith) (omega arith) (rw q t))))
 
-      only-tree : within h (node h r) (movesIn (h .I) sc₁) ≡ mf .d
-      only-tree = fun-ext (λ u. in-or-out h (node h r) (movesIn (h .I) sc₁) (mf .d) u (inside u) (mf .off u) (λ l. mf .low u (omega arith)) (mf .high u))
+      only-tree : within h (node h r) (movesIn (h .I) sc₁) ≡ d
+      only-tree = fun-ext (λ u. in-or-out h (node h r) (movesIn (h .I) sc₁) d u (inside u) (c .off u) (λ l. c .low u (omega arith)) (c .high u))
 
-  -- the move m at node v of the tree, those above it made
-  module _ (v : ℕ) (vn : v < h .N) (here : rootOf h (node h v) ≡ node h r) (g : Graph) (sc : List ℕ) (mf : MadeFrom h sc₁ r (suc v) g sc) (m : ℕ) (fits : m < kindMoves h (node h v)) (em : m ≡ field sc₁ v 4)
-      (i : ℕ) (ei : i ≡ h .I) where
-    d′ : Choice
-    d′ = at (mf .d) (node h v) m
+  -- the move m at node v of the tree besides those above it
+  module _ (v : ℕ) (vn : v < h .N) (here : rootOf h (node h v) ≡ node h r) (d : Choice) (c : Chosen h sc₁ r (suc v) d) (m : ℕ) (fits : m < kindMoves h (node h v)) (em : m ≡ field sc₁ v 4) where
+    still-own : d (node h v) ≡ 0
+    still-own = c .low (node h v) (omega arith)
 
-    still-own : mf .d (node h v) ≡ 0
-    still-own = mf .low (node h v) (omega arith)
-
-    all-fit : (u : ℕ) → mf .d u < kindMoves h u
+    all-fit : (u : ℕ) → d u < kindMoves h u
     all-fit u =
         ⊎-elim
         (λ (a : h .I < u).
         ⊎-elim
-        (λ (b : u < node h (h .N)). let q : node h (u - (h .I + 1)) ≡ u = omega arith in (rw q at (mf .permitted (u - (h .I + 1)) (omega arith))))
-        (λ (b : node h (h .N) ≤ u). rw (mf .high u b) (kind-pos h u))
+        (λ (b : u < node h (h .N)). let q : node h (u - (h .I + 1)) ≡ u = omega arith in (rw q at (c .permitted (u - (h .I + 1)) (omega arith))))
+        (λ (b : node h (h .N) ≤ u). rw (c .high u b) (kind-pos h u))
         (lt-or-le u (node h (h .N))))
-        (λ (a : u ≤ h .I). rw (mf .low u (omega arith)) (kind-pos h u))
+        (λ (a : u ≤ h .I). rw (c .low u (omega arith)) (kind-pos h u))
         (lt-or-le (h .I) u)
 
-    joined : compose h (mf .d) (at none (node h v) m) ≡ d′
-    unfolding compose d′
+    joined : compose h d (at none (node h v) m) ≡ at d (node h v) m
+    unfolding compose
     joined =
         fun-ext (λ u.
         ⊎-elim
         (λ (e : u ≡ node h v).
         let q : node h v - (h .I + 1) ≡ v = omega arith in
-        rw (e, at-same none (node h v) m, at-same (mf .d) (node h v) m, still-own, q) (combined-right (isXor h v) m (node-row h v m fits)))
+        rw (e, at-same none (node h v) m, at-same d (node h v) m, still-own, q) (combined-right (isXor h v) m (node-row h v m fits)))
         (λ (e : u ≢ node h v).
-        rw (at-other none (node h v) m u e, at-other (mf .d) (node h v) m u e) (combined-left (isXor h (u - (h .I + 1))) (mf .d u) (has-row h u (mf .d u) (all-fit u))))
+        rw (at-other none (node h v) m u e, at-other d (node h v) m u e) (combined-left (isXor h (u - (h .I + 1))) (d u) (has-row h u (d u) (all-fit u))))
         (eq-or-ne u (node h v)))
 
-    permitted-with : (d : Choice) → Permitted h d → Permitted h (at d (node h v) m)
-    permitted-with d p w l =
+    permitted-with : (y : Choice) → Permitted h y → Permitted h (at y (node h v) m)
+    permitted-with y p w l =
         ⊎-elim
-        (λ (e : w ≡ v). rw (e, at-same d (node h v) m) fits)
-        (λ (e : w ≢ v). rw (at-other d (node h v) m (node h w) (λ z. e (omega arith))) (p w l))
+        (λ (e : w ≡ v). rw (e, at-same y (node h v) m) fits)
+        (λ (e : w ≢ v). rw (at-other y (node h v) m (node h w) (λ z. e (omega arith))) (p w l))
         (eq-or-ne w v)
 
-    moved-to : apply (stands g sc) (at none (i + 1 + v) m) ≡ apply h d′
-    moved-to =
-        ap (λ y. apply y (at none (i + 1 + v) m)) (mf .stands-for) ∙ ap (λ y. apply (apply h (mf .d)) (at none (y + 1 + v) m)) ei ∙
-        apply-apply h (mf .d) (at none (node h v) m) (mf .permitted) (permitted-with none (λ w l. kind-pos h (node h w))) adm ∙ ap (apply h) joined
+    pub chosen-applied : apply (apply h d) (at none (node h v) m) ≡ apply h (at d (node h v) m)
+    chosen-applied = apply-apply h d (at none (node h v) m) (c .permitted) (permitted-with none (λ w l. kind-pos h (node h w))) adm ∙ ap (apply h) joined
 
-    pub made-step : (g′ : Graph) (sc′ : List ℕ) → Became sc g′ sc′ (apply (stands g sc) (at none (i + 1 + v) m)) → MadeFrom h sc₁ r v g′ sc′
-    unfolding d′
-    made-step g′ sc′ be =
+    pub chosen-step : Chosen h sc₁ r v (at d (node h v) m)
+    chosen-step =
         record {
-          d = d′;
-          ordered = be .ordered;
-          stands-for = be .stands-for ∙ moved-to;
-          kept = record { long = be .kept .long ∙ mf .kept .long; others = λ w f l p q. be .kept .others w f l p q ∙ mf .kept .others w f l p q };
-          permitted = permitted-with (mf .d) (mf .permitted);
-          off = λ u e. at-other (mf .d) (node h v) m u (λ z. e (rw z here)) ∙ mf .off u e;
-          low = λ u l. at-other (mf .d) (node h v) m u (λ z. omega arith) ∙ mf .low u (omega arith);
-          high = λ u l. at-other (mf .d) (node h v) m u (λ z. omega arith) ∙ mf .high u l;
+          permitted = permitted-with d (c .permitted);
+          off = λ u e. at-other d (node h v) m u (λ z. e (rw z here)) ∙ c .off u e;
+          low = λ u l. at-other d (node h v) m u (λ z. omega arith) ∙ c .low u (omega arith);
+          high = λ u l. at-other d (node h v) m u (λ z. omega arith) ∙ c .high u l;
           made = λ w l b t.
               ⊎-elim
-              (λ (e : v ≡ w). rw (← e, at-same (mf .d) (node h v) m) em)
-              (λ (e : v < w). at-other (mf .d) (node h v) m (node h w) (λ q. omega arith) ∙ mf .made w e b t)
+              (λ (e : v ≡ w). rw (← e, at-same d (node h v) m) em)
+              (λ (e : v < w). at-other d (node h v) m (node h w) (λ q. omega arith) ∙ c .made w e b t)
               (eq-or-lt-of-le l);
         }
+
+  -- the same of states
+  pub made-begin : (g : Graph) → Ordered g sc₁ → stands g sc₁ ≡ h → MadeFrom h sc₁ r (suc r) g sc₁
+  made-begin g o e =
+      record {
+        d = none;
+        chosen = chosen-none;
+        ordered = o;
+        stands-for = e ∙ sym (apply-idle h none adm (λ u. refl));
+        kept = record { long = refl; others = λ v f l p q. refl };
+      }
+
+  pub made-down : (n n′ : ℕ) (g : Graph) (sc : List ℕ) → n′ ≤ n → ((x : ℕ) → n′ ≤ x → x < n → rootOf h (node h x) ≢ node h r) → MadeFrom h sc₁ r n g sc → MadeFrom h sc₁ r n′ g sc
+  made-down n n′ g sc l free mf =
+      record { d = mf .d; chosen = chosen-down n n′ (mf .d) l free (mf .chosen); ordered = mf .ordered; stands-for = mf .stands-for; kept = mf .kept }
+
+  pub made-all : (ls : List ℕ) (g : Graph) (sc : List ℕ) → TreeDecided h ls (node h r) sc₁ → MadeFrom h sc₁ r 0 g sc → stands g sc ≡ moved h (tree h (node h r)) (bestAt h ls (tree h (node h r)))
+  made-all ls g sc td mf = mf .stands-for ∙ chosen-all ls (mf .d) td (mf .chosen)
+
+  pub made-step : (v : ℕ) → v < h .N → rootOf h (node h v) ≡ node h r → (g : Graph) (sc : List ℕ) → MadeFrom h sc₁ r (suc v) g sc → (m : ℕ) → m < kindMoves h (node h v) → m ≡ field sc₁ v 4
+      → (i : ℕ) → i ≡ h .I → (g′ : Graph) (sc′ : List ℕ) → Became sc g′ sc′ (apply (stands g sc) (at none (i + 1 + v) m)) → MadeFrom h sc₁ r v g′ sc′
+  made-step v vn here g sc mf m fits em i ei g′ sc′ be =
+      record {
+        d = at (mf .d) (node h v) m;
+        chosen = chosen-step v vn here (mf .d) (mf .chosen) m fits em;
+        ordered = be .ordered;
+        stands-for = be .stands-for ∙ ap (λ y. apply y (at none (i + 1 + v) m)) (mf .stands-for) ∙ ap (λ y. apply (apply h (mf .d)) (at none (y + 1 + v) m)) ei ∙
+            chosen-applied v vn here (mf .d) (mf .chosen) m fits em;
+        kept = record { long = be .kept .long ∙ mf .kept .long; others = λ w f l p q. be .kept .others w f l p q ∙ mf .kept .others w f l p q };
+      }

@@ -15,7 +15,7 @@ use Rattle.graph.proofs.Cases.{eq-or-ne}
 use Rattle.graph.proofs.Finite.{sum-le}
 use Rattle.graph.proofs.Tests.{equal, unequal}
 use Rattle.state.specs.State.{field}
-use Rattle.trees.specs.Filling.{Stored, Counting, Noted, Noting, Notes, Gathered, GatheredTo, onlyPlace}
+use Rattle.trees.specs.Filling.{Stored, Counting, Noted, Noting, Notes, Gathered, GatheredTo, flagsOf, onlyPlace}
 
 -- a literal that names no node
 pub noted-none : (i n f x p : ℕ) (sc : List ℕ) → ((v : ℕ) → v < n → x / 2 ≢ i + 1 + v) → Noted i n f x p sc sc
@@ -121,33 +121,36 @@ module _ (i n f : ℕ) (l sc : List ℕ) (ng : Noting i n f sc) where
           odd-low = λ v h. omega (arith, s .odd v h, ct .odd-low v h, sum-le (λ j. ifEqual (getD l j 0 / 2) (i + 1 + v) (getD l j 0 % 2) 0) (λ j. bits _ _ (getD l j 0 % 2) (omega arith)) m);
         }
 
--- fields 0 and 3
-pub gathered-at : (v a b p q : ℕ) (sc sc₁ sc₂ : List ℕ) → 8 * v + 8 ≤ length sc → a ≡ field sc v 4 → b ≡ field sc v 6 → p ≡ field sc v 5
-    → Stored v 0 (a + b) sc sc₁ → q ≡ onlyPlace a b p → Stored v 3 q sc₁ sc₂ → Gathered v sc sc₂
-gathered-at v a b p q sc sc₁ sc₂ h ea eb ep e₁ eq e₂ =
+-- fields 0, 3 and 2
+pub gathered-at : (l : List ℕ) (v a b p q t : ℕ) (sc sc₁ sc₂ sc₃ : List ℕ) → a ≡ field sc v 4 → b ≡ field sc v 6 → p ≡ field sc v 5
+    → Stored v 0 (a + b) sc sc₁ → q ≡ onlyPlace a b p → Stored v 3 q sc₁ sc₂ → t ≡ flagsOf l v → Stored v 2 t sc₂ sc₃ → Gathered l v sc sc₃
+gathered-at l v a b p q t sc sc₁ sc₂ sc₃ ea eb ep e₁ eq e₂ et e₃ =
     record {
-      all = e₂ .old (8 * v + 0) (omega arith) ∙ e₁ .new ∙ rw (ea, eb);
-      only = e₂ .new ∙ rw (eq, ea, eb, ep);
-      kept = λ j k l. e₂ .old j l ∙ e₁ .old j k;
+      all = e₃ .old (8 * v + 0) (omega arith) ∙ e₂ .old (8 * v + 0) (omega arith) ∙ e₁ .new ∙ rw (ea, eb);
+      only = e₃ .old (8 * v + 3) (omega arith) ∙ e₂ .new ∙ rw (eq, ea, eb, ep);
+      flags = e₃ .new ∙ et;
+      kept = λ j k m l. e₃ .old j m ∙ e₂ .old j l ∙ e₁ .old j k;
     }
 
-module _ (n : ℕ) (sc : List ℕ) where
-  pub gathered-zero : GatheredTo n sc sc 0
-  gathered-zero = record { all = λ v h. absurd (omega arith); only = λ v h. absurd (omega arith); kept = λ j a b. refl }
+module _ (l : List ℕ) (n : ℕ) (sc : List ℕ) where
+  pub gathered-zero : GatheredTo l n sc sc 0
+  gathered-zero = record { all = λ v h. absurd (omega arith); only = λ v h. absurd (omega arith); flags = λ v h. absurd (omega arith); kept = λ j a b c. refl }
 
-  pub gathered-suc : (sc′ sc″ : List ℕ) (m : ℕ) → GatheredTo n sc sc′ m → Gathered m sc′ sc″ → GatheredTo n sc sc″ (m + 1)
+  pub gathered-suc : (sc′ sc″ : List ℕ) (m : ℕ) → GatheredTo l n sc sc′ m → Gathered l m sc′ sc″ → GatheredTo l n sc sc″ (m + 1)
   gathered-suc sc′ sc″ m g s =
-      let f : (k : ℕ) → 4 ≤ k → k < 8 → field sc′ m k ≡ field sc m k = λ k a b. g .kept (8 * m + k) (omega arith) (omega arith) in
+      let f : (k : ℕ) → 4 ≤ k → k < 8 → field sc′ m k ≡ field sc m k = λ k a b. g .kept (8 * m + k) (omega arith) (omega arith) (omega arith) in
+      let old : (v k : ℕ) → v < m → k < 8 → field sc″ v k ≡ field sc′ v k = λ v k l b. s .kept (8 * v + k) (omega arith) (omega arith) (omega arith) in
       record {
         all = λ v h.
             ⊎-elim
             (λ (q : v ≡ m). rw q (s .all ∙ rw (f 4 (omega arith) (omega arith), f 6 (omega arith) (omega arith))))
-            (λ (l : v < m). s .kept (8 * v + 0) (omega arith) (omega arith) ∙ g .all v l)
+            (λ (l : v < m). old v 0 l (omega arith) ∙ g .all v l)
             (eq-or-lt-of-le (omega arith));
         only = λ v h.
             ⊎-elim
             (λ (q : v ≡ m). rw q (s .only ∙ rw (f 4 (omega arith) (omega arith), f 5 (omega arith) (omega arith), f 6 (omega arith) (omega arith))))
-            (λ (l : v < m). s .kept (8 * v + 3) (omega arith) (omega arith) ∙ g .only v l)
+            (λ (l : v < m). old v 3 l (omega arith) ∙ g .only v l)
             (eq-or-lt-of-le (omega arith));
-        kept = λ j a b. s .kept j (λ q. a (omega arith)) (λ q. b (omega arith)) ∙ g .kept j a b;
+        flags = λ v h. ⊎-elim (λ (q : v ≡ m). rw q (s .flags)) (λ (l : v < m). old v 2 l (omega arith) ∙ g .flags v l) (eq-or-lt-of-le (omega arith));
+        kept = λ j a b c. s .kept j (λ q. a (omega arith)) (λ q. b (omega arith)) (λ q. c (omega arith)) ∙ g .kept j a b c;
       }

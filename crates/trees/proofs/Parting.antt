@@ -16,10 +16,10 @@ use Rattle.moves.specs.Tree.{isRoot, tree}
 use Rattle.moves.proofs.Deciding.{numbers-low}
 use Rattle.moves.proofs.Rooted.{tree-best-others}
 use Rattle.state.specs.State.{field, stands, Ordered}
-use Rattle.state.specs.Step.{Parted}
+use Rattle.state.specs.Step.{Made, Parted}
 use Rattle.state.proofs.Alike.{alike-isRoot}
 use Rattle.state.proofs.Stands.{stands-alike, stands-admitted}
-use Rattle.trees.specs.Stepping.{TreeMade, treeMoved}
+use Rattle.trees.specs.Stepping.{treeMoved}
 
 odd-few : (g : Graph) (sc : List ℕ) → Ordered g sc → (v : ℕ) → v < g .N → field sc v 1 ≤ 304096
 unfolding numbersOf stands turnedBy
@@ -33,15 +33,14 @@ module _ (g : Graph) (ls sc : List ℕ) (o : Ordered g sc) (v : ℕ) (l : v < g 
       let a = stands-alike g sc (o .admitted) in
       sym (tree-best-others h (stands-admitted g sc (o .admitted)) v l (alike-isRoot g h a (node g v) ∙ t) ls)
 
-  pub tree-parted : isRoot g (node g v) ≡ true → (g′ : Graph) (sc′ : List ℕ) (c : ℕ) → g′ .I ≡ g .I → g′ .N ≡ g .N → TreeMade sc g′ sc′ (treeMoved (stands g sc) ls (node g v)) c
+  pub tree-parted : isRoot g (node g v) ≡ true → (sc′ : List ℕ) (c : ℕ) → Made sc g sc′ (treeMoved (stands g sc) ls (node g v)) c
       → (b a : ℕ) → b ≡ field sc v 1 → a ≡ field sc′ v 1 → Parted (rewrite (stands g sc) ls (tree (stands g sc) (node g v))) (record { count = c; before = b; after = a })
-  tree-parted t g′ sc′ c i n m b a p q =
-      let u : v < g′ .N = omega arith in
+  tree-parted t sc′ c m b a p q =
       let x : b ≡ shown (stands g sc) (node g v) 0 = p ∙ o .odd v l in
       let y : a ≡ shown (treeMoved (stands g sc) ls (node g v)) (node g v) 0 =
-      q ∙ m .ordered .odd v u ∙ ap (λ (k : ℕ). shown (stands g′ sc′) (k + 1 + v) 0) i ∙ ap (λ (k : Graph). shown k (node g v) 0) (m .stands-for) in
+      q ∙ m .became .ordered .odd v l ∙ ap (λ (k : Graph). shown k (node g v) 0) (m .became .stands-for) in
       record {
         others = sym (ap (λ (z : ℕ). difference z a) x ∙ ap (λ (z : ℕ). difference (shown (stands g sc) (node g v) 0) z) y ∙ others-now t);
         few = omega (arith, p, odd-few g sc o v l);
-        few-after = omega (arith, q, odd-few g′ sc′ (m .ordered) v u);
+        few-after = omega (arith, q, odd-few g sc′ (m .became .ordered) v l);
       }

@@ -16,6 +16,7 @@ use Rattle.graph.proofs.Cases.{true-or-false, lt-or-le}
 use Rattle.moves.specs.Tree.{isRoot, rootOf}
 use Rattle.moves.specs.Cost.{inner}
 use Rattle.moves.proofs.Readers.{both-true, rootOf-inner, reader-is}
+use Rattle.graph.specs.Literals.{bit}
 use Rattle.state.specs.State.{field, stands, Linked, Ordered}
 use Rattle.state.proofs.Alike.{alike-readers, alike-isRoot, alike-place, alike-linked}
 use Rattle.state.proofs.Stands.{stands-alike, stands-admitted, stands-same}
@@ -46,6 +47,10 @@ ordered-ready g sc o =
       placed = λ v h. rw (alike-isRoot g (stands g sc) a (node (stands g sc) v), alike-place g (stands g sc) a (node (stands g sc) v), stands-I g sc) (o .placed v (rw (stands-N g sc) at h));
       linked = alike-linked g (stands g sc) a sc sc (record { long = refl; others = λ v f l p q. refl }) (o .linked);
     }
+
+-- and for the tables' own
+pub ordered-itself : (g : Graph) (sc : List ℕ) → Ordered g sc → Ready g sc
+ordered-itself g sc o = record { admitted = o .admitted; reads = o .reads; placed = o .placed; linked = o .linked }
 
 -- the links and places are all that counts
 pub linked-kept : (h : Graph) (sc sc′ : List ℕ) → ((v f : ℕ) → 5 ≤ f → f < 8 → field sc′ v f ≡ field sc v f) → Linked h sc → Linked h sc′
@@ -86,7 +91,7 @@ module _ (g : Graph) (sc sc′ : List ℕ) (co : CostsOnly sc sc′) where
         long = omega (arith, o .long, co .same);
         reads = λ v h. field-kept v 0 (omega arith) (λ e. omega arith) ∙ o .reads v h;
         odd = λ v h. rw stands-costs (field-kept v 1 (omega arith) (λ e. omega arith) ∙ o .odd v h);
-        pending = λ v h. rw (field-kept v 2 (omega arith) (λ e. omega arith)) (o .pending v h);
+        marks = λ v h x. ap (bit 3) (field-kept v 2 (omega arith) (λ e. omega arith)) ∙ o .marks v h x;
         placed = λ v h. field-kept v 3 (omega arith) (λ e. omega arith) ∙ o .placed v h;
         linked = linked-kept g sc sc′ (λ v f a b. field-kept v f b (λ e. omega arith)) (o .linked);
       }

@@ -1,24 +1,24 @@
 -- What a node is shown once the nodes above it are decided, and the numbers that it is decided by. From the laws on a node's
 -- numbers and on places.
 use mathlib.Core.Path.{_≡_, refl, sym, _∙_}
-use mathlib.Core.Bool.{Bool, false}
+use mathlib.Core.Bool.{Bool, true, false}
 use mathlib.Core.List.{List}
 use mathlib.Core.Logic.{⊎-elim, _≢_}
 use Prim.Native.Nat.{ℕ, _+_, _*_, _/_, _%_, _≤_, _<_}
 use native.Mathlib.Omega.{arith}
 use borrow.Author.Tests.{eqb-true, not-false}
 use lib.Dec.{eqb}
-use Rattle.graph.specs.Graph.{Graph, mark, node, word, isXor}
+use Rattle.graph.specs.Graph.{Graph, mark, node, word, isEdge, isXor}
 use Rattle.graph.specs.Count.{nodeReaders, readers}
 use Rattle.graph.proofs.Cases.{eq-or-ne}
 use Rattle.graph.proofs.Tests.{equal, unequal}
 use Rattle.moves.specs.Rows.{arity, flag, kindMoves}
-use Rattle.moves.specs.Tree.{isRoot}
+use Rattle.moves.specs.Tree.{isRoot, place}
 use Rattle.moves.specs.Cost.{wordCosts}
 use Rattle.moves.specs.Decide.{Numbers}
 use Rattle.moves.proofs.Moves.{node-row}
 use Rattle.moves.proofs.NodeCosts.{numbers-low}
-use Rattle.moves.proofs.Readers.{both-true, single}
+use Rattle.moves.proofs.Readers.{both-true, names, single}
 use Rattle.state.specs.State.{field, stands, Ordered}
 use Rattle.trees.specs.Costing.{innerAt, costAt}
 use Rattle.trees.specs.Deciding.{showsAt, oddAt, ReaderDecided}
@@ -33,9 +33,9 @@ pub fits-kind : (g : Graph) (v : ℕ) (x : Bool) (m k : ℕ) → x ≡ isXor g v
 fits-kind g v x m k p q l = rw (p, q) (node-row g v k l)
 
 module _ (g : Graph) (sc : List ℕ) where
-  pub shown-is : (p x f m : ℕ) (b : Bool) → x ≡ word (stands g sc) p → b ≡ isXor g (p / 3) → m ≡ field sc (p / 3) 4 → f ≡ flag b m (p % 3) → (x % 2 + f) % 2 ≡ showsAt g sc p
+  pub shown-is : (p x f m : ℕ) (b : Bool) → x ≡ word (stands g sc) p % 2 → b ≡ isXor g (p / 3) → m ≡ field sc (p / 3) 4 → f ≡ flag b m (p % 3) → (x + f) % 2 ≡ showsAt g sc p
   unfolding showsAt
-  shown-is p x f m b ex eb em ef = rw (← ex, ← eb, ← em, ← ef) (omega arith)
+  shown-is p x f m b ex eb em ef = rw (← eb, ← em, ← ef) (omega arith)
 
   pub odd-mark : (v p r : ℕ) → p ≡ field sc v 3 → p ≡ mark → r ≡ field sc v 1 → r ≡ oddAt g sc v
   unfolding oddAt
@@ -51,11 +51,12 @@ module _ (g : Graph) (sc : List ℕ) where
 
   module _ (o : Ordered g sc) (v : ℕ) (l : v < g .N) where
     -- where a node's only reading word stands
-    pub place-fits : (p : ℕ) → p ≡ field sc v 3 → p ≢ mark → ReaderDecided g sc v → (p < 3 * g .N) × (field sc (p / 3) 4 < kindMoves g (node g (p / 3)))
+    pub place-fits : (p : ℕ) → p ≡ field sc v 3 → p ≢ mark → ReaderDecided g sc v → (p < 3 * g .N) × (isEdge g p ≡ true) × (field sc (p / 3) 4 < kindMoves g (node g (p / 3)))
     place-fits p e d rd =
         let d′ : field sc v 3 ≢ mark = λ z. d (e ∙ z) in
         let s = other-if g (o .admitted) sc (o .placed) v l d′ in
-        (omega (arith, e, placed-other g (o .admitted) sc (o .placed) v l s, single g (node g v) s .at .below), rw e (rd d′))
+        let q : p ≡ place g (node g v) = e ∙ placed-other g (o .admitted) sc (o .placed) v l s in
+        (omega (arith, q, single g (node g v) s .at .below), rw q (names g (node g v) (place g (node g v)) (single g (node g v) s .at .passes) .0), rw e (rd d′))
 
     pub numbers-decided : (z : List ℕ) (a b : ℕ) → z ≡ wordCosts (stands g sc) (innerAt (g .I) sc) (costAt (g .I) sc) v → a ≡ field sc v 0 → b ≡ oddAt g sc v → Numbers z a b
     unfolding oddAt

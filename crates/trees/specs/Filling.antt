@@ -9,6 +9,7 @@ use lib.Dec.{eqb}
 use lib.ListN.{length, getD}
 use Rattle.graph.specs.Finite.{ifEqual, sum}
 use Rattle.graph.specs.Graph.{mark}
+use Rattle.graph.specs.Inner.{threeBits}
 use Rattle.moves.specs.Tree.{last}
 use Rattle.state.specs.State.{field}
 
@@ -60,14 +61,20 @@ pub record Notes (i n f : ℕ) (l : List ℕ) (sc sc′ : List ℕ) (m : ℕ) : 
 unfoldable pub onlyPlace : ℕ → ℕ → ℕ → ℕ
 onlyPlace a b p = ifEqual a 1 (ifEqual b 0 p mark) mark
 
--- fields 0 and 3 of node v, from what was counted; nothing else differs
-pub record Gathered (v : ℕ) (sc sc′ : List ℕ) : Type 0 where
+-- the complement bits of node v's words in the table l, with nothing pending
+unfoldable pub flagsOf : List ℕ → ℕ → ℕ
+flagsOf l v = 2 * threeBits l v
+
+-- fields 0 and 3 of node v from what was counted, and field 2 from the table l; nothing else differs
+pub record Gathered (l : List ℕ) (v : ℕ) (sc sc′ : List ℕ) : Type 0 where
   pub all : field sc′ v 0 ≡ field sc v 4 + field sc v 6
   pub only : field sc′ v 3 ≡ onlyPlace (field sc v 4) (field sc v 6) (field sc v 5)
-  pub kept : (j : ℕ) → j ≢ 8 * v + 0 → j ≢ 8 * v + 3 → getD sc′ j 0 ≡ getD sc j 0
+  pub flags : field sc′ v 2 ≡ flagsOf l v
+  pub kept : (j : ℕ) → j ≢ 8 * v + 0 → j ≢ 8 * v + 2 → j ≢ 8 * v + 3 → getD sc′ j 0 ≡ getD sc j 0
 
 -- of the first m of n nodes
-pub record GatheredTo (n : ℕ) (sc sc′ : List ℕ) (m : ℕ) : Type 0 where
+pub record GatheredTo (l : List ℕ) (n : ℕ) (sc sc′ : List ℕ) (m : ℕ) : Type 0 where
   pub all : (v : ℕ) → v < m → field sc′ v 0 ≡ field sc v 4 + field sc v 6
   pub only : (v : ℕ) → v < m → field sc′ v 3 ≡ onlyPlace (field sc v 4) (field sc v 6) (field sc v 5)
-  pub kept : (j : ℕ) → j % 8 ≢ 0 → j % 8 ≢ 3 → getD sc′ j 0 ≡ getD sc j 0
+  pub flags : (v : ℕ) → v < m → field sc′ v 2 ≡ flagsOf l v
+  pub kept : (j : ℕ) → j % 8 ≢ 0 → j % 8 ≢ 2 → j % 8 ≢ 3 → getD sc′ j 0 ≡ getD sc j 0

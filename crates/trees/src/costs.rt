@@ -1,20 +1,21 @@
 // What the words of a node cost with the costs stored below it, and the costs of a tree's nodes by rising index.
 ghost use mathlib.Core.Path.{_≡_};
-ghost use mathlib.Core.Bool.{true, not, cond, _&&_};
+ghost use mathlib.Core.Bool.{true};
+ghost use mathlib.Core.List.{[], _∷_};
 ghost use Prim.Native.Nat.{_+_, _-_, _*_, _/_, _%_, _≤_, _<_};
-ghost use lib.Dec.{eqb};
 ghost use lib.ListN.{length};
 ghost use Rattle.graph.specs.Finite.{ifEqual};
-ghost use Rattle.graph.specs.Graph.{graphOf, mark};
+ghost use Rattle.graph.specs.Graph.{isEdge};
+ghost use Rattle.graph.specs.Literals.{graphIn};
 ghost use Rattle.moves.specs.Decide.{Numbers, MovesOf};
 ghost use Rattle.moves.specs.Tree.{isRoot};
-ghost use Rattle.moves.specs.Cost.{edgeCost, wordCosts, bitCost};
+ghost use Rattle.moves.specs.Cost.{edgeCost, turnedCost, wordCosts, bitCost};
 ghost use Rattle.state.specs.State.{stands, Ordered};
 ghost use Rattle.trees.specs.Costing.{innerAt, costAt, LeastCost, CostBits, CostedBelow, CostsOnly};
 use crate::fields::read;
 use crate::fields::store;
-use graph::literal;
 use graph::literal::MARK;
+use graph::table;
 use moves::decide;
 use moves::rows;
 use moves::words::over;
@@ -46,66 +47,105 @@ pub fn edge_cost(inputs: u32, nodes: u32, u: u32, b: u32, scratch: &[u32]) -> u3
     stored_bit(read(scratch, v, 4), b)
 }
 
-// What the word x at place j costs, turned f times.
-pub fn word_number(inputs: u32, nodes: u32, j: usize, x: u32, f: u32, scratch: &[u32]) -> u32
-    requires { ⌜ (inputs ≤ 4096) × (nodes ≤ 100000) × (8 * nodes ≤ length (now scratch)) × (f ≤ 1) × (not (eqb (j % 3) 2 && eqb x mark) ≡ true → x / 2 < inputs + 1 + nodes) ⌝ }
-    ensures { λ r. ⌜ r ≡ cond (not (eqb (j % 3) 2 && eqb x mark)) (edgeCost (innerAt inputs (now (scratch .entry))) (costAt inputs (now (scratch .entry))) (x / 2) ((x + f) % 2)) 0 ⌝ }
+// What word k + 1 of node v costs, as it stands and turned.
+pub fn edge_numbers(
+    inputs: u32,
+    nodes: u32,
+    outputs: u32,
+    node_table: &[u32],
+    node_bits: &[u64],
+    output_table: &[u32],
+    output_bits: &[u64],
+    v: usize,
+    k: usize,
+    scratch: &[u32],
+) -> [u32; 2]
+    requires { let g = graphIn inputs nodes outputs (now «node_table») (now «node_bits») (now «output_table») (now «output_bits») in
+        ⌜ Ordered g (now scratch) × (v < nodes) × (k < 3) × (isEdge g (3 * v + k) ≡ true) ⌝ }
+    ensures { λ r.
+        let g = graphIn inputs nodes outputs (now («node_table» .entry)) (now («node_bits» .entry)) (now («output_table» .entry)) (now («output_bits» .entry)) in
+        let h = stands g (now (scratch .entry)) in
+        let t = innerAt inputs (now (scratch .entry)) in
+        let c = costAt inputs (now (scratch .entry)) in
+        ⌜ r ≡ turnedCost h t c v k 0 ∷ turnedCost h t c v k 1 ∷ [] ⌝ }
 {
-    if literal::is_edge(j, x) {
-        return edge_cost(inputs, nodes, x / 2, (x % 2 + f) % 2, scratch);
-    }
-    0
+    let u = table::index_at(node_table, node_bits, 3 * v + k);
+    let b = now::bit_now(
+        inputs,
+        nodes,
+        outputs,
+        node_table,
+        node_bits,
+        output_table,
+        output_bits,
+        v,
+        k,
+        scratch,
+    );
+    [
+        edge_cost(inputs, nodes, u, b, scratch),
+        edge_cost(inputs, nodes, u, 1 - b, scratch),
+    ]
 }
 
-// What each word of node v costs, as it stands and turned.
+// What each word of node v costs, as it stands and turned. An XOR's third is the mark, which costs nothing.
 pub fn tree_numbers(
     inputs: u32,
     nodes: u32,
     outputs: u32,
     node_table: &[u32],
+    node_bits: &[u64],
     output_table: &[u32],
+    output_bits: &[u64],
     v: usize,
     scratch: &[u32],
 ) -> [u32; 6]
-    requires { ⌜ Ordered (graphOf inputs nodes outputs (now «node_table») (now «output_table»)) (now scratch) × (v < nodes) ⌝ }
-    ensures { λ r. ⌜ r ≡ wordCosts (stands (graphOf inputs nodes outputs (now («node_table» .entry)) (now («output_table» .entry))) (now (scratch .entry))) (innerAt inputs (now (scratch .entry))) (costAt inputs (now (scratch .entry))) v ⌝ }
+    requires { let g = graphIn inputs nodes outputs (now «node_table») (now «node_bits») (now «output_table») (now «output_bits») in
+        ⌜ Ordered g (now scratch) × (v < nodes) ⌝ }
+    ensures { λ r.
+        let g = graphIn inputs nodes outputs (now («node_table» .entry)) (now («node_bits» .entry)) (now («output_table» .entry)) (now («output_bits» .entry)) in
+        ⌜ r ≡ wordCosts (stands g (now (scratch .entry))) (innerAt inputs (now (scratch .entry))) (costAt inputs (now (scratch .entry))) v ⌝ }
 {
-    let at = 3 * v;
-    let x = now::word_now(
+    let x = edge_numbers(
         inputs,
         nodes,
         outputs,
         node_table,
+        node_bits,
         output_table,
-        at,
+        output_bits,
+        v,
+        0,
         scratch,
     );
-    let y = now::word_now(
+    let y = edge_numbers(
         inputs,
         nodes,
         outputs,
         node_table,
+        node_bits,
         output_table,
-        at + 1,
+        output_bits,
+        v,
+        1,
         scratch,
     );
-    let z = now::word_now(
+    if rows::is_xor(node_table, node_bits, v) {
+        return [x[0], x[1], y[0], y[1], 0, 0];
+    }
+    let z = edge_numbers(
         inputs,
         nodes,
         outputs,
         node_table,
+        node_bits,
         output_table,
-        at + 2,
+        output_bits,
+        v,
+        2,
         scratch,
     );
-    [
-        word_number(inputs, nodes, at, x, 0, scratch),
-        word_number(inputs, nodes, at, x, 1, scratch),
-        word_number(inputs, nodes, at + 1, y, 0, scratch),
-        word_number(inputs, nodes, at + 1, y, 1, scratch),
-        word_number(inputs, nodes, at + 2, z, 0, scratch),
-        word_number(inputs, nodes, at + 2, z, 1, scratch),
-    ]
+    [x[0], x[1], y[0], y[1], z[0], z[1]]
 }
 
 // What a node with these numbers and one reader costs at least, shown the bit s.
@@ -133,18 +173,34 @@ pub fn node_costs(
     nodes: u32,
     outputs: u32,
     node_table: &[u32],
+    node_bits: &[u64],
     output_table: &[u32],
+    output_bits: &[u64],
     locks: &[u8],
     v: usize,
     scratch: &[u32],
 ) -> u32
-    requires { ⌜ Ordered (graphOf inputs nodes outputs (now «node_table») (now «output_table»)) (now scratch) × (v < nodes) × (nodes ≤ length (now locks)) ⌝ }
-    ensures { λ r. ⌜ (r % 2 ≡ bitCost (stands (graphOf inputs nodes outputs (now («node_table» .entry)) (now («output_table» .entry))) (now (scratch .entry))) (now (locks .entry)) (innerAt inputs (now (scratch .entry))) (costAt inputs (now (scratch .entry))) v 0) × (r / 2 % 2 ≡ bitCost (stands (graphOf inputs nodes outputs (now («node_table» .entry)) (now («output_table» .entry))) (now (scratch .entry))) (now (locks .entry)) (innerAt inputs (now (scratch .entry))) (costAt inputs (now (scratch .entry))) v 1) ⌝ }
+    requires { let g = graphIn inputs nodes outputs (now «node_table») (now «node_bits») (now «output_table») (now «output_bits») in
+        ⌜ Ordered g (now scratch) × (v < nodes) × (nodes ≤ length (now locks)) ⌝ }
+    ensures { λ r.
+        let g = graphIn inputs nodes outputs (now («node_table» .entry)) (now («node_bits» .entry)) (now («output_table» .entry)) (now («output_bits» .entry)) in
+        let h = stands g (now (scratch .entry)) in
+        ⌜ (r % 2 ≡ bitCost h (now (locks .entry)) (innerAt inputs (now (scratch .entry))) (costAt inputs (now (scratch .entry))) v 0) × (r / 2 % 2 ≡ bitCost h (now (locks .entry)) (innerAt inputs (now (scratch .entry))) (costAt inputs (now (scratch .entry))) v 1) ⌝ }
 {
-    let z = tree_numbers(inputs, nodes, outputs, node_table, output_table, v, scratch);
+    let z = tree_numbers(
+        inputs,
+        nodes,
+        outputs,
+        node_table,
+        node_bits,
+        output_table,
+        output_bits,
+        v,
+        scratch,
+    );
     cost_bits(
-        rows::is_xor(node_table, v),
-        rows::moves_at(node_table, locks, v),
+        rows::is_xor(node_table, node_bits, v),
+        rows::moves_at(node_table, node_bits, locks, v),
         z,
     )
 }
@@ -155,13 +211,18 @@ pub fn fill_costs(
     nodes: u32,
     outputs: u32,
     node_table: &[u32],
+    node_bits: &[u64],
     output_table: &[u32],
+    output_bits: &[u64],
     locks: &[u8],
     root: usize,
     scratch: &mut [u32],
 )
-    requires { ⌜ Ordered (graphOf inputs nodes outputs (now «node_table») (now «output_table»)) (now scratch) × (root < nodes) × (isRoot (graphOf inputs nodes outputs (now «node_table») (now «output_table»)) (inputs + 1 + root) ≡ true) × (nodes ≤ length (now locks)) ⌝ }
-    ensures { λ _. ⌜ CostedBelow (stands (graphOf inputs nodes outputs (now («node_table» .entry)) (now («output_table» .entry))) (now (scratch .entry))) (now (locks .entry)) (now (scratch .exit)) (inputs + 1 + root) root × CostsOnly (now (scratch .entry)) (now (scratch .exit)) ⌝ }
+    requires { let g = graphIn inputs nodes outputs (now «node_table») (now «node_bits») (now «output_table») (now «output_bits») in
+        ⌜ Ordered g (now scratch) × (root < nodes) × (isRoot g (inputs + 1 + root) ≡ true) × (nodes ≤ length (now locks)) ⌝ }
+    ensures { λ _.
+        let g = graphIn inputs nodes outputs (now («node_table» .entry)) (now («node_bits» .entry)) (now («output_table» .entry)) (now («output_bits» .entry)) in
+        ⌜ CostedBelow (stands g (now (scratch .entry))) (now (locks .entry)) (now (scratch .exit)) (inputs + 1 + root) root × CostsOnly (now (scratch .entry)) (now (scratch .exit)) ⌝ }
 {
     let mut v = wide(read(scratch, root, 7));
     while v != root {
@@ -170,7 +231,9 @@ pub fn fill_costs(
             nodes,
             outputs,
             node_table,
+            node_bits,
             output_table,
+            output_bits,
             locks,
             v,
             scratch,

@@ -3,7 +3,8 @@ ghost use mathlib.Core.Path.{_≡_};
 ghost use mathlib.Core.Bool.{true};
 ghost use Prim.Native.Nat.{_+_, _*_, _/_, _≤_, _<_};
 ghost use lib.ListN.{length};
-ghost use Rattle.graph.specs.Graph.{graphOf, isXor};
+ghost use Rattle.graph.specs.Graph.{isEdge, isXor};
+ghost use Rattle.graph.specs.Literals.{graphIn};
 ghost use Rattle.choice.specs.Choice.{FirstBelow};
 ghost use Rattle.moves.specs.Rows.{kindMoves, movesAt};
 ghost use Rattle.moves.specs.Tree.{isRoot};
@@ -28,18 +29,34 @@ pub fn shown_bit(
     nodes: u32,
     outputs: u32,
     node_table: &[u32],
+    node_bits: &[u64],
     output_table: &[u32],
+    output_bits: &[u64],
     p: usize,
     scratch: &[u32],
 ) -> u32
-    requires { ⌜ Ordered (graphOf inputs nodes outputs (now «node_table») (now «output_table»)) (now scratch) × (p < 3 * nodes) × (field (now scratch) (p / 3) 4 < kindMoves (graphOf inputs nodes outputs (now «node_table») (now «output_table»)) (inputs + 1 + p / 3)) ⌝ }
-    ensures { λ r. ⌜ r ≡ showsAt (graphOf inputs nodes outputs (now («node_table» .entry)) (now («output_table» .entry))) (now (scratch .entry)) p ⌝ }
+    requires { let g = graphIn inputs nodes outputs (now «node_table») (now «node_bits») (now «output_table») (now «output_bits») in
+        ⌜ Ordered g (now scratch) × (p < 3 * nodes) × (isEdge g p ≡ true) × (field (now scratch) (p / 3) 4 < kindMoves g (inputs + 1 + p / 3)) ⌝ }
+    ensures { λ r.
+        let g = graphIn inputs nodes outputs (now («node_table» .entry)) (now («node_bits» .entry)) (now («output_table» .entry)) (now («output_bits» .entry)) in
+        ⌜ r ≡ showsAt g (now (scratch .entry)) p ⌝ }
 {
     let w = p / 3;
-    let xor = rows::is_xor(node_table, w);
+    let xor = rows::is_xor(node_table, node_bits, w);
     let f = rows::flag_of(xor, read(scratch, w, 4), p % 3);
-    let x = now::word_now(inputs, nodes, outputs, node_table, output_table, p, scratch);
-    (x % 2 + f) % 2
+    let b = now::bit_now(
+        inputs,
+        nodes,
+        outputs,
+        node_table,
+        node_bits,
+        output_table,
+        output_bits,
+        w,
+        p % 3,
+        scratch,
+    );
+    (b + f) % 2
 }
 
 // How many readers of node v are complemented once the nodes above it are decided.
@@ -48,12 +65,17 @@ pub fn odd_at(
     nodes: u32,
     outputs: u32,
     node_table: &[u32],
+    node_bits: &[u64],
     output_table: &[u32],
+    output_bits: &[u64],
     v: usize,
     scratch: &[u32],
 ) -> u32
-    requires { ⌜ Ordered (graphOf inputs nodes outputs (now «node_table») (now «output_table»)) (now scratch) × (v < nodes) × ReaderDecided (graphOf inputs nodes outputs (now «node_table») (now «output_table»)) (now scratch) v ⌝ }
-    ensures { λ r. ⌜ r ≡ oddAt (graphOf inputs nodes outputs (now («node_table» .entry)) (now («output_table» .entry))) (now (scratch .entry)) v ⌝ }
+    requires { let g = graphIn inputs nodes outputs (now «node_table») (now «node_bits») (now «output_table») (now «output_bits») in
+        ⌜ Ordered g (now scratch) × (v < nodes) × ReaderDecided g (now scratch) v ⌝ }
+    ensures { λ r.
+        let g = graphIn inputs nodes outputs (now («node_table» .entry)) (now («node_bits» .entry)) (now («output_table» .entry)) (now («output_bits» .entry)) in
+        ⌜ r ≡ oddAt g (now (scratch .entry)) v ⌝ }
 {
     let place = read(scratch, v, 3);
     if place == MARK {
@@ -64,7 +86,9 @@ pub fn odd_at(
         nodes,
         outputs,
         node_table,
+        node_bits,
         output_table,
+        output_bits,
         wide(place),
         scratch,
     )
@@ -76,20 +100,45 @@ pub fn decide_at(
     nodes: u32,
     outputs: u32,
     node_table: &[u32],
+    node_bits: &[u64],
     output_table: &[u32],
+    output_bits: &[u64],
     locks: &[u8],
     v: usize,
     scratch: &[u32],
 ) -> u32
-    requires { ⌜ Ordered (graphOf inputs nodes outputs (now «node_table») (now «output_table»)) (now scratch) × (v < nodes) × ReaderDecided (graphOf inputs nodes outputs (now «node_table») (now «output_table»)) (now scratch) v × (nodes ≤ length (now locks)) ⌝ }
-    ensures { λ r. ⌜ FirstBelow (costWith (isXor (graphOf inputs nodes outputs (now («node_table» .entry)) (now («output_table» .entry))) v) (wordCosts (stands (graphOf inputs nodes outputs (now («node_table» .entry)) (now («output_table» .entry))) (now (scratch .entry))) (innerAt inputs (now (scratch .entry))) (costAt inputs (now (scratch .entry))) v) (field (now (scratch .entry)) v 0) (oddAt (graphOf inputs nodes outputs (now («node_table» .entry)) (now («output_table» .entry))) (now (scratch .entry)) v)) (movesAt (graphOf inputs nodes outputs (now («node_table» .entry)) (now («output_table» .entry))) (now (locks .entry)) (inputs + 1 + v)) r ⌝ }
+    requires { let g = graphIn inputs nodes outputs (now «node_table») (now «node_bits») (now «output_table») (now «output_bits») in
+        ⌜ Ordered g (now scratch) × (v < nodes) × ReaderDecided g (now scratch) v × (nodes ≤ length (now locks)) ⌝ }
+    ensures { λ r.
+        let g = graphIn inputs nodes outputs (now («node_table» .entry)) (now («node_bits» .entry)) (now («output_table» .entry)) (now («output_bits» .entry)) in
+        ⌜ FirstBelow (costWith (isXor g v) (wordCosts (stands g (now (scratch .entry))) (innerAt inputs (now (scratch .entry))) (costAt inputs (now (scratch .entry))) v) (field (now (scratch .entry)) v 0) (oddAt g (now (scratch .entry)) v)) (movesAt g (now (locks .entry)) (inputs + 1 + v)) r ⌝ }
 {
-    let z = costs::tree_numbers(inputs, nodes, outputs, node_table, output_table, v, scratch);
+    let z = costs::tree_numbers(
+        inputs,
+        nodes,
+        outputs,
+        node_table,
+        node_bits,
+        output_table,
+        output_bits,
+        v,
+        scratch,
+    );
     let readers = read(scratch, v, 0);
-    let odd = odd_at(inputs, nodes, outputs, node_table, output_table, v, scratch);
+    let odd = odd_at(
+        inputs,
+        nodes,
+        outputs,
+        node_table,
+        node_bits,
+        output_table,
+        output_bits,
+        v,
+        scratch,
+    );
     decide::first_least(
-        rows::is_xor(node_table, v),
-        rows::moves_at(node_table, locks, v),
+        rows::is_xor(node_table, node_bits, v),
+        rows::moves_at(node_table, node_bits, locks, v),
         z,
         readers,
         odd,
@@ -102,13 +151,18 @@ pub fn fill_moves(
     nodes: u32,
     outputs: u32,
     node_table: &[u32],
+    node_bits: &[u64],
     output_table: &[u32],
+    output_bits: &[u64],
     locks: &[u8],
     root: usize,
     scratch: &mut [u32],
 )
-    requires { ⌜ Ordered (graphOf inputs nodes outputs (now «node_table») (now «output_table»)) (now scratch) × (root < nodes) × (isRoot (graphOf inputs nodes outputs (now «node_table») (now «output_table»)) (inputs + 1 + root) ≡ true) × CostedBelow (stands (graphOf inputs nodes outputs (now «node_table») (now «output_table»)) (now scratch)) (now locks) (now scratch) (inputs + 1 + root) root × (nodes ≤ length (now locks)) ⌝ }
-    ensures { λ _. ⌜ TreeDecided (stands (graphOf inputs nodes outputs (now («node_table» .entry)) (now («output_table» .entry))) (now (scratch .entry))) (now (locks .entry)) (inputs + 1 + root) (now (scratch .exit)) × CostsOnly (now (scratch .entry)) (now (scratch .exit)) ⌝ }
+    requires { let g = graphIn inputs nodes outputs (now «node_table») (now «node_bits») (now «output_table») (now «output_bits») in
+        ⌜ Ordered g (now scratch) × (root < nodes) × (isRoot g (inputs + 1 + root) ≡ true) × CostedBelow (stands g (now scratch)) (now locks) (now scratch) (inputs + 1 + root) root × (nodes ≤ length (now locks)) ⌝ }
+    ensures { λ _.
+        let g = graphIn inputs nodes outputs (now («node_table» .entry)) (now («node_bits» .entry)) (now («output_table» .entry)) (now («output_bits» .entry)) in
+        ⌜ TreeDecided (stands g (now (scratch .entry))) (now (locks .entry)) (inputs + 1 + root) (now (scratch .exit)) × CostsOnly (now (scratch .entry)) (now (scratch .exit)) ⌝ }
 {
     let mut v = narrow(root);
     while v != MARK {
@@ -118,7 +172,9 @@ pub fn fill_moves(
             nodes,
             outputs,
             node_table,
+            node_bits,
             output_table,
+            output_bits,
             locks,
             w,
             scratch,
@@ -134,20 +190,27 @@ pub fn decide_tree(
     nodes: u32,
     outputs: u32,
     node_table: &[u32],
+    node_bits: &[u64],
     output_table: &[u32],
+    output_bits: &[u64],
     locks: &[u8],
     root: usize,
     scratch: &mut [u32],
 )
-    requires { ⌜ Ordered (graphOf inputs nodes outputs (now «node_table») (now «output_table»)) (now scratch) × (root < nodes) × (isRoot (graphOf inputs nodes outputs (now «node_table») (now «output_table»)) (inputs + 1 + root) ≡ true) × (nodes ≤ length (now locks)) ⌝ }
-    ensures { λ _. ⌜ TreeDecided (stands (graphOf inputs nodes outputs (now («node_table» .entry)) (now («output_table» .entry))) (now (scratch .entry))) (now (locks .entry)) (inputs + 1 + root) (now (scratch .exit)) × CostsOnly (now (scratch .entry)) (now (scratch .exit)) ⌝ }
+    requires { let g = graphIn inputs nodes outputs (now «node_table») (now «node_bits») (now «output_table») (now «output_bits») in
+        ⌜ Ordered g (now scratch) × (root < nodes) × (isRoot g (inputs + 1 + root) ≡ true) × (nodes ≤ length (now locks)) ⌝ }
+    ensures { λ _.
+        let g = graphIn inputs nodes outputs (now («node_table» .entry)) (now («node_bits» .entry)) (now («output_table» .entry)) (now («output_bits» .entry)) in
+        ⌜ TreeDecided (stands g (now (scratch .entry))) (now (locks .entry)) (inputs + 1 + root) (now (scratch .exit)) × CostsOnly (now (scratch .entry)) (now (scratch .exit)) ⌝ }
 {
     costs::fill_costs(
         inputs,
         nodes,
         outputs,
         node_table,
+        node_bits,
         output_table,
+        output_bits,
         locks,
         root,
         scratch,
@@ -157,7 +220,9 @@ pub fn decide_tree(
         nodes,
         outputs,
         node_table,
+        node_bits,
         output_table,
+        output_bits,
         locks,
         root,
         scratch,

@@ -3,8 +3,8 @@ ghost use mathlib.Core.Path.{_≡_};
 ghost use mathlib.Core.Bool.{true};
 ghost use Prim.Native.Nat.{_+_, _≤_, _<_};
 ghost use lib.ListN.{length};
-ghost use Rattle.graph.specs.Graph.{graphOf};
 ghost use Rattle.graph.specs.Count.{C};
+ghost use Rattle.graph.specs.Literals.{graphIn};
 ghost use Rattle.moves.specs.Call.{rewrite};
 ghost use Rattle.moves.specs.Tree.{isRoot, tree};
 ghost use Rattle.state.specs.State.{stands, Ordered};
@@ -24,15 +24,21 @@ pub fn make_moves(
     inputs: u32,
     nodes: u32,
     outputs: u32,
-    node_table: &mut [u32],
+    node_table: &[u32],
+    node_bits: &[u64],
     output_table: &[u32],
+    output_bits: &[u64],
     locks: &[u8],
     root: usize,
     count: u32,
     scratch: &mut [u32],
 ) -> u32
-    requires { ⌜ Ordered (graphOf inputs nodes outputs (now «node_table») (now «output_table»)) (now scratch) × (root < nodes) × (isRoot (graphOf inputs nodes outputs (now «node_table») (now «output_table»)) (inputs + 1 + root) ≡ true) × (count ≡ C (stands (graphOf inputs nodes outputs (now «node_table») (now «output_table»)) (now scratch))) × TreeDecided (stands (graphOf inputs nodes outputs (now «node_table») (now «output_table»)) (now scratch)) (now locks) (inputs + 1 + root) (now scratch) × (nodes ≤ length (now locks)) ⌝ }
-    ensures { λ r. ⌜ Made (now (scratch .entry)) (graphOf inputs nodes outputs (now («node_table» .exit)) (now («output_table» .entry))) (now (scratch .exit)) (treeMoved (stands (graphOf inputs nodes outputs (now («node_table» .entry)) (now («output_table» .entry))) (now (scratch .entry))) (now (locks .entry)) (inputs + 1 + root)) r ⌝ }
+    requires { let g = graphIn inputs nodes outputs (now «node_table») (now «node_bits») (now «output_table») (now «output_bits») in
+        let h = stands g (now scratch) in
+        ⌜ Ordered g (now scratch) × (root < nodes) × (isRoot g (inputs + 1 + root) ≡ true) × (count ≡ C h) × TreeDecided h (now locks) (inputs + 1 + root) (now scratch) × (nodes ≤ length (now locks)) ⌝ }
+    ensures { λ r.
+        let g = graphIn inputs nodes outputs (now («node_table» .entry)) (now («node_bits» .entry)) (now («output_table» .entry)) (now («output_bits» .entry)) in
+        ⌜ Made (now (scratch .entry)) g (now (scratch .exit)) (treeMoved (stands g (now (scratch .entry))) (now (locks .entry)) (inputs + 1 + root)) r ⌝ }
 {
     let mut c = count;
     let mut v = narrow(root);
@@ -44,7 +50,9 @@ pub fn make_moves(
             nodes,
             outputs,
             node_table,
+            node_bits,
             output_table,
+            output_bits,
             locks,
             w,
             m,
@@ -56,38 +64,39 @@ pub fn make_moves(
     c
 }
 
-// The tree call at node `root`, in the state; count is C before. Of all the tree only the root has readers outside of it.
-pub fn tree_step(
+// The tree call at node `root`, whose moves stand in scratch, in the state; count is C before. Of all the tree only the root has readers
+// outside of it.
+pub fn decided_step(
     inputs: u32,
     nodes: u32,
     outputs: u32,
-    node_table: &mut [u32],
+    node_table: &[u32],
+    node_bits: &[u64],
     output_table: &[u32],
+    output_bits: &[u64],
     locks: &[u8],
     root: usize,
     count: u32,
     scratch: &mut [u32],
 ) -> Step
-    requires { ⌜ Ordered (graphOf inputs nodes outputs (now «node_table») (now «output_table»)) (now scratch) × (root < nodes) × (isRoot (graphOf inputs nodes outputs (now «node_table») (now «output_table»)) (inputs + 1 + root) ≡ true) × (count ≡ C (stands (graphOf inputs nodes outputs (now «node_table») (now «output_table»)) (now scratch))) × (nodes ≤ length (now locks)) ⌝ }
-    ensures { λ r. ⌜ TreeMade (now (scratch .entry)) (graphOf inputs nodes outputs (now («node_table» .exit)) (now («output_table» .entry))) (now (scratch .exit)) (treeMoved (stands (graphOf inputs nodes outputs (now («node_table» .entry)) (now («output_table» .entry))) (now (scratch .entry))) (now (locks .entry)) (inputs + 1 + root)) (r .count) × Parted (rewrite (stands (graphOf inputs nodes outputs (now («node_table» .entry)) (now («output_table» .entry))) (now (scratch .entry))) (now (locks .entry)) (tree (stands (graphOf inputs nodes outputs (now («node_table» .entry)) (now («output_table» .entry))) (now (scratch .entry))) (inputs + 1 + root))) r ⌝ }
+    requires { let g = graphIn inputs nodes outputs (now «node_table») (now «node_bits») (now «output_table») (now «output_bits») in
+        let h = stands g (now scratch) in
+        ⌜ Ordered g (now scratch) × (root < nodes) × (isRoot g (inputs + 1 + root) ≡ true) × (count ≡ C h) × TreeDecided h (now locks) (inputs + 1 + root) (now scratch) × (nodes ≤ length (now locks)) ⌝ }
+    ensures { λ r.
+        let g = graphIn inputs nodes outputs (now («node_table» .entry)) (now («node_bits» .entry)) (now («output_table» .entry)) (now («output_bits» .entry)) in
+        let h = stands g (now (scratch .entry)) in
+        let u = inputs + 1 + root in
+        ⌜ Made (now (scratch .entry)) g (now (scratch .exit)) (treeMoved h (now (locks .entry)) u) (r .count) × Parted (rewrite h (now (locks .entry)) (tree h u)) r ⌝ }
 {
     let before = read(scratch, root, 1);
-    deciding::decide_tree(
-        inputs,
-        nodes,
-        outputs,
-        node_table,
-        output_table,
-        locks,
-        root,
-        scratch,
-    );
     let made = make_moves(
         inputs,
         nodes,
         outputs,
         node_table,
+        node_bits,
         output_table,
+        output_bits,
         locks,
         root,
         count,
@@ -99,4 +108,53 @@ pub fn tree_step(
         before,
         after,
     }
+}
+
+// The tree call at node `root`, in the state.
+pub fn tree_step(
+    inputs: u32,
+    nodes: u32,
+    outputs: u32,
+    node_table: &[u32],
+    node_bits: &[u64],
+    output_table: &[u32],
+    output_bits: &[u64],
+    locks: &[u8],
+    root: usize,
+    count: u32,
+    scratch: &mut [u32],
+) -> Step
+    requires { let g = graphIn inputs nodes outputs (now «node_table») (now «node_bits») (now «output_table») (now «output_bits») in
+        ⌜ Ordered g (now scratch) × (root < nodes) × (isRoot g (inputs + 1 + root) ≡ true) × (count ≡ C (stands g (now scratch))) × (nodes ≤ length (now locks)) ⌝ }
+    ensures { λ r.
+        let g = graphIn inputs nodes outputs (now («node_table» .entry)) (now («node_bits» .entry)) (now («output_table» .entry)) (now («output_bits» .entry)) in
+        let h = stands g (now (scratch .entry)) in
+        let u = inputs + 1 + root in
+        ⌜ TreeMade (now (scratch .entry)) g (now (scratch .exit)) (treeMoved h (now (locks .entry)) u) (r .count) × Parted (rewrite h (now (locks .entry)) (tree h u)) r ⌝ }
+{
+    deciding::decide_tree(
+        inputs,
+        nodes,
+        outputs,
+        node_table,
+        node_bits,
+        output_table,
+        output_bits,
+        locks,
+        root,
+        scratch,
+    );
+    decided_step(
+        inputs,
+        nodes,
+        outputs,
+        node_table,
+        node_bits,
+        output_table,
+        output_bits,
+        locks,
+        root,
+        count,
+        scratch,
+    )
 }

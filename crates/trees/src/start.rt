@@ -2,8 +2,8 @@
 ghost use mathlib.Core.Path.{_≡_};
 ghost use Prim.Native.Nat.{_*_, _≤_};
 ghost use lib.ListN.{length};
-ghost use Rattle.graph.specs.Graph.{graphOf};
 ghost use Rattle.graph.specs.Admission.{Admitted};
+ghost use Rattle.graph.specs.Literals.{graphIn};
 ghost use Rattle.state.specs.State.{stands, Ordered};
 use crate::fill;
 use crate::links;
@@ -14,17 +14,30 @@ pub fn fill_scratch(
     nodes: u32,
     outputs: u32,
     node_table: &[u32],
+    node_bits: &[u64],
     output_table: &[u32],
+    output_bits: &[u64],
     scratch: &mut [u32],
 )
-    requires { ⌜ Admitted (graphOf inputs nodes outputs (now «node_table») (now «output_table»)) × (8 * nodes ≤ length (now scratch)) ⌝ }
-    ensures { λ _. ⌜ Ordered (graphOf inputs nodes outputs (now («node_table» .entry)) (now («output_table» .entry))) (now (scratch .exit)) × (stands (graphOf inputs nodes outputs (now («node_table» .entry)) (now («output_table» .entry))) (now (scratch .exit)) ≡ graphOf inputs nodes outputs (now («node_table» .entry)) (now («output_table» .entry))) ⌝ }
+    requires { let g = graphIn inputs nodes outputs (now «node_table») (now «node_bits») (now «output_table») (now «output_bits») in
+        ⌜ Admitted g × (8 * nodes ≤ length (now scratch)) ⌝ }
+    ensures { λ _.
+        let g = graphIn inputs nodes outputs (now («node_table» .entry)) (now («node_bits» .entry)) (now («output_table» .entry)) (now («output_bits» .entry)) in
+        ⌜ Ordered g (now (scratch .exit)) × (stands g (now (scratch .exit)) ≡ g) ⌝ }
 {
     let i = inputs as usize;
     let n = nodes as usize;
     fill::clear(n, scratch);
-    fill::note_all(i, n, node_table, 3 * n, 4, scratch);
-    fill::note_all(i, n, output_table, outputs as usize, 6, scratch);
-    fill::gather_all(n, scratch);
+    fill::note_all(i, n, node_table, node_bits, 3 * n, 4, scratch);
+    fill::note_all(
+        i,
+        n,
+        output_table,
+        output_bits,
+        outputs as usize,
+        6,
+        scratch,
+    );
+    fill::gather_all(n, node_table, node_bits, scratch);
     links::link_all(n, scratch);
 }

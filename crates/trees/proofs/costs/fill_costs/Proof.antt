@@ -17,6 +17,7 @@ use Rattle.trees.proofs.Ready.{ordered-ready, ordered-costs, stands-cos
 use Rattle.trees.proofs.CostPass.{CostsTo, costs-begin, costs-step}
 use native.Mathlib.Omega.{arith}
 use borrow.Author.Needs.{needs}
+use Rattle.graph.specs.Literals.{literals}
 use Rattle.trees.proofs.costs.fill_costs.Statement.{statement}
 use Rattle.trees.proofs.costs.fill_costs.Tie as tie
 
@@ -43,42 +44,42 @@ module _ (g : Graph) (ls sc₀ : List ℕ) (o : Ordered g sc₀) (r : ℕ) (h : 
   last sc v iv e = rw e at (iv .costed)
 
 abbrev Inv-loop : tie.InvT-loop
-Inv-loop inputs nodes outputs node-table output-table locks root scratch₀ v₀ scratch v = Inv (graphOf inputs nodes outputs node-table output-table) locks root scratch₀ scratch v
+Inv-loop inputs nodes outputs node-table node-bits output-table output-bits locks root scratch₀ v₀ scratch v = Inv (graphOf inputs nodes outputs (literals node-table node-bits) (literals output-table output-bits)) locks root scratch₀ scratch v
 
 abbrev μ-loop : tie.MeasureT-loop
-μ-loop inputs nodes outputs node-table output-table locks root scratch₀ v₀ scratch v = root - v
+μ-loop inputs nodes outputs node-table node-bits output-table output-bits locks root scratch₀ v₀ scratch v = root - v
 
 read-requires : tie.Need-read-requires Inv-loop μ-loop
-read-requires c κs = omega (arith, c .before .before .before .before .before .pre .0 .long, c .before .before .before .before .before .pre .0 .admitted .few-nodes, c .before .before .before .before .before .pre .1)
+read-requires c κs = omega (arith, c .before .before .before .before .before .before .before .pre .0 .long, c .before .before .before .before .before .before .before .pre .0 .admitted .few-nodes, c .before .before .before .before .before .before .before .pre .1)
 
 loop-holds : tie.Need-loop-holds Inv-loop μ-loop
-loop-holds c = let p = c .before .before .before .before .before .before .before .pre in begin _ _ _ (p .0) _ (p .1) (p .2) _ (c .wide .ensures ∙ c .before .read .ensures)
+loop-holds c = let p = c .before .before .before .before .before .before .before .before .before .pre in begin _ _ _ (p .0) _ (p .1) (p .2) _ (c .wide .ensures ∙ c .before .read .ensures)
 
 node-costs-requires : tie.Need-node-costs-requires Inv-loop μ-loop
-node-costs-requires c κs = (ordered-costs _ _ _ (c .before .before .loop .inv .only) (c .before .before .before .before .before .before .before .before .before .before .pre .0), omega (arith, c .before .before .loop .inv .within, c .before .before .before .before .before .before .before .before .before .before .pre .1), c .before .before .before .before .before .before .before .before .before .before .pre .3)
+node-costs-requires c κs = (ordered-costs _ _ _ (c .before .before .loop .inv .only) (c .before .before .before .before .before .before .before .before .before .before .before .before .pre .0), omega (arith, c .before .before .loop .inv .within, c .before .before .before .before .before .before .before .before .before .before .before .before .pre .1), c .before .before .before .before .before .before .before .before .before .before .before .before .pre .3)
 
 store-requires : tie.Need-store-requires Inv-loop μ-loop
-store-requires c κs = omega (arith, c .before .before .before .before .loop .inv .within, c .before .before .before .before .loop .inv .only .same, c .before .before .before .before .before .before .before .before .before .before .before .before .pre .0 .long, c .before .before .before .before .before .before .before .before .before .before .before .before .pre .0 .admitted .few-nodes, c .before .before .before .before .before .before .before .before .before .before .before .before .pre .1)
+store-requires c κs = omega (arith, c .before .before .before .before .loop .inv .within, c .before .before .before .before .loop .inv .only .same, c .before .before .before .before .before .before .before .before .before .before .before .before .before .before .pre .0 .long, c .before .before .before .before .before .before .before .before .before .before .before .before .before .before .pre .0 .admitted .few-nodes, c .before .before .before .before .before .before .before .before .before .before .before .before .before .before .pre .1)
 
 read-requires-2 : tie.Need-read-requires-2 Inv-loop μ-loop
-read-requires-2 c κs = omega (arith, c .before .before .before .before .before .before .before .before .loop .inv .within, c .before .before .before .before .before .before .before .before .loop .inv .only .same, c .before .before .before .before .before .before .before .before .before .before .before .before .before .before .before .before .pre .0 .long, c .before .before .before .before .before .before .before .before .before .before .before .before .before .before .before .before .pre .0 .admitted .few-nodes, c .before .before .before .before .before .before .before .before .before .before .before .before .before .before .before .before .pre .1)
+read-requires-2 c κs = omega (arith, c .before .before .before .before .before .before .before .before .loop .inv .within, c .before .before .before .before .before .before .before .before .loop .inv .only .same, c .before .before .before .before .before .before .before .before .before .before .before .before .before .before .before .before .before .before .pre .0 .long, c .before .before .before .before .before .before .before .before .before .before .before .before .before .before .before .before .before .before .pre .0 .admitted .few-nodes, c .before .before .before .before .before .before .before .before .before .before .before .before .before .before .before .before .before .before .pre .1)
 
 loop-less : tie.Need-loop-less Inv-loop μ-loop
 loop-less c =
-    let p = c .before .before .before .before .before .before .before .before .before .before .before .before .before .before .before .before .before .before .pre in
+    let p = c .before .before .before .before .before .before .before .before .before .before .before .before .before .before .before .before .before .before .before .before .pre in
     let a = again _ _ _ (p .0) _ (p .1) (p .2) _ _ (c .before .before .before .before .before .before .before .before .before .before .loop .inv) (λ e. omega arith) _ _ (c .before .before .before .before .before .store .ensures) (c .before .before .before .before .before .before .before .node-costs .ensures .0) (c .before .before .before .before .before .before .before .node-costs .ensures .1) _ (c .wide2 .ensures ∙ c .before .read2 .ensures) in
     omega (arith, a .1, c .before .before .before .before .before .before .before .before .before .before .loop .inv .within)
 
 loop-again : tie.Need-loop-again Inv-loop μ-loop
 loop-again c =
-    let p = c .before .before .before .before .before .before .before .before .before .before .before .before .before .before .before .before .before .before .pre in
+    let p = c .before .before .before .before .before .before .before .before .before .before .before .before .before .before .before .before .before .before .before .before .pre in
     again _ _ _ (p .0) _ (p .1) (p .2) _ _ (c .before .before .before .before .before .before .before .before .before .before .loop .inv) (λ e. omega arith) _ _ (c .before .before .before .before .before .store .ensures) (c .before .before .before .before .before .before .before .node-costs .ensures .0) (c .before .before .before .before .before .before .before .node-costs .ensures .1) _ (c .wide2 .ensures ∙ c .before .read2 .ensures) .0
 
 same-length : tie.Need-same-length Inv-loop μ-loop
 same-length c = c .before .loop .inv .only .same
 
 returns : tie.Need-returns Inv-loop μ-loop
-returns c = let p = c .before .before .before .before .before .before .before .before .before .pre in (last _ _ _ (p .0) _ (p .1) (p .2) _ _ (c .before .loop .inv) (omega arith), c .before .loop .inv .only)
+returns c = let p = c .before .before .before .before .before .before .before .before .before .before .before .pre in (last _ _ _ (p .0) _ (p .1) (p .2) _ _ (c .before .loop .inv) (omega arith), c .before .loop .inv .only)
 
 pub fill-costs-spec : {M : Type 1} → statement M
 fill-costs-spec =

@@ -21,7 +21,7 @@ module _ (g : Graph) (ls sc sc₁ : List ℕ) (co : CostsOnly sc sc₁) where
 
 fill-moves-requires : tie.Need-fill-moves-requires
 fill-moves-requires c κs =
-    let p = c .before .before .before .before .before .before .before .before .before .pre in
+    let p = c .before .before .before .before .before .before .before .before .before .before .before .pre in
     let f = c .before .before .before .fill-costs .ensures in
     (ordered-costs _ _ _ (f .1) (p .0), p .1, p .2, same-costs _ _ _ _ (f .1) _ _ (f .0), p .3)
 

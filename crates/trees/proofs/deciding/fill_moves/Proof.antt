@@ -23,6 +23,7 @@ use Rattle.trees.proofs.Falling.{boundOf, bound-mark, bound-node, next-
 use Rattle.trees.proofs.DecidePass.{MovesFrom, moves-begin, moves-down, moves-all, moves-step, reader-decided}
 use native.Mathlib.Omega.{arith}
 use borrow.Author.Needs.{needs}
+use Rattle.graph.specs.Literals.{literals}
 use Rattle.trees.proofs.deciding.fill_moves.Statement.{statement}
 use Rattle.trees.proofs.deciding.fill_moves.Tie as tie
 
@@ -88,44 +89,44 @@ module _ (g : Graph) (ls sc₁ : List ℕ) (o : Ordered g sc₁) (r : ℕ) (h : 
       (moves-all k ls sc₁ ready r within root-now sc mf, mf .only)
 
 abbrev Inv-loop : tie.InvT-loop
-Inv-loop inputs nodes outputs node-table output-table locks root scratch₀ v₀ scratch v = Inv (graphOf inputs nodes outputs node-table output-table) locks scratch₀ root scratch v
+Inv-loop inputs nodes outputs node-table node-bits output-table output-bits locks root scratch₀ v₀ scratch v = Inv (graphOf inputs nodes outputs (literals node-table node-bits) (literals output-table output-bits)) locks scratch₀ root scratch v
 
 abbrev μ-loop : tie.MeasureT-loop
-μ-loop inputs nodes outputs node-table output-table locks root scratch₀ v₀ scratch v = boundOf v
+μ-loop inputs nodes outputs node-table node-bits output-table output-bits locks root scratch₀ v₀ scratch v = boundOf v
 
 narrow-requires : tie.Need-narrow-requires Inv-loop μ-loop
-narrow-requires c κs = omega (arith, c .before .before .before .before .pre .0 .admitted .few-nodes, c .before .before .before .before .pre .1)
+narrow-requires c κs = omega (arith, c .before .before .before .before .before .before .pre .0 .admitted .few-nodes, c .before .before .before .before .before .before .pre .1)
 
 loop-holds : tie.Need-loop-holds Inv-loop μ-loop
-loop-holds c = let p = c .before .before .before .before .before .pre in begin _ _ _ (p .0) _ (p .1) (p .2) _ (c .narrow .ensures)
+loop-holds c = let p = c .before .before .before .before .before .before .before .pre in begin _ _ _ (p .0) _ (p .1) (p .2) _ (c .narrow .ensures)
 
 decide-at-requires : tie.Need-decide-at-requires Inv-loop μ-loop
 decide-at-requires c κs =
-    let p = c .before .before .before .before .before .before .before .before .before .pre in
+    let p = c .before .before .before .before .before .before .before .before .before .before .before .pre in
     let iv = c .before .before .before .loop .inv in
     (ordered-costs _ _ _ (iv .mf .only) (p .0), omega (arith, iv .here (λ e. omega arith) .0, c .before .wide .ensures, p .1), decided-above _ _ _ (p .0) _ (p .1) (p .2) (p .3) _ _ iv (λ e. omega arith) _ (c .before .wide .ensures), p .4)
 
 store-requires : tie.Need-store-requires Inv-loop μ-loop
-store-requires c κs = omega (arith, c .before .before .before .before .before .loop .inv .here (λ e. omega arith) .0, c .before .before .before .before .before .loop .inv .mf .only .same, c .before .before .before .wide .ensures, c .before .before .before .before .before .before .before .before .before .before .before .pre .1, c .before .before .before .before .before .before .before .before .before .before .before .pre .0 .long, c .before .before .before .before .before .before .before .before .before .before .before .pre .0 .admitted .few-nodes)
+store-requires c κs = omega (arith, c .before .before .before .before .before .loop .inv .here (λ e. omega arith) .0, c .before .before .before .before .before .loop .inv .mf .only .same, c .before .before .before .wide .ensures, c .before .before .before .before .before .before .before .before .before .before .before .before .before .pre .1, c .before .before .before .before .before .before .before .before .before .before .before .before .before .pre .0 .long, c .before .before .before .before .before .before .before .before .before .before .before .before .before .pre .0 .admitted .few-nodes)
 
 read-requires : tie.Need-read-requires Inv-loop μ-loop
-read-requires c κs = omega (arith, c .before .before .before .before .before .before .before .before .before .loop .inv .here (λ e. omega arith) .0, c .before .before .before .before .before .before .before .before .before .loop .inv .mf .only .same, c .before .before .before .store .ensures .same, c .before .before .before .before .before .before .before .wide .ensures, c .before .before .before .before .before .before .before .before .before .before .before .before .before .before .before .pre .1, c .before .before .before .before .before .before .before .before .before .before .before .before .before .before .before .pre .0 .long, c .before .before .before .before .before .before .before .before .before .before .before .before .before .before .before .pre .0 .admitted .few-nodes)
+read-requires c κs = omega (arith, c .before .before .before .before .before .before .before .before .before .loop .inv .here (λ e. omega arith) .0, c .before .before .before .before .before .before .before .before .before .loop .inv .mf .only .same, c .before .before .before .store .ensures .same, c .before .before .before .before .before .before .before .wide .ensures, c .before .before .before .before .before .before .before .before .before .before .before .before .before .before .before .before .before .pre .1, c .before .before .before .before .before .before .before .before .before .before .before .before .before .before .before .before .before .pre .0 .long, c .before .before .before .before .before .before .before .before .before .before .before .before .before .before .before .before .before .pre .0 .admitted .few-nodes)
 
 loop-less : tie.Need-loop-less Inv-loop μ-loop
 loop-less c =
-    let p = c .before .before .before .before .before .before .before .before .before .before .before .before .before .before .before .before .pre in
+    let p = c .before .before .before .before .before .before .before .before .before .before .before .before .before .before .before .before .before .before .pre in
     again _ _ _ (p .0) _ (p .1) (p .2) (p .3) _ _ (c .before .before .before .before .before .before .before .before .before .before .loop .inv) (λ e. omega arith) _ (c .before .before .before .before .before .before .before .before .wide .ensures) _ _ _ (c .before .before .before .before .before .before .decide-at .ensures) (c .before .before .before .before .store .ensures) (c .read .ensures) .1
 
 loop-again : tie.Need-loop-again Inv-loop μ-loop
 loop-again c =
-    let p = c .before .before .before .before .before .before .before .before .before .before .before .before .before .before .before .before .pre in
+    let p = c .before .before .before .before .before .before .before .before .before .before .before .before .before .before .before .before .before .before .pre in
     again _ _ _ (p .0) _ (p .1) (p .2) (p .3) _ _ (c .before .before .before .before .before .before .before .before .before .before .loop .inv) (λ e. omega arith) _ (c .before .before .before .before .before .before .before .before .wide .ensures) _ _ _ (c .before .before .before .before .before .before .decide-at .ensures) (c .before .before .before .before .store .ensures) (c .read .ensures) .0
 
 same-length : tie.Need-same-length Inv-loop μ-loop
 same-length c = c .before .loop .inv .mf .only .same
 
 returns : tie.Need-returns Inv-loop μ-loop
-returns c = let p = c .before .before .before .before .before .before .before .pre in last _ _ _ (p .0) _ (p .1) (p .2) _ _ (c .before .loop .inv) (omega arith)
+returns c = let p = c .before .before .before .before .before .before .before .before .before .pre in last _ _ _ (p .0) _ (p .1) (p .2) _ _ (c .before .loop .inv) (omega arith)
 
 pub fill-moves-spec : {M : Type 1} → statement M
 fill-moves-spec =

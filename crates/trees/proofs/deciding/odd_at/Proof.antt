@@ -11,9 +11,9 @@ returns c = odd-mark _ _ _ _ _ (c .before .before .read .ensures) (c .before .if
 
 shown-bit-requires : tie.Need-shown-bit-requires
 shown-bit-requires c κs =
-    let p = c .before .before .before .before .before .before .pre in
+    let p = c .before .before .before .before .before .before .before .before .pre in
     let f = place-fits _ _ (p .0) _ (p .1) _ (c .wide .ensures ∙ c .before .before .read .ensures) (λ e. omega arith) (p .2) in
-    (p .0, f .0, f .1)
+    (p .0, f .0, f .1, f .2)
 
 returns-2 : tie.Need-returns-2
 returns-2 c = odd-place _ _ _ _ _ (c .before .wide .ensures ∙ c .before .before .before .read .ensures) (λ e. omega arith) (c .shown-bit .ensures)

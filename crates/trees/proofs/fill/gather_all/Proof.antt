@@ -2,47 +2,50 @@
 use mathlib.Core.Path.{_≡_, refl, _∙_}
 use mathlib.Core.List.{List}
 use Prim.Native.Nat.{ℕ, _+_, _-_, _*_, _≤_, _<_}
+use native.Mathlib.Omega.{arith}
 use lib.ListN.{length}
+use Rattle.graph.specs.Literals.{literals}
 use Rattle.state.specs.State.{field}
 use Rattle.trees.specs.Filling.{GatheredTo}
 use Rattle.trees.proofs.Noting.{gathered-zero, gathered-suc}
-use native.Mathlib.Omega.{arith}
 use Rattle.trees.proofs.fill.gather_all.Statement.{statement}
 use Rattle.trees.proofs.fill.gather_all.Tie as tie
 
-record Inv (n : ℕ) (sc₀ sc : List ℕ) (v : ℕ) : Type 0 where
+record Inv (l : List ℕ) (n : ℕ) (sc₀ sc : List ℕ) (v : ℕ) : Type 0 where
   within : v ≤ n
   same : length sc ≡ length sc₀
-  done : GatheredTo n sc₀ sc v
+  done : GatheredTo l n sc₀ sc v
 
-counts : (n : ℕ) (sc₀ sc : List ℕ) (v : ℕ) → Inv n sc₀ sc v → ((w : ℕ) → w < n → (field sc₀ w 4 ≤ 1000000) × (field sc₀ w 6 ≤ 1000000)) → v < n
+counts : (l : List ℕ) (n : ℕ) (sc₀ sc : List ℕ) (v : ℕ) → Inv l n sc₀ sc v → (field sc₀ v 4 ≤ 1000000) × (field sc₀ v 6 ≤ 1000000)
     → (field sc v 4 ≤ 1000000) × (field sc v 6 ≤ 1000000)
-counts n sc₀ sc v iv k h =
-    omega (arith, k v h, iv .done .kept (8 * v + 4) (omega arith) (omega arith), iv .done .kept (8 * v + 6) (omega arith) (omega arith))
+counts l n sc₀ sc v iv k =
+    omega (arith, k, iv .done .kept (8 * v + 4) (omega arith) (omega arith) (omega arith), iv .done .kept (8 * v + 6) (omega arith) (omega arith) (omega arith))
 
 abbrev Inv-loop : tie.InvT-loop
-Inv-loop nodes scratch₀ v₀ scratch v = Inv nodes scratch₀ scratch v
+Inv-loop nodes table bits scratch₀ v₀ scratch v = Inv (literals table bits) nodes scratch₀ scratch v
 
 abbrev μ-loop : tie.MeasureT-loop
-μ-loop nodes scratch₀ v₀ scratch v = nodes - v
+μ-loop nodes table bits scratch₀ v₀ scratch v = nodes - v
 
 loop-holds : tie.Need-loop-holds Inv-loop μ-loop
-loop-holds c = record { within = omega arith; same = refl; done = gathered-zero _ _ }
+loop-holds c = record { within = omega arith; same = refl; done = gathered-zero _ _ _ }
 
 gather-requires : tie.Need-gather-requires Inv-loop μ-loop
 gather-requires c κs =
-    let k = counts _ _ _ _ (c .before .before .loop .inv) (c .before .before .before .before .pre .2) (omega arith) in
-    (omega arith, omega (arith, c .before .before .loop .inv .same), k .0, k .1)
+    let p = c .before .before .before .before .before .before .pre in
+    let iv = c .before .before .loop .inv in
+    let q = p .2 (c .before .before .loop .v) (omega arith) in
+    let k = counts _ _ _ _ _ iv (q .1, q .2) in
+    (omega arith, q .0, omega (arith, iv .same, p .1), k .0, k .1)
 
 loop-again : tie.Need-loop-again Inv-loop μ-loop
-loop-again c = record { within = omega arith; same = c .before .before .gather .kept .0 ∙ c .before .before .before .before .before .loop .inv .same; done = gathered-suc _ _ _ _ _ (c .before .before .before .before .before .loop .inv .done) (c .before .before .gather .ensures) }
-
-same-length : tie.Need-same-length Inv-loop μ-loop
-same-length c = c .before .loop .inv .same
+loop-again c =
+    let iv = c .before .before .before .before .before .loop .inv in
+    record { within = omega arith; same = c .before .scratch .given ∙ iv .same; done = gathered-suc _ _ _ _ _ _ (iv .done) (c .before .before .gather .ensures) }
 
 returns : tie.Need-returns Inv-loop μ-loop
 returns c =
-    let e : c .before .loop .v ≡ c .before .before .before .args .nodes = omega (arith, c .before .loop .inv .within) in
+    let e : c .before .loop .v ≡ c .before .before .before .before .before .args .nodes = omega (arith, c .before .loop .inv .within) in
     rw e at (c .before .loop .inv .done)
 
 pub gather-all-spec : {M : Type 1} → statement M
@@ -56,5 +59,5 @@ gather-all-spec =
     (λ c. omega arith)
     (λ c. omega arith)
     loop-again
-    same-length
+    (λ c. c .before .loop .inv .same)
     returns)
