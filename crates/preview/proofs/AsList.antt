@@ -29,7 +29,7 @@ use Rattle.many.specs.Making.{Rises, chosen}
 use Rattle.many.proofs.Halving.{put-out, move-here}
 use Rattle.many.proofs.Sweeping.{put-has}
 use Rattle.preview.specs.Preview.{treeMoves, movesTold, choiceIn, previewNumber, previewBytes, allNodes, AsList}
-use Rattle.preview.proofs.AfterMoves.{choice-at, choice-none}
+use Rattle.preview.proofs.Choices.{choice-at, choice-none}
 use Rattle.preview.proofs.SameCall.{node-is, node-of, told-at, tree-accepted, bytes-told, as-tree-call}
 
 -- the list of all nodes

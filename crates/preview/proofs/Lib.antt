@@ -1,4 +1,4 @@
-pub mod AfterMoves
+pub mod Choices
 pub mod ToldMoves
 pub mod Refusing
 pub mod SameCall

@@ -1,6 +1,6 @@
 -- The bytes of a preview tell the tree call's choice: made, its moves give the tree call's graph. A preview with bytes enough is refused
 -- as the tree call is. From the laws on lists of moves.
-use mathlib.Core.Path.{_≡_, refl, sym, ap, _∙_, fun-ext, subst}
+use mathlib.Core.Path.{_≡_, refl, sym, ap, _∙_, fun-ext}
 use mathlib.Core.Bool.{true, false}
 use mathlib.Core.List.{List, [], _∷_}
 use mathlib.Core.Logic.{⊎-elim, _⊎_, inl, inr, _≢_}
@@ -15,28 +15,26 @@ use Rattle.graph.specs.Admission.{tablesNumber, contentNumber, admissionNumber}
 use Rattle.graph.proofs.Cases.{eq-or-ne, true-or-false}
 use Rattle.graph.proofs.Finite.{getD-tab}
 use Rattle.graph.proofs.Tests.{less, equal, long-slice}
-use Rattle.moves.specs.Apply.{Choice, none, at, put, seen, apply}
+use Rattle.moves.specs.Apply.{Choice, none, at, put, apply}
 use Rattle.graph.specs.Count.{C}
-use Rattle.graph.specs.Admission.{Admitted}
 use Rattle.graph.specs.Answer.{Answer, Outcome}
-use Rattle.graph.specs.Difference.{difference}
-use Rattle.moves.specs.Cost.{shown}
 use Rattle.moves.specs.Outside.{savedBy}
-use Rattle.moves.specs.Split.{split}
-use Rattle.moves.specs.declared.gains.Odds.{Odds}
 use Rattle.moves.specs.Tree.{rootOf, members, tree, IsRoot}
 use Rattle.moves.specs.Call.{moved, bestAt, rewrite, isNode, treeNumber, treeCall}
 use Rattle.moves.proofs.Changed.{at-other}
 use Rattle.moves.proofs.Count.{clash}
 use Rattle.moves.proofs.Readers.{both-true}
-use Rattle.moves.proofs.Rooted.{Rooted, root-others, tree-rooted}
-use Rattle.moves.proofs.Split.{saved-outcome}
-use Rattle.preview.specs.Telling.{RootOdds}
+use Rattle.state.specs.State.{stands}
+use Rattle.state.specs.Step.{Made, Parted}
+use Rattle.state.specs.declared.moving.Step.{Step}
+use Rattle.trees.specs.Stepping.{treeMoved}
+use Rattle.tree_call.proofs.Saved.{rewrite-is}
+use Rattle.preview.specs.Telling.{DecidedAs}
 use Rattle.moves.proofs.Programme.{members-zero, members-in, members-out}
 use Rattle.preview.specs.Preview.{treeMoves, movesTold, choiceIn, previewNumber, previewAnswer, previewBytes, AsTreeCall}
 use Rattle.graph.proofs.Answers.{accepted-is, accepted-outcome}
 use Rattle.preview.proofs.Refusing.{accepted-preview}
-use Rattle.preview.proofs.AfterMoves.{choice-at, choice-none}
+use Rattle.preview.proofs.Choices.{choice-at, choice-none}
 
 -- moves at nodes leave every other index alone
 put-nil : (d : Choice) (ms : List ℕ) → put d [] ms ≡ d
@@ -108,24 +106,14 @@ module _ (g : Graph) (ls : List ℕ) (r : ℕ) where
     unfolding moved treeMoves
     graph-told = ap (apply g) choice-is
 
--- the moves of the root's tree told, C after them, and the root's odd readers: what the tree call saves, in both parts
-pub preview-is : (g : Graph) (ls bs bs′ : List ℕ) (r v b a : ℕ) (o : Odds) (x : Answer) → Admitted g → IsRoot g r → v ≡ r - (g .I + 1) → g .N ≤ length bs
-    → bs′ ≡ movesTold g ls (node g v) bs → b ≡ C g → a ≡ C (apply g (choiceIn g bs′)) → RootOdds g v bs′ o → x ≡ savedBy b a (o .before) (o .after)
-    → (x ≡ rewrite g ls (tree g r) .answer) × (bs′ ≡ movesTold g ls r bs)
-unfolding treeMoves
-preview-is g ls bs bs′ r v b a o x adm i e l t p q d k =
+-- the moves of the root's tree told, and made in scratch, which becomes sc′: what the tree call saves
+pub preview-is : (g : Graph) (ls sc sc′ bs bs′ : List ℕ) (r v b : ℕ) (s : Step) (x : Answer) → IsRoot g r → v ≡ r - (g .I + 1)
+    → (bs′ ≡ movesTold g ls (node g v) bs) × DecidedAs g ls (node g v) sc
+    → Made sc g sc′ (treeMoved (stands g sc) ls (node g v)) (s .count) × Parted (rewrite (stands g sc) ls (tree (stands g sc) (node g v))) s
+    → b ≡ C g → x ≡ savedBy b (s .count) (s .before) (s .after) → (x ≡ rewrite g ls (tree g r) .answer) × (bs′ ≡ movesTold g ls r bs)
+preview-is g ls sc sc′ bs bs′ r v b s x i e t m p q =
     let n : node g v ≡ r = omega (arith, e, i .after-inputs) in
-    let h : v < g .N = omega (arith, e, i .after-inputs, i .within) in
-    let m : bs′ ≡ movesTold g ls r bs = t ∙ ap (λ u. movesTold g ls u bs) n in
-    let us : List ℕ = tree g r in
-    let j : C (apply g (choiceIn g bs′)) ≡ C (moved g us (bestAt g ls us)) = ap (λ y. C (apply g (choiceIn g y))) m ∙ ap C (graph-told g ls r bs l) in
-    let c : choiceIn g bs′ ≡ put none us (bestAt g ls us) = ap (choiceIn g) m ∙ choice-is g ls r bs l in
-    let w : o .before ≡ shown g r 0 = d .before ∙ ap (λ (u : ℕ). shown g u 0) n in
-    let y : o .after ≡ shown g r (seen g (put none us (bestAt g ls us)) r) =
-    d .after ∙ ap (λ (f : Choice). shown g (node g v) (seen g f (node g v))) c ∙ ap (λ (u : ℕ). shown g u (seen g (put none us (bestAt g ls us)) u)) n in
-    let z : split us g (moved g us (bestAt g ls us)) .others ≡ difference (o .before) (o .after) =
-    root-others g adm us r (subst (λ (u : ℕ). Rooted g (tree g u) u) n (tree-rooted g adm v h (rw n (i .root)))) (bestAt g ls us) ∙ rw (w, y) in
-    (k ∙ ap (λ (u : Outcome). u .answer) (saved-outcome g ls us (moved g us (bestAt g ls us)) b a (o .before) (o .after) refl (omega (arith, p, q, j)) z), m)
+    (ap (λ (o : Outcome). o .answer) (rewrite-is g (treeMoved g ls (node g v)) ls sc sc′ r v b s x i e (t .1 .itself) m refl p q), t .0 ∙ ap (λ u. movesTold g ls u bs) n)
 
 -- a fault that two numbers begin with is told once
 first-again : (t l x : ℕ) → first t (first (first t l) x) ≡ first (first t l) x

@@ -9,23 +9,20 @@ use lib.ListN.{length, getD}
 use lib.Seq.{ext-getD}
 use Rattle.graph.specs.Finite.{tab, ifLess}
 use Rattle.graph.specs.Graph.{Graph, node}
-use Rattle.graph.specs.Admission.{Admitted}
 use Rattle.graph.proofs.Cases.{eq-or-ne, lt-or-le}
 use Rattle.graph.proofs.Finite.{length-tab, getD-tab}
 use Rattle.graph.proofs.Tests.{less, no-less}
-use Rattle.moves.specs.Apply.{Choice, none, put, Permitted}
-use Rattle.moves.proofs.Moves.{kind-pos, moves-no-more}
+use Rattle.moves.specs.Apply.{Choice, none, put}
+use Rattle.moves.proofs.Moves.{moves-no-more}
 use Rattle.moves.specs.Tree.{rootOf, tree}
 use Rattle.moves.proofs.Written.{within, put-tree}
 use Rattle.state.specs.State.{stands, Ordered}
-use Rattle.moves.specs.Cost.{shown}
 use Rattle.trees.specs.Costing.{CostsOnly}
 use Rattle.trees.proofs.Ready.{stands-costs}
 use Rattle.trees.specs.Deciding.{movesIn, TreeDecided}
 use Rattle.trees.proofs.DecidePass.{moves-at}
-use Rattle.preview.specs.Preview.{treeMoves, movesTold, choiceIn}
-use Rattle.preview.specs.Telling.{Cleared, MovesStored, Told, Says, RootRead}
-use Rattle.preview.proofs.AfterMoves.{choice-at}
+use Rattle.preview.specs.Preview.{treeMoves, movesTold}
+use Rattle.preview.specs.Telling.{Cleared, MovesStored, Told, DecidedAs}
 
 within-in : (g : Graph) (u : ℕ) (m : Choice) (v : ℕ) → v < g .N → rootOf g (node g v) ≡ u → within g u m (node g v) ≡ m (node g v)
 unfolding within
@@ -48,15 +45,6 @@ module _ (g : Graph) (ls : List ℕ) (u : ℕ) (sc bs bs₁ bs₂ : List ℕ) (t
       (λ (e : rootOf g (node g v) ≢ u).
       to .kept v (λ z. e) ∙ cl .none v l ∙ sym (within-out g u (movesIn (g .I) sc) v l e) ∙ ap (λ f. f (node g v)) (sym moves-are))
       (eq-or-ne (rootOf g (node g v)) u)
-
-  -- every node's byte is a move that its kind has
-  pub told-permitted : Permitted g (choiceIn g bs₂)
-  told-permitted v l =
-      rw (choice-at g bs₂ v l)
-      (⊎-elim
-      (λ (e : rootOf g (node g v) ≡ u). rw (to .told v l e) (omega (arith, td .permitted v l e, moves-no-more g ls (node g v))))
-      (λ (e : rootOf g (node g v) ≢ u). rw (to .kept v (λ z. e), cl .none v l) (kind-pos g (node g v)))
-      (eq-or-ne (rootOf g (node g v)) u))
 
   entry : (j : ℕ) → getD bs₂ j 0 ≡ ifLess j (g .N) (treeMoves g ls u (node g j)) (getD bs j 0)
   entry j =
@@ -83,16 +71,14 @@ module _ (g : Graph) (ls sc sc′ bs bs₁ bs₂ : List ℕ) (v : ℕ) (s : stan
   pub told-tree : bs₂ ≡ movesTold g ls (node g v) bs
   told-tree = told-is g ls (node g v) sc′ bs bs₁ bs₂ decided cl told
 
-  pub told-says : Admitted g → g .N ≤ length bs → Says g bs₂
-  told-says adm l = record { admitted = adm; permitted = told-permitted g ls (node g v) sc′ bs bs₁ bs₂ decided cl told; enough = omega (arith, l, told .same, cl .same) }
-
-  -- and the readers of the root stand in scratch
-  pub told-root : Ordered g sc′ → v < g .N → RootRead g v sc′
-  told-root o l =
-      let e : stands g sc′ ≡ g = stands-costs g sc sc′ co ∙ s in
-      record { reads = o .reads v l; odd = o .odd v l ∙ ap (λ (h : Graph). shown h (node g v) 0) e; long = o .long }
+  -- and the tree stands decided in scratch
+  pub told-decided : Ordered g sc′ → DecidedAs g ls (node g v) sc′
+  told-decided o = record { ordered = o; itself = stands-costs g sc sc′ co ∙ s; decided = decided }
 
 -- the moves stored are still those of the state
 pub still-stored : (g : Graph) (ls sc sc′ : List ℕ) (u : ℕ) → CostsOnly sc sc′ → TreeDecided (stands g sc) ls u sc′ → MovesStored (stands g sc′) u sc′
 still-stored g ls sc sc′ u co td =
     rw (stands-costs g sc sc′ co) (λ v l e. omega (arith, td .permitted v l e, moves-no-more (stands g sc) ls (node (stands g sc) v)))
+
+pub decided-itself : (g : Graph) (ls : List ℕ) (u : ℕ) (sc : List ℕ) → DecidedAs g ls u sc → TreeDecided (stands g sc) ls u sc
+decided-itself g ls u sc d = rw (d .itself) (d .decided)

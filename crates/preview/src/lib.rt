@@ -1,11 +1,10 @@
 ghost use mathlib.Core.Path.{_≡_};
 ghost use lib.ListN.{length};
 ghost use Rattle.graph.specs.Answer.{ScratchKept};
-ghost use Rattle.graph.specs.Graph.{graphOf};
+ghost use Rattle.graph.specs.Literals.{graphIn};
 ghost use Rattle.moves.specs.Call.{savingAnswer};
 ghost use Rattle.preview.specs.Preview.{previewAnswer, previewBytes};
 
-mod after;
 mod deciding;
 mod faults;
 mod telling;
@@ -19,14 +18,20 @@ pub fn preview(
     nodes: u32,
     outputs: u32,
     node_table: &[u32],
+    node_bits: &[u64],
     output_table: &[u32],
+    output_bits: &[u64],
     locks: &[u8],
     root: u32,
     bytes: &mut [u8],
     scratch: &mut [u32],
 ) -> Saving
-    ensures answer { λ r. ⌜ savingAnswer r ≡ previewAnswer (graphOf inputs nodes outputs (now («node_table» .entry)) (now («output_table» .entry))) (now (locks .entry)) (length (now (bytes .entry))) (length (now (scratch .entry))) root ⌝ }
-    ensures bytes { λ r. ⌜ now (bytes .exit) ≡ previewBytes (graphOf inputs nodes outputs (now («node_table» .entry)) (now («output_table» .entry))) (now (locks .entry)) (now (bytes .entry)) (length (now (scratch .entry))) root ⌝ }
+    ensures answer { λ r.
+        let g = graphIn inputs nodes outputs (now («node_table» .entry)) (now («node_bits» .entry)) (now («output_table» .entry)) (now («output_bits» .entry)) in
+        ⌜ savingAnswer r ≡ previewAnswer g (now (locks .entry)) (length (now (bytes .entry))) (length (now (scratch .entry))) root ⌝ }
+    ensures bytes { λ r.
+        let g = graphIn inputs nodes outputs (now («node_table» .entry)) (now («node_bits» .entry)) (now («output_table» .entry)) (now («output_bits» .entry)) in
+        ⌜ now (bytes .exit) ≡ previewBytes g (now (locks .entry)) (now (bytes .entry)) (length (now (scratch .entry))) root ⌝ }
     ensures scratch { λ r. ⌜ ScratchKept (savingAnswer r) (now (scratch .entry)) (now (scratch .exit)) ⌝ }
 {
     let number = faults::preview_number(
@@ -34,7 +39,9 @@ pub fn preview(
         nodes,
         outputs,
         node_table,
+        node_bits,
         output_table,
+        output_bits,
         locks,
         root,
         bytes.len(),
@@ -48,7 +55,9 @@ pub fn preview(
         nodes,
         outputs,
         node_table,
+        node_bits,
         output_table,
+        output_bits,
         locks,
         root,
         bytes,

@@ -3,7 +3,7 @@ ghost use mathlib.Core.Path.{_≡_};
 ghost use mathlib.Core.Bool.{true};
 ghost use Prim.Native.Nat.{_+_, _≤_, _<_};
 ghost use lib.ListN.{length};
-ghost use Rattle.graph.specs.Graph.{graphOf};
+ghost use Rattle.graph.specs.Literals.{graphIn};
 ghost use Rattle.moves.specs.Tree.{isRoot};
 ghost use Rattle.state.specs.State.{stands, Ordered};
 ghost use Rattle.preview.specs.Telling.{Cleared, MovesStored, Told};
@@ -37,13 +37,18 @@ pub fn tell(
     nodes: u32,
     outputs: u32,
     node_table: &[u32],
+    node_bits: &[u64],
     output_table: &[u32],
+    output_bits: &[u64],
     root: usize,
     bytes: &mut [u8],
     scratch: &[u32],
 )
-    requires { ⌜ Ordered (graphOf inputs nodes outputs (now «node_table») (now «output_table»)) (now scratch) × (root < nodes) × (isRoot (graphOf inputs nodes outputs (now «node_table») (now «output_table»)) (inputs + 1 + root) ≡ true) × MovesStored (stands (graphOf inputs nodes outputs (now «node_table») (now «output_table»)) (now scratch)) (inputs + 1 + root) (now scratch) × (nodes ≤ length (now bytes)) ⌝ }
-    ensures { λ _. ⌜ Told (stands (graphOf inputs nodes outputs (now («node_table» .entry)) (now («output_table» .entry))) (now (scratch .entry))) (inputs + 1 + root) (now (scratch .entry)) (now (bytes .entry)) (now (bytes .exit)) ⌝ }
+    requires { let g = graphIn inputs nodes outputs (now «node_table») (now «node_bits») (now «output_table») (now «output_bits») in
+        ⌜ Ordered g (now scratch) × (root < nodes) × (isRoot g (inputs + 1 + root) ≡ true) × MovesStored (stands g (now scratch)) (inputs + 1 + root) (now scratch) × (nodes ≤ length (now bytes)) ⌝ }
+    ensures { λ _.
+        let g = graphIn inputs nodes outputs (now («node_table» .entry)) (now («node_bits» .entry)) (now («output_table» .entry)) (now («output_bits» .entry)) in
+        ⌜ Told (stands g (now (scratch .entry))) (inputs + 1 + root) (now (scratch .entry)) (now (bytes .entry)) (now (bytes .exit)) ⌝ }
 {
     let mut v = narrow(root);
     while v != MARK {

@@ -4,6 +4,7 @@ ghost use mathlib.Core.List.{List};
 ghost use Prim.Native.Nat.{ℕ, _+_, _*_, _≤_, _<_};
 ghost use Rattle.graph.specs.Graph.{graphOf};
 ghost use Rattle.graph.specs.Admission.{Admitted};
+ghost use Rattle.graph.specs.Literals.{graphIn};
 ghost use Rattle.moves.specs.Call.{rootFault, scratchFault, treeNumber};
 use graph::faults::admission_number;
 use graph::faults::first_fault;
@@ -16,13 +17,26 @@ pub fn root_fault(
     nodes: u32,
     outputs: u32,
     node_table: &[u32],
+    node_bits: &[u64],
     output_table: &[u32],
+    output_bits: &[u64],
     root: u32,
 ) -> u32
-    requires { ⌜ Admitted (graphOf inputs nodes outputs (now «node_table») (now «output_table»)) × (root < inputs + 1 + nodes) ⌝ }
-    ensures { λ r. ⌜ r ≡ rootFault (graphOf inputs nodes outputs (now («node_table» .entry)) (now («output_table» .entry))) root ⌝ }
+    requires { ⌜ Admitted (graphIn inputs nodes outputs (now «node_table») (now «node_bits») (now «output_table») (now «output_bits»)) × (root < inputs + 1 + nodes) ⌝ }
+    ensures { λ r.
+        let g = graphIn inputs nodes outputs (now («node_table» .entry)) (now («node_bits» .entry)) (now («output_table» .entry)) (now («output_bits» .entry)) in
+        ⌜ r ≡ rootFault g root ⌝ }
 {
-    let r = readers_of(inputs, nodes, outputs, node_table, output_table, root);
+    let r = readers_of(
+        inputs,
+        nodes,
+        outputs,
+        node_table,
+        node_bits,
+        output_table,
+        output_bits,
+        root,
+    );
     if r.all != 1 {
         return 0;
     }
@@ -47,14 +61,27 @@ pub fn tree_number(
     nodes: u32,
     outputs: u32,
     node_table: &[u32],
+    node_bits: &[u64],
     output_table: &[u32],
+    output_bits: &[u64],
     locks: &[u8],
     root: u32,
     length: usize,
 ) -> u32
-    ensures { λ r. ⌜ r ≡ treeNumber (graphOf inputs nodes outputs (now («node_table» .entry)) (now («output_table» .entry))) (now (locks .entry)) length root ⌝ }
+    ensures { λ r.
+        let g = graphIn inputs nodes outputs (now («node_table» .entry)) (now («node_bits» .entry)) (now («output_table» .entry)) (now («output_bits» .entry)) in
+        ⌜ r ≡ treeNumber g (now (locks .entry)) length root ⌝ }
 {
-    let admission = admission_number(inputs, nodes, outputs, node_table, output_table, locks);
+    let admission = admission_number(
+        inputs,
+        nodes,
+        outputs,
+        node_table,
+        node_bits,
+        output_table,
+        output_bits,
+        locks,
+    );
     if admission != 0 {
         return admission;
     }
@@ -62,7 +89,16 @@ pub fn tree_number(
     if node != 0 {
         return node;
     }
-    let tree = root_fault(inputs, nodes, outputs, node_table, output_table, root);
+    let tree = root_fault(
+        inputs,
+        nodes,
+        outputs,
+        node_table,
+        node_bits,
+        output_table,
+        output_bits,
+        root,
+    );
     let room = scratch_fault(nodes, length);
     first_fault(tree, room)
 }

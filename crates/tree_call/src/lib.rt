@@ -1,11 +1,12 @@
 ghost use mathlib.Core.Path.{_≡_};
 ghost use lib.ListN.{length};
 ghost use Rattle.graph.specs.Answer.{outcome, ScratchKept};
-ghost use Rattle.graph.specs.Graph.{graphOf};
+ghost use Rattle.graph.specs.Literals.{graphIn};
 ghost use Rattle.moves.specs.Call.{savingAnswer, treeCall};
 
 pub mod faults;
 mod rewrite;
+mod writing;
 
 use graph::faults::refused_by;
 use moves::Saving;
@@ -16,13 +17,18 @@ pub fn tree_call(
     inputs: u32,
     nodes: u32,
     outputs: u32,
-    node_table: &mut [u32],
-    output_table: &mut [u32],
+    node_table: &[u32],
+    node_bits: &mut [u64],
+    output_table: &[u32],
+    output_bits: &mut [u64],
     locks: &[u8],
     root: u32,
     scratch: &mut [u32],
 ) -> Saving
-    ensures outcome { λ r. ⌜ outcome (savingAnswer r) (graphOf inputs nodes outputs (now («node_table» .exit)) (now («output_table» .exit))) ≡ treeCall (graphOf inputs nodes outputs (now («node_table» .entry)) (now («output_table» .entry))) (now (locks .entry)) (length (now (scratch .entry))) root ⌝ }
+    ensures outcome { λ r.
+        let g = graphIn inputs nodes outputs (now («node_table» .entry)) (now («node_bits» .entry)) (now («output_table» .entry)) (now («output_bits» .entry)) in
+        let k = graphIn inputs nodes outputs (now («node_table» .entry)) (now («node_bits» .exit)) (now («output_table» .entry)) (now («output_bits» .exit)) in
+        ⌜ outcome (savingAnswer r) k ≡ treeCall g (now (locks .entry)) (length (now (scratch .entry))) root ⌝ }
     ensures scratch { λ r. ⌜ ScratchKept (savingAnswer r) (now (scratch .entry)) (now (scratch .exit)) ⌝ }
 {
     let number = faults::tree_number(
@@ -30,7 +36,9 @@ pub fn tree_call(
         nodes,
         outputs,
         node_table,
+        node_bits,
         output_table,
+        output_bits,
         locks,
         root,
         scratch.len(),
@@ -43,7 +51,9 @@ pub fn tree_call(
         nodes,
         outputs,
         node_table,
+        node_bits,
         output_table,
+        output_bits,
         locks,
         root,
         scratch,

@@ -6,29 +6,30 @@ use Prim.Native.Nat.{ℕ}
 use Rattle.moves.specs.Call.{treeNumber}
 use Rattle.tree_call.proofs.Refused.{tree-range, accepted-by, refused-call, accepted-call, accepted-number}
 use borrow.Author.Needs.{needs}
+use Rattle.graph.specs.Literals.{literals}
 use Rattle.tree_call.proofs.tree_call.Statement.{statement}
 use Rattle.tree_call.proofs.tree_call.Tie as tie
 
 refused-by-requires : tie.Need-refused-by-requires
 refused-by-requires c κs =
-    let st = c .before .before .before .before .before .before .before .before in
+    let st = c .before .before .before .before .before .before .before .before .before .before in
     let a = st .args in
-    let g : Graph = graphOf (a .inputs) (a .nodes) (a .outputs) (a .node-table .now) (a .output-table .now) in
+    let g : Graph = graphOf (a .inputs) (a .nodes) (a .outputs) (literals (a .node-table .now) (a .node-bits .now)) (literals (a .output-table .now) (a .output-bits .now)) in
     tree-range g (a .locks .now) (length (a .scratch .now)) (a .root) (c .before .tree-number .result) (c .before .tree-number .ensures) (c .if1 .taken)
 
 returns : tie.Need-returns
 returns c =
-    let st = c .before .before .before .before .before .before .before .before .before in
+    let st = c .before .before .before .before .before .before .before .before .before .before .before in
     let a = st .args in
-    let g : Graph = graphOf (a .inputs) (a .nodes) (a .outputs) (a .node-table .now) (a .output-table .now) in
+    let g : Graph = graphOf (a .inputs) (a .nodes) (a .outputs) (literals (a .node-table .now) (a .node-bits .now)) (literals (a .output-table .now) (a .output-bits .now)) in
     let q = c .refused-by .ensures in
     (refused-call g (a .locks .now) (length (a .scratch .now)) (a .root) _ (q ∙ c .before .before .tree-number .ensures) (λ z. c .before .if1 .taken (sym q ∙ z)), λ z. refl)
 
 rewrite-tree-requires : tie.Need-rewrite-tree-requires
 rewrite-tree-requires c κs =
-    let st = c .before .before .before .before .before .before .before .before .before .before .before in
+    let st = c .before .before .before .before .before .before .before .before .before .before .before .before .before in
     let a = st .args in
-    let g : Graph = graphOf (a .inputs) (a .nodes) (a .outputs) (a .node-table .now) (a .output-table .now) in
+    let g : Graph = graphOf (a .inputs) (a .nodes) (a .outputs) (literals (a .node-table .now) (a .node-bits .now)) (literals (a .output-table .now) (a .output-bits .now)) in
     let n : ℕ = c .before .before .before .before .tree-number .result in
     let e : n ≡ treeNumber g (a .locks .now) (length (a .scratch .now)) (a .root) = c .before .before .before .before .tree-number .ensures in
     let z : n ≡ 0 = c .before .before .before .if1 .left in
@@ -36,9 +37,9 @@ rewrite-tree-requires c κs =
 
 returns-2 : tie.Need-returns-2
 returns-2 c =
-    let st = c .before .before .before .before .before .before .before .before .before .before .before .before .before .before .before .before .before .before in
+    let st = c .before .before .before .before .before .before .before .before .before .before .before .before .before .before .before .before .before .before .before .before in
     let a = st .args in
-    let g : Graph = graphOf (a .inputs) (a .nodes) (a .outputs) (a .node-table .now) (a .output-table .now) in
+    let g : Graph = graphOf (a .inputs) (a .nodes) (a .outputs) (literals (a .node-table .now) (a .node-bits .now)) (literals (a .output-table .now) (a .output-bits .now)) in
     let n : ℕ = c .before .before .before .before .before .before .before .before .before .before .before .tree-number .result in
     let e : n ≡ treeNumber g (a .locks .now) (length (a .scratch .now)) (a .root) = c .before .before .before .before .before .before .before .before .before .before .before .tree-number .ensures in
     let z : n ≡ 0 = c .before .before .before .before .before .before .before .before .before .before .if1 .left in

@@ -2,30 +2,29 @@
 use native.Mathlib.Omega.{arith}
 use borrow.Author.Needs.{needs}
 use Rattle.trees.proofs.Ready.{ordered-costs}
-use Rattle.preview.proofs.ToldMoves.{told-tree, told-says, told-root, still-stored}
+use Rattle.preview.proofs.ToldMoves.{told-tree, told-decided, still-stored}
 use Rattle.preview.proofs.deciding.tell_tree.Statement.{statement}
 use Rattle.preview.proofs.deciding.tell_tree.Tie as tie
 
 decide-tree-requires : tie.Need-decide-tree-requires
-decide-tree-requires c κs = let p = c .before .before .before .before .before .before .before .before .before .before .pre in (c .before .before .before .fill-scratch .ensures .0, p .1, p .2, p .5)
+decide-tree-requires c κs = let p = c .before .before .before .before .before .before .before .before .before .before .before .before .pre in (c .before .before .before .fill-scratch .ensures .0, p .1, p .2, p .5)
 
 clear-requires : tie.Need-clear-requires
-clear-requires c κs = let p = c .before .before .before .before .before .before .before .before .before .before .before .before .before .before .pre in (p .0 .few-nodes, p .4)
+clear-requires c κs = let p = c .before .before .before .before .before .before .before .before .before .before .before .before .before .before .before .before .pre in (p .0 .few-nodes, p .4)
 
 tell-requires : tie.Need-tell-requires
 tell-requires c κs =
-    let p = c .before .before .before .before .before .before .before .before .before .before .before .before .before .before .before .before .before .before .before .pre in
+    let p = c .before .before .before .before .before .before .before .before .before .before .before .before .before .before .before .before .before .before .before .before .before .pre in
     let d = c .before .before .before .before .before .before .before .before .decide-tree .ensures in
     (ordered-costs _ _ _ (d .1) (c .before .before .before .before .before .before .before .before .before .before .before .before .fill-scratch .ensures .0), p .1, p .2, still-stored _ _ _ _ _ (d .1) (d .0), omega (arith, p .4, c .before .before .before .before .clear .ensures .same))
 
 returns : tie.Need-returns
 returns c =
-    let p = c .before .before .before .before .before .before .before .before .before .before .before .before .before .before .before .before .before .before .before .before .before .before .pre in
     let f = c .before .before .before .before .before .before .before .before .before .before .before .before .before .before .before .fill-scratch .ensures in
     let d = c .before .before .before .before .before .before .before .before .before .before .before .decide-tree .ensures in
     let cl = c .before .before .before .before .before .before .before .clear .ensures in
     let to = c .before .before .tell .ensures in
-    (told-tree _ _ _ _ _ _ _ _ (f .1) (d .0) (d .1) cl to, told-says _ _ _ _ _ _ _ _ (f .1) (d .0) (d .1) cl to (p .0) (p .4), told-root _ _ _ _ _ _ _ _ (f .1) (d .0) (d .1) cl to (ordered-costs _ _ _ (d .1) (f .0)) (p .1))
+    (told-tree _ _ _ _ _ _ _ _ (f .1) (d .0) (d .1) cl to, told-decided _ _ _ _ _ _ _ _ (f .1) (d .0) (d .1) cl to (ordered-costs _ _ _ (d .1) (f .0)))
 
 pub tell-tree-spec : {M : Type 1} → statement M
 tell-tree-spec =

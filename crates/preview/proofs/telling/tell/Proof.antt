@@ -22,6 +22,7 @@ use Rattle.trees.proofs.Ready.{Ready, ordered-ready}
 use Rattle.trees.proofs.Falling.{boundOf, bound-mark, bound-node, next-lower}
 use Rattle.preview.specs.Telling.{MovesStored, Told}
 use borrow.Author.Needs.{needs}
+use Rattle.graph.specs.Literals.{literals}
 use Rattle.preview.proofs.telling.tell.Statement.{statement}
 use Rattle.preview.proofs.telling.tell.Tie as tie
 
@@ -105,47 +106,47 @@ module _ (g : Graph) (sc : List ℕ) (o : Ordered g sc) (r : ℕ) (h : r < g .N)
   as-stands td = td
 
 abbrev Inv-loop : tie.InvT-loop
-Inv-loop inputs nodes outputs node-table output-table root bytes₀ scratch v₀ bytes v = Inv (graphOf inputs nodes outputs node-table output-table) scratch root bytes₀ bytes v
+Inv-loop inputs nodes outputs node-table node-bits output-table output-bits root bytes₀ scratch v₀ bytes v = Inv (graphOf inputs nodes outputs (literals node-table node-bits) (literals output-table output-bits)) scratch root bytes₀ bytes v
 
 abbrev μ-loop : tie.MeasureT-loop
-μ-loop inputs nodes outputs node-table output-table root bytes₀ scratch v₀ bytes v = boundOf v
+μ-loop inputs nodes outputs node-table node-bits output-table output-bits root bytes₀ scratch v₀ bytes v = boundOf v
 
 narrow-requires : tie.Need-narrow-requires Inv-loop μ-loop
-narrow-requires c κs = omega (arith, c .before .before .before .before .pre .0 .admitted .few-nodes, c .before .before .before .before .pre .1)
+narrow-requires c κs = omega (arith, c .before .before .before .before .before .before .pre .0 .admitted .few-nodes, c .before .before .before .before .before .before .pre .1)
 
 loop-holds : tie.Need-loop-holds Inv-loop μ-loop
-loop-holds c = let p = c .before .before .before .before .before .pre in begin _ _ (p .0) _ (p .1) (p .2) _ _ (c .narrow .ensures)
+loop-holds c = let p = c .before .before .before .before .before .before .before .pre in begin _ _ (p .0) _ (p .1) (p .2) _ _ (c .narrow .ensures)
 
 wide-requires : tie.Need-wide-requires Inv-loop μ-loop
 wide-requires c κs = search needs
 
 read-requires : tie.Need-read-requires Inv-loop μ-loop
-read-requires c κs = omega (arith, c .before .before .loop .inv .here (λ e. omega arith) .0, c .wide .ensures, c .before .before .before .before .before .before .before .before .pre .1, c .before .before .before .before .before .before .before .before .pre .0 .long, c .before .before .before .before .before .before .before .before .pre .0 .admitted .few-nodes)
+read-requires c κs = omega (arith, c .before .before .loop .inv .here (λ e. omega arith) .0, c .wide .ensures, c .before .before .before .before .before .before .before .before .before .before .pre .1, c .before .before .before .before .before .before .before .before .before .before .pre .0 .long, c .before .before .before .before .before .before .before .before .before .before .pre .0 .admitted .few-nodes)
 
 byte-requires : tie.Need-byte-requires Inv-loop μ-loop
-byte-requires c κs = let p = c .before .before .before .before .before .before .before .before .before .pre in omega (arith, c .read .ensures, small _ _ (p .0) _ (p .1) (p .2) (as-stands _ _ (p .0) _ (p .1) (p .2) (p .3)) _ _ _ (c .before .before .before .loop .inv) (λ e. omega arith) _ (c .before .wide .ensures))
+byte-requires c κs = let p = c .before .before .before .before .before .before .before .before .before .before .before .pre in omega (arith, c .read .ensures, small _ _ (p .0) _ (p .1) (p .2) (as-stands _ _ (p .0) _ (p .1) (p .2) (p .3)) _ _ _ (c .before .before .before .loop .inv) (λ e. omega arith) _ (c .before .wide .ensures))
 
 slice-write-bytes : tie.Need-slice-write-bytes Inv-loop μ-loop
-slice-write-bytes c = omega (arith, c .before .before .before .before .loop .inv .here (λ e. omega arith) .0, c .before .before .before .before .loop .inv .same, c .before .before .wide .ensures, c .before .before .before .before .before .before .before .before .before .before .pre .1, c .before .before .before .before .before .before .before .before .before .before .pre .4)
+slice-write-bytes c = omega (arith, c .before .before .before .before .loop .inv .here (λ e. omega arith) .0, c .before .before .before .before .loop .inv .same, c .before .before .wide .ensures, c .before .before .before .before .before .before .before .before .before .before .before .before .pre .1, c .before .before .before .before .before .before .before .before .before .before .before .before .pre .4)
 
 read-requires-2 : tie.Need-read-requires-2 Inv-loop μ-loop
-read-requires-2 c κs = omega (arith, c .before .before .before .before .loop .inv .here (λ e. omega arith) .0, c .before .before .wide .ensures, c .before .before .before .before .before .before .before .before .before .before .pre .1, c .before .before .before .before .before .before .before .before .before .before .pre .0 .long, c .before .before .before .before .before .before .before .before .before .before .pre .0 .admitted .few-nodes)
+read-requires-2 c κs = omega (arith, c .before .before .before .before .loop .inv .here (λ e. omega arith) .0, c .before .before .wide .ensures, c .before .before .before .before .before .before .before .before .before .before .before .before .pre .1, c .before .before .before .before .before .before .before .before .before .before .before .before .pre .0 .long, c .before .before .before .before .before .before .before .before .before .before .before .before .pre .0 .admitted .few-nodes)
 
 loop-less : tie.Need-loop-less Inv-loop μ-loop
 loop-less c =
-    let p = c .before .before .before .before .before .before .before .before .before .before .before .pre in
+    let p = c .before .before .before .before .before .before .before .before .before .before .before .before .before .pre in
     again _ _ (p .0) _ (p .1) (p .2) (as-stands _ _ (p .0) _ (p .1) (p .2) (p .3)) _ _ _ (c .before .before .before .before .before .loop .inv) (λ e. omega arith) _ (c .before .before .before .wide .ensures) _ _ (c .before .byte .ensures ∙ c .before .before .read .ensures) (c .read2 .ensures) (omega (arith, c .before .before .before .before .before .loop .inv .here (λ e. omega arith) .0, c .before .before .before .before .before .loop .inv .same, c .before .before .before .wide .ensures, p .1, p .4)) .1
 
 loop-again : tie.Need-loop-again Inv-loop μ-loop
 loop-again c =
-    let p = c .before .before .before .before .before .before .before .before .before .before .before .pre in
+    let p = c .before .before .before .before .before .before .before .before .before .before .before .before .before .pre in
     again _ _ (p .0) _ (p .1) (p .2) (as-stands _ _ (p .0) _ (p .1) (p .2) (p .3)) _ _ _ (c .before .before .before .before .before .loop .inv) (λ e. omega arith) _ (c .before .before .before .wide .ensures) _ _ (c .before .byte .ensures ∙ c .before .before .read .ensures) (c .read2 .ensures) (omega (arith, c .before .before .before .before .before .loop .inv .here (λ e. omega arith) .0, c .before .before .before .before .before .loop .inv .same, c .before .before .before .wide .ensures, p .1, p .4)) .0
 
 same-length : tie.Need-same-length Inv-loop μ-loop
 same-length c = c .before .loop .inv .same
 
 returns : tie.Need-returns Inv-loop μ-loop
-returns c = let p = c .before .before .before .before .before .before .before .pre in last _ _ (p .0) _ (p .1) (p .2) _ _ _ (c .before .loop .inv) (omega arith)
+returns c = let p = c .before .before .before .before .before .before .before .before .before .pre in last _ _ (p .0) _ (p .1) (p .2) _ _ _ (c .before .loop .inv) (omega arith)
 
 pub tell-spec : {M : Type 1} → statement M
 tell-spec =
