@@ -5,7 +5,7 @@ use Rattle.graph.specs.Finite.{tab, sum, count, ifLess, ifEqual, first, firstOf
 use Rattle.graph.specs.Graph.{turn, isXor, isEdge}
 use Rattle.graph.specs.Turned.{turnedTable, turnedBy}
 use Rattle.graph.specs.Count.{adds, wordAdds, nodeAdds, outputAdds, C, named, outputNamed, nodeReaders, readers}
-use Rattle.graph.specs.Admission.{roomNumber, tablesNumber, wordNumber, outputNumber, literalNumber, lockNumber, locksNumber, contentNumber, admissionNumber}
+use Rattle.graph.specs.Admission.{roomNumber, tablesNumber, wordNumber, outputNumber, literalNumber, lockNumber, locksNumber, contentNumber, admissionNumber, strayNumber, straysNumber}
 use Rattle.graph.specs.Answer.{guarded}
 use Rattle.choice.specs.Choice.{from, choices, unlessLess, least, best}
 use Rattle.moves.specs.Rows.{rows, firstRow, arity, flag, kindMoves, lockAt, movesAt}
@@ -17,7 +17,8 @@ use Rattle.moves.specs.Split.{among, ownAdds, otherAdds, split}
 use Rattle.rounds.specs.Round.{start, after, each, treeAt, nodeAt, pairAt, pairsAt, round}
 use Rattle.rounds.specs.Settle.{settleIn, settle, settleNumber, settleCall}
 use Rattle.rounds.specs.Worked.{Settles}
+use Rattle.graph.specs.Literals.{bitOf, held, strays}
 
 pub settles : Settles
-unfolding flatMap tab sum count ifLess ifEqual first firstOf turn isXor isEdge adds wordAdds nodeAdds outputAdds C named outputNamed nodeReaders readers tablesNumber roomNumber wordNumber outputNumber literalNumber lockNumber locksNumber contentNumber admissionNumber guarded from choices unlessLess least best rows firstRow arity flag kindMoves lockAt movesAt at put seen own turns outputTurns turnedTable turnedBy apply isRoot last place reader rootIn rootOf members tree moved movedC bestAt rewrite isNode nodeFault wordFault rootFault scratchFault nodeNumber nodeCall namedBy pairNumber pairRewrite pairCall treeNumber treeCall difference among ownAdds otherAdds split start after each treeAt nodeAt pairAt pairsAt round settleIn settle settleNumber settleCall
+unfolding flatMap tab sum count ifLess ifEqual first firstOf turn isXor isEdge adds wordAdds nodeAdds outputAdds C named outputNamed nodeReaders readers tablesNumber roomNumber wordNumber outputNumber literalNumber lockNumber locksNumber contentNumber admissionNumber guarded from choices unlessLess least best rows firstRow arity flag kindMoves lockAt movesAt at put seen own turns outputTurns turnedTable turnedBy apply isRoot last place reader rootIn rootOf members tree moved movedC bestAt rewrite isNode nodeFault wordFault rootFault scratchFault nodeNumber nodeCall namedBy pairNumber pairRewrite pairCall treeNumber treeCall difference among ownAdds otherAdds split start after each treeAt nodeAt pairAt pairsAt round settleIn settle settleNumber settleCall held strays bitOf straysNumber strayNumber
 settles = refl

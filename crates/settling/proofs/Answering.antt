@@ -25,9 +25,9 @@ pub passed : (g : Graph) (ls : List ℕ) (s : ℕ) → settleNumber g ls s ≡ 0
 unfolding settleNumber scratchFault
 passed g ls s e = let b = both _ _ e in (admitted g ls (b .0), off s (8 * g .N) 7 0 (b .1) .0, locks-admitted g ls (b .0))
 
-pub settled-to : (ls : List ℕ) (s s′ : ℕ) (g : Graph) (sc : List ℕ) (g′ : Graph) (sc′ : List ℕ) (h : Graph) (b : ℕ) (m : RoundsMade) → s′ ≡ s → stands g sc ≡ g → AllRounds ls s′ g sc g′ sc′ m
-    → h ≡ stands g′ sc′ → b ≡ C g → SettledTo ls s g h (record { rounds = m .rounds; before = b; after = m .count; odd = m .before; later = m .after })
-settled-to ls s s′ g sc g′ sc′ h b m e q r w f =
+pub settled-to : (ls : List ℕ) (s s′ : ℕ) (g : Graph) (sc sc′ : List ℕ) (h : Graph) (b : ℕ) (m : RoundsMade) → s′ ≡ s → stands g sc ≡ g → AllRounds ls s′ g sc sc′ m
+    → h ≡ stands g sc′ → b ≡ C g → SettledTo ls s g h (record { rounds = m .rounds; before = b; after = m .count; odd = m .before; later = m .after })
+settled-to ls s s′ g sc sc′ h b m e q r w f =
     let x : settle ls s g .made ≡ settle ls s′ (stands g sc) .made = rw (← e) (ap (λ (y : Graph). settle ls s′ y .made) (sym q)) in
     record {
       graph = ap (λ (p : Progress). p .graph) x ∙ r .carried .graph ∙ sym w;

@@ -33,9 +33,9 @@ use Rattle.settling.specs.declared.phases.Tally.{Tally}
 use Rattle.rounds.proofs.Turns.{Goes, nodeAt-goes, treeAt-root, treeAt-inner, pairAt-word, pairAt-none}
 
 -- steps one after the other
-pub phase-then : (a b : Progress → Progress) (m n : ℕ) (g g₁ g₂ : Graph) (sc sc₁ sc₂ : List ℕ) (t t₁ t₂ : Tally) → Phase a m g sc t g₁ sc₁ t₁ → Phase b n g₁ sc₁ t₁ g₂ sc₂ t₂
-    → Phase (λ p. b (a p)) (m + n) g sc t g₂ sc₂ t₂
-phase-then a b m n g g₁ g₂ sc sc₁ sc₂ t t₁ t₂ x y =
+pub phase-then : (a b : Progress → Progress) (m n : ℕ) (g : Graph) (sc sc₁ sc₂ : List ℕ) (t t₁ t₂ : Tally) → Phase a m g sc t sc₁ t₁ → Phase b n g sc₁ t₁ sc₂ t₂
+    → Phase (λ p. b (a p)) (m + n) g sc t sc₂ t₂
+phase-then a b m n g sc sc₁ sc₂ t t₁ t₂ x y =
     record {
       ordered = y .ordered;
       long = y .long ∙ x .long;
@@ -46,8 +46,8 @@ phase-then a b m n g g₁ g₂ sc sc₁ sc₂ t t₁ t₂ x y =
     }
 
 -- of at most so many calls
-pub phase-most : (a : Progress → Progress) (m n : ℕ) (g g₁ : Graph) (sc sc₁ : List ℕ) (t t₁ : Tally) → m ≤ n → Phase a m g sc t g₁ sc₁ t₁ → Phase a n g sc t g₁ sc₁ t₁
-phase-most a m n g g₁ sc sc₁ t t₁ l x =
+pub phase-most : (a : Progress → Progress) (m n : ℕ) (g : Graph) (sc sc₁ : List ℕ) (t t₁ : Tally) → m ≤ n → Phase a m g sc t sc₁ t₁ → Phase a n g sc t sc₁ t₁
+phase-most a m n g sc sc₁ t t₁ l x =
     record {
       ordered = x .ordered;
       long = x .long;
@@ -58,18 +58,18 @@ phase-most a m n g g₁ sc sc₁ t t₁ l x =
     }
 
 module _ (step : ℕ → Progress → Progress) (g : Graph) (sc : List ℕ) where
-  pub each-none : (t : Tally) → Ordered g sc → t .count ≡ C (stands g sc) → Phase (each step 0) 0 g sc t g sc t
+  pub each-none : (t : Tally) → Ordered g sc → t .count ≡ C (stands g sc) → Phase (each step 0) 0 g sc t sc t
   unfolding each
   each-none t o e = record { ordered = o; long = refl; makes = λ p q. q; count = e; few = omega arith; few-after = omega arith }
 
-  pub each-more : (n a b : ℕ) (g₁ g₂ : Graph) (sc₁ sc₂ : List ℕ) (t t₁ t₂ : Tally) → Phase (each step n) a g sc t g₁ sc₁ t₁ → Phase (step n) b g₁ sc₁ t₁ g₂ sc₂ t₂
-      → Phase (each step (n + 1)) (a + b) g sc t g₂ sc₂ t₂
+  pub each-more : (n a b : ℕ) (sc₁ sc₂ : List ℕ) (t t₁ t₂ : Tally) → Phase (each step n) a g sc t sc₁ t₁ → Phase (step n) b g sc₁ t₁ sc₂ t₂
+      → Phase (each step (n + 1)) (a + b) g sc t sc₂ t₂
   unfolding each
-  each-more n a b g₁ g₂ sc₁ sc₂ t t₁ t₂ x y = rw (add-one n) (phase-then (each step n) (step n) a b g g₁ g₂ sc sc₁ sc₂ t t₁ t₂ x y)
+  each-more n a b sc₁ sc₂ t t₁ t₂ x y = rw (add-one n) (phase-then (each step n) (step n) a b g sc sc₁ sc₂ t t₁ t₂ x y)
 
 -- a step that makes no call
 idle-phase : (made : Progress → Progress) (g : Graph) (sc : List ℕ) (t : Tally) → Ordered g sc → t .count ≡ C (stands g sc)
-    → ((p : Progress) → p .graph ≡ stands g sc → made p ≡ p) → Phase made 1 g sc t g sc t
+    → ((p : Progress) → p .graph ≡ stands g sc → made p ≡ p) → Phase made 1 g sc t sc t
 idle-phase made g sc t o e h =
     record {
       ordered = o;
@@ -94,10 +94,10 @@ module _ (g : Graph) (sc : List ℕ) (o : Ordered g sc) where
   same-node p e v = ap (λ (x : Graph). x .I + 1 + v) e
 
   -- a call, once its outcome is said of the state's graph
-  by-call : (made : Progress → Progress) (call : Graph → Outcome) (t : Tally) (g′ : Graph) (sc′ : List ℕ) (s : Step) (u : Tally) → Ordered g′ sc′ → length sc′ ≡ length sc
-      → stands g′ sc′ ≡ call (stands g sc) .graph → s .count ≡ C (call (stands g sc) .graph) → Parted (call (stands g sc)) s → Added t s u
-      → ((p : Progress) → p .graph ≡ stands g sc → Goes p (made p) (call (p .graph))) → Phase made 1 g sc t g′ sc′ u
-  by-call made call t g′ sc′ s u q l st c d a f =
+  by-call : (made : Progress → Progress) (call : Graph → Outcome) (t : Tally) (sc′ : List ℕ) (s : Step) (u : Tally) → Ordered g sc′ → length sc′ ≡ length sc
+      → stands g sc′ ≡ call (stands g sc) .graph → s .count ≡ C (call (stands g sc) .graph) → Parted (call (stands g sc)) s → Added t s u
+      → ((p : Progress) → p .graph ≡ stands g sc → Goes p (made p) (call (p .graph))) → Phase made 1 g sc t sc′ u
+  by-call made call t sc′ s u q l st c d a f =
       record {
         ordered = q;
         long = l;
@@ -132,22 +132,22 @@ module _ (g : Graph) (sc : List ℕ) (o : Ordered g sc) where
     locked : (p : Progress) → p .graph ≡ stands g sc → LockBytes (p .graph .N) ls
     locked p e = rw (same-N p e) ok
 
-    pub node-phase : (v : ℕ) → v < g .N → (t : Tally) (g′ : Graph) (sc′ : List ℕ) (s : Step) (u : Tally)
-        → Made sc g′ sc′ (moved (stands g sc) (node g v ∷ []) (bestAt (stands g sc) ls (node g v ∷ []))) (s .count) × Parted (rewrite (stands g sc) ls (node g v ∷ [])) s → Added t s u
-        → Phase (nodeAt ls v) 1 g sc t g′ sc′ u
+    pub node-phase : (v : ℕ) → v < g .N → (t : Tally) (sc′ : List ℕ) (s : Step) (u : Tally)
+        → Made sc g sc′ (moved (stands g sc) (node g v ∷ []) (bestAt (stands g sc) ls (node g v ∷ []))) (s .count) × Parted (rewrite (stands g sc) ls (node g v ∷ [])) s → Added t s u
+        → Phase (nodeAt ls v) 1 g sc t sc′ u
     unfolding rewrite
-    node-phase v h t g′ sc′ s u m a =
-        by-call (nodeAt ls v) (λ x. rewrite x ls (node g v ∷ [])) t g′ sc′ s u (m .0 .became .ordered) (m .0 .became .kept .long) (m .0 .became .stands-for) (m .0 .count) (m .1) a
+    node-phase v h t sc′ s u m a =
+        by-call (nodeAt ls v) (λ x. rewrite x ls (node g v ∷ [])) t sc′ s u (m .0 .became .ordered) (m .0 .became .kept .long) (m .0 .became .stands-for) (m .0 .count) (m .1) a
         (λ p e. rw (sym (same-node p e v)) (nodeAt-goes ls p (here p e) (locked p e) v (omega (arith, same-N p e))))
 
-    pub pair-phase : (v k : ℕ) → v < g .N → wordFault g (node g v) k ≡ 0 → (t : Tally) (g′ : Graph) (sc′ : List ℕ) (s : Step) (u : Tally)
-        → Made sc g′ sc′ (pairRewrite (stands g sc) ls (node g v) k .graph) (s .count) × Parted (pairRewrite (stands g sc) ls (node g v) k) s → Added t s u
-        → Phase (pairAt ls v k) 1 g sc t g′ sc′ u
-    pair-phase v k h w t g′ sc′ s u m a =
-        by-call (pairAt ls v k) (λ x. pairRewrite x ls (node g v) k) t g′ sc′ s u (m .0 .became .ordered) (m .0 .became .kept .long) (m .0 .became .stands-for) (m .0 .count) (m .1) a
+    pub pair-phase : (v k : ℕ) → v < g .N → wordFault g (node g v) k ≡ 0 → (t : Tally) (sc′ : List ℕ) (s : Step) (u : Tally)
+        → Made sc g sc′ (pairRewrite (stands g sc) ls (node g v) k .graph) (s .count) × Parted (pairRewrite (stands g sc) ls (node g v) k) s → Added t s u
+        → Phase (pairAt ls v k) 1 g sc t sc′ u
+    pair-phase v k h w t sc′ s u m a =
+        by-call (pairAt ls v k) (λ x. pairRewrite x ls (node g v) k) t sc′ s u (m .0 .became .ordered) (m .0 .became .kept .long) (m .0 .became .stands-for) (m .0 .count) (m .1) a
         (λ p e. rw (sym (same-node p e v)) (pairAt-word ls p (here p e) (locked p e) v k (omega (arith, same-N p e)) (same-fault p e v k ∙ w)))
 
-    pub pair-idle : (v k : ℕ) (t : Tally) → (wordFault g (node g v) k ≡ 0 → ⊥) → t .count ≡ C (stands g sc) → Phase (pairAt ls v k) 1 g sc t g sc t
+    pub pair-idle : (v k : ℕ) (t : Tally) → (wordFault g (node g v) k ≡ 0 → ⊥) → t .count ≡ C (stands g sc) → Phase (pairAt ls v k) 1 g sc t sc t
     pair-idle v k t w e = idle-phase (pairAt ls v k) g sc t o e (λ p q. pairAt-none ls p (here p q) (locked p q) v k (λ z. w (sym (same-fault p q v k) ∙ z)))
 
 -- which words a node has
@@ -176,11 +176,11 @@ module _ (g : Graph) (v : ℕ) where
   no-third-word x z = omega (arith, rw (at-node, x) at z)
 
 -- the words of a node in order
-pub pairs-phase : (ls : List ℕ) (v : ℕ) (g g₁ g₂ g₃ : Graph) (sc sc₁ sc₂ sc₃ : List ℕ) (t t₁ t₂ t₃ : Tally) → Phase (pairAt ls v 1) 1 g sc t g₁ sc₁ t₁ → Phase (pairAt ls v 2) 1 g₁ sc₁ t₁ g₂ sc₂ t₂
-    → Phase (pairAt ls v 3) 1 g₂ sc₂ t₂ g₃ sc₃ t₃ → Phase (pairsAt ls v) 3 g sc t g₃ sc₃ t₃
+pub pairs-phase : (ls : List ℕ) (v : ℕ) (g : Graph) (sc sc₁ sc₂ sc₃ : List ℕ) (t t₁ t₂ t₃ : Tally) → Phase (pairAt ls v 1) 1 g sc t sc₁ t₁ → Phase (pairAt ls v 2) 1 g sc₁ t₁ sc₂ t₂
+    → Phase (pairAt ls v 3) 1 g sc₂ t₂ sc₃ t₃ → Phase (pairsAt ls v) 3 g sc t sc₃ t₃
 unfolding pairsAt
-pairs-phase ls v g g₁ g₂ g₃ sc sc₁ sc₂ sc₃ t t₁ t₂ t₃ x y z =
-    phase-then (λ p. pairAt ls v 2 (pairAt ls v 1 p)) (pairAt ls v 3) 2 1 g g₂ g₃ sc sc₂ sc₃ t t₂ t₃ (phase-then (pairAt ls v 1) (pairAt ls v 2) 1 1 g g₁ g₂ sc sc₁ sc₂ t t₁ t₂ x y) z
+pairs-phase ls v g sc sc₁ sc₂ sc₃ t t₁ t₂ t₃ x y z =
+    phase-then (λ p. pairAt ls v 2 (pairAt ls v 1 p)) (pairAt ls v 3) 2 1 g sc sc₂ sc₃ t t₂ t₃ (phase-then (pairAt ls v 1) (pairAt ls v 2) 1 1 g sc sc₁ sc₂ t t₁ t₂ x y) z
 
 -- a node whose place of an only reader is the mark is a root
 module _ (g : Graph) (sc : List ℕ) (o : Ordered g sc) (v : ℕ) (h : v < g .N) where
@@ -201,15 +201,15 @@ module _ (g : Graph) (sc : List ℕ) (o : Ordered g sc) (v : ℕ) (h : v < g .N)
       rw (same-node g sc o p e v) (ap (λ (y : Graph). isRoot y (node g v)) e ∙ alike-isRoot g (stands g sc) (stands-alike g sc (o .admitted)) (node g v))
 
   module _ (ls : List ℕ) (ok : LockBytes (g .N) ls) where
-    pub tree-idle : (t : Tally) → t .count ≡ C (stands g sc) → isRoot g (node g v) ≡ false → Phase (treeAt ls (length sc) v) 1 g sc t g sc t
+    pub tree-idle : (t : Tally) → t .count ≡ C (stands g sc) → isRoot g (node g v) ≡ false → Phase (treeAt ls (length sc) v) 1 g sc t sc t
     tree-idle t e r = idle-phase (treeAt ls (length sc) v) g sc t o e (λ p q. treeAt-inner ls p (here g sc o p q) (locked g sc o ls ok p q) (length sc) v (same-root p q ∙ r))
 
-    pub tree-phase : isRoot g (node g v) ≡ true → (t : Tally) (g′ : Graph) (sc′ : List ℕ) (s : Step) (u : Tally)
-        → TreeMade sc g′ sc′ (treeMoved (stands g sc) ls (node g v)) (s .count) × Parted (rewrite (stands g sc) ls (tree (stands g sc) (node g v))) s → Added t s u
-        → Phase (treeAt ls (length sc) v) 1 g sc t g′ sc′ u
+    pub tree-phase : isRoot g (node g v) ≡ true → (t : Tally) (sc′ : List ℕ) (s : Step) (u : Tally)
+        → TreeMade sc g sc′ (treeMoved (stands g sc) ls (node g v)) (s .count) × Parted (rewrite (stands g sc) ls (tree (stands g sc) (node g v))) s → Added t s u
+        → Phase (treeAt ls (length sc) v) 1 g sc t sc′ u
     unfolding rewrite
-    tree-phase r t g′ sc′ s u m a =
-        by-call g sc o (treeAt ls (length sc) v) (λ x. rewrite x ls (tree x (node g v))) t g′ sc′ s u (m .0 .ordered) (m .0 .long) (m .0 .stands-for) (m .0 .count) (m .1) a
+    tree-phase r t sc′ s u m a =
+        by-call g sc o (treeAt ls (length sc) v) (λ x. rewrite x ls (tree x (node g v))) t sc′ s u (m .0 .ordered) (m .0 .long) (m .0 .stands-for) (m .0 .count) (m .1) a
         (λ p e.
         rw (sym (same-node g sc o p e v))
         (treeAt-root ls p (here g sc o p e) (locked g sc o ls ok p e) (length sc) v (omega (arith, same-N g sc o p e)) (same-root p e ∙ r) (omega (arith, same-N g sc o p e, o .long))))

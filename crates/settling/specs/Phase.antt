@@ -26,28 +26,28 @@ pub record Added (t : Tally) (s : Step) (u : Tally) : Type 0 where
   pub before : u .before ≡ t .before + s .before
   pub after : u .after ≡ t .after + s .after
 
--- tables g, scratch sc and the sums of t stand for the calls p
+-- tables g, scratch sc and both sums stand for the calls p
 pub record Carried (p : Progress) (g : Graph) (sc : List ℕ) (before after : ℕ) : Type 0 where
   pub graph : p .graph ≡ stands g sc
   pub others : p .others ≡ difference before after
 
--- tables g, scratch sc and tally t became g′, sc′ and t′, in order, as the steps `made` of a round, of at most k calls, make of the
--- calls that they stood for; C is that of the graph that they stand for now
-pub record Phase (made : Progress → Progress) (k : ℕ) (g : Graph) (sc : List ℕ) (t : Tally) (g′ : Graph) (sc′ : List ℕ) (t′ : Tally) : Type 0 where
-  pub ordered : Ordered g′ sc′
+-- beside the tables of g, which stay, scratch sc and tally t became sc′ and t′, in order, as the steps `made` of a round, of at most k
+-- calls, make of the calls that they stood for; C is that of the graph that they stand for now
+pub record Phase (made : Progress → Progress) (k : ℕ) (g : Graph) (sc : List ℕ) (t : Tally) (sc′ : List ℕ) (t′ : Tally) : Type 0 where
+  pub ordered : Ordered g sc′
   pub long : length sc′ ≡ length sc
-  pub makes : (p : Progress) → Carried p g sc (t .before) (t .after) → Carried (made p) g′ sc′ (t′ .before) (t′ .after)
-  pub count : t′ .count ≡ C (stands g′ sc′)
+  pub makes : (p : Progress) → Carried p g sc (t .before) (t .after) → Carried (made p) g sc′ (t′ .before) (t′ .after)
+  pub count : t′ .count ≡ C (stands g sc′)
   pub few : t′ .before ≤ t .before + k * 608195
   pub few-after : t′ .after ≤ t .after + k * 608195
 
--- they became what all rounds make of it, with the locks ls and s words of scratch
-pub record AllRounds (ls : List ℕ) (s : ℕ) (g : Graph) (sc : List ℕ) (g′ : Graph) (sc′ : List ℕ) (r : RoundsMade) : Type 0 where
-  pub ordered : Ordered g′ sc′
+-- scratch became what all rounds make of it, with the locks ls and s words of scratch
+pub record AllRounds (ls : List ℕ) (s : ℕ) (g : Graph) (sc sc′ : List ℕ) (r : RoundsMade) : Type 0 where
+  pub ordered : Ordered g sc′
   pub long : length sc′ ≡ length sc
-  pub carried : Carried (settle ls s (stands g sc) .made) g′ sc′ (r .before) (r .after)
+  pub carried : Carried (settle ls s (stands g sc) .made) g sc′ (r .before) (r .after)
   pub rounds : settle ls s (stands g sc) .rounds ≡ r .rounds
-  pub count : r .count ≡ C (stands g′ sc′)
+  pub count : r .count ≡ C (stands g sc′)
   pub few : r .before ≤ 100000000000000000
   pub few-after : r .after ≤ 100000000000000000
 

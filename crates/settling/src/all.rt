@@ -3,8 +3,8 @@ ghost use mathlib.Core.Path.{_≡_};
 ghost use Prim.Native.Nat.{_*_, _≤_};
 ghost use lib.ListN.{length};
 ghost use Rattle.graph.specs.Admission.{Admitted, LockBytes};
-ghost use Rattle.graph.specs.Graph.{graphOf};
 ghost use Rattle.graph.specs.Count.{C};
+ghost use Rattle.graph.specs.Literals.{graphIn};
 ghost use Rattle.state.specs.State.{stands, Ordered};
 ghost use Rattle.rounds.specs.Round.{phases};
 ghost use Rattle.settling.specs.Phase.{Room, Phase, AllRounds, SettledTo};
@@ -32,21 +32,28 @@ pub fn one_round(
     inputs: u32,
     nodes: u32,
     outputs: u32,
-    node_table: &mut [u32],
+    node_table: &[u32],
+    node_bits: &[u64],
     output_table: &[u32],
+    output_bits: &[u64],
     locks: &[u8],
     tally: Tally,
     scratch: &mut [u32],
 ) -> Tally
-    requires { ⌜ Ordered (graphOf inputs nodes outputs (now «node_table») (now «output_table»)) (now scratch) × (tally .count ≡ C (stands (graphOf inputs nodes outputs (now «node_table») (now «output_table»)) (now scratch))) × Room tally 100000000000000000 × LockBytes nodes (now locks) ⌝ }
-    ensures { λ r. ⌜ Phase (phases (now (locks .entry)) (length (now (scratch .entry))) nodes) 500000 (graphOf inputs nodes outputs (now («node_table» .entry)) (now («output_table» .entry))) (now (scratch .entry)) tally (graphOf inputs nodes outputs (now («node_table» .exit)) (now («output_table» .entry))) (now (scratch .exit)) r ⌝ }
+    requires { let g = graphIn inputs nodes outputs (now «node_table») (now «node_bits») (now «output_table») (now «output_bits») in
+        ⌜ Ordered g (now scratch) × (tally .count ≡ C (stands g (now scratch))) × Room tally 100000000000000000 × LockBytes nodes (now locks) ⌝ }
+    ensures { λ r.
+        let g = graphIn inputs nodes outputs (now («node_table» .entry)) (now («node_bits» .entry)) (now («output_table» .entry)) (now («output_bits» .entry)) in
+        ⌜ Phase (phases (now (locks .entry)) (length (now (scratch .entry))) nodes) 500000 g (now (scratch .entry)) tally (now (scratch .exit)) r ⌝ }
 {
     let a = phases::tree_calls(
         inputs,
         nodes,
         outputs,
         node_table,
+        node_bits,
         output_table,
+        output_bits,
         locks,
         tally,
         scratch,
@@ -56,7 +63,9 @@ pub fn one_round(
         nodes,
         outputs,
         node_table,
+        node_bits,
         output_table,
+        output_bits,
         locks,
         a,
         scratch,
@@ -66,7 +75,9 @@ pub fn one_round(
         nodes,
         outputs,
         node_table,
+        node_bits,
         output_table,
+        output_bits,
         locks,
         b,
         scratch,
@@ -78,14 +89,19 @@ pub fn all_rounds(
     inputs: u32,
     nodes: u32,
     outputs: u32,
-    node_table: &mut [u32],
+    node_table: &[u32],
+    node_bits: &[u64],
     output_table: &[u32],
+    output_bits: &[u64],
     locks: &[u8],
     count: u32,
     scratch: &mut [u32],
 ) -> RoundsMade
-    requires { ⌜ Ordered (graphOf inputs nodes outputs (now «node_table») (now «output_table»)) (now scratch) × (count ≡ C (stands (graphOf inputs nodes outputs (now «node_table») (now «output_table»)) (now scratch))) × LockBytes nodes (now locks) ⌝ }
-    ensures { λ r. ⌜ AllRounds (now (locks .entry)) (length (now (scratch .entry))) (graphOf inputs nodes outputs (now («node_table» .entry)) (now («output_table» .entry))) (now (scratch .entry)) (graphOf inputs nodes outputs (now («node_table» .exit)) (now («output_table» .entry))) (now (scratch .exit)) r ⌝ }
+    requires { let g = graphIn inputs nodes outputs (now «node_table») (now «node_bits») (now «output_table») (now «output_bits») in
+        ⌜ Ordered g (now scratch) × (count ≡ C (stands g (now scratch))) × LockBytes nodes (now locks) ⌝ }
+    ensures { λ r.
+        let g = graphIn inputs nodes outputs (now («node_table» .entry)) (now («node_bits» .entry)) (now («output_table» .entry)) (now («output_bits» .entry)) in
+        ⌜ AllRounds (now (locks .entry)) (length (now (scratch .entry))) g (now (scratch .entry)) (now (scratch .exit)) r ⌝ }
 {
     let mut rounds: u32 = 0;
     let mut before = count + 1;
@@ -102,7 +118,9 @@ pub fn all_rounds(
             nodes,
             outputs,
             node_table,
+            node_bits,
             output_table,
+            output_bits,
             locks,
             tally,
             scratch,
@@ -123,27 +141,61 @@ pub fn settle_admitted(
     inputs: u32,
     nodes: u32,
     outputs: u32,
-    node_table: &mut [u32],
-    output_table: &mut [u32],
+    node_table: &[u32],
+    node_bits: &mut [u64],
+    output_table: &[u32],
+    output_bits: &mut [u64],
     locks: &[u8],
     scratch: &mut [u32],
 ) -> Figures
-    requires { ⌜ Admitted (graphOf inputs nodes outputs (now «node_table») (now «output_table»)) × (8 * nodes ≤ length (now scratch)) × LockBytes nodes (now locks) ⌝ }
-    ensures { λ r. ⌜ SettledTo (now (locks .entry)) (length (now (scratch .entry))) (graphOf inputs nodes outputs (now («node_table» .entry)) (now («output_table» .entry))) (graphOf inputs nodes outputs (now («node_table» .exit)) (now («output_table» .exit))) r ⌝ }
+    requires { let g = graphIn inputs nodes outputs (now «node_table») (now «node_bits») (now «output_table») (now «output_bits») in
+        ⌜ Admitted g × (8 * nodes ≤ length (now scratch)) × LockBytes nodes (now locks) ⌝ }
+    ensures { λ r.
+        let g = graphIn inputs nodes outputs (now («node_table» .entry)) (now («node_bits» .entry)) (now («output_table» .entry)) (now («output_bits» .entry)) in
+        let k = graphIn inputs nodes outputs (now («node_table» .entry)) (now («node_bits» .exit)) (now («output_table» .entry)) (now («output_bits» .exit)) in
+        ⌜ SettledTo (now (locks .entry)) (length (now (scratch .entry))) g k r ⌝ }
 {
-    let before = graph::edges::complemented(inputs, nodes, outputs, node_table, output_table);
-    trees::start::fill_scratch(inputs, nodes, outputs, node_table, output_table, scratch);
+    let before = graph::edges::complemented(
+        inputs,
+        nodes,
+        outputs,
+        node_table,
+        node_bits,
+        output_table,
+        output_bits,
+    );
+    trees::start::fill_scratch(
+        inputs,
+        nodes,
+        outputs,
+        node_table,
+        node_bits,
+        output_table,
+        output_bits,
+        scratch,
+    );
     let made = all_rounds(
         inputs,
         nodes,
         outputs,
         node_table,
+        node_bits,
         output_table,
+        output_bits,
         locks,
         before,
         scratch,
     );
-    state::writing::write_out(inputs, nodes, outputs, node_table, output_table, scratch);
+    state::writing::write_out(
+        inputs,
+        nodes,
+        outputs,
+        node_table,
+        node_bits,
+        output_table,
+        output_bits,
+        scratch,
+    );
     Figures {
         rounds: made.rounds,
         before,

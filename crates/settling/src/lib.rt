@@ -1,7 +1,7 @@
 ghost use mathlib.Core.Path.{_≡_};
 ghost use lib.ListN.{length};
-ghost use Rattle.graph.specs.Graph.{graphOf};
 ghost use Rattle.graph.specs.Answer.{outcome, ScratchKept};
+ghost use Rattle.graph.specs.Literals.{graphIn};
 ghost use Rattle.rounds.specs.Settle.{settleCall};
 ghost use Rattle.settling.specs.Settle.{settledAnswer};
 ghost use Rattle.settling.specs.Phase.{Fair, figured};
@@ -49,12 +49,17 @@ pub fn settle(
     inputs: u32,
     nodes: u32,
     outputs: u32,
-    node_table: &mut [u32],
-    output_table: &mut [u32],
+    node_table: &[u32],
+    node_bits: &mut [u64],
+    output_table: &[u32],
+    output_bits: &mut [u64],
     locks: &[u8],
     scratch: &mut [u32],
 ) -> Settled
-    ensures call { λ r. ⌜ outcome (settledAnswer r) (graphOf inputs nodes outputs (now («node_table» .exit)) (now («output_table» .exit))) ≡ settleCall (graphOf inputs nodes outputs (now («node_table» .entry)) (now («output_table» .entry))) (now (locks .entry)) (length (now (scratch .entry))) ⌝ }
+    ensures call { λ r.
+        let g = graphIn inputs nodes outputs (now («node_table» .entry)) (now («node_bits» .entry)) (now («output_table» .entry)) (now («output_bits» .entry)) in
+        let k = graphIn inputs nodes outputs (now («node_table» .entry)) (now («node_bits» .exit)) (now («output_table» .entry)) (now («output_bits» .exit)) in
+        ⌜ outcome (settledAnswer r) k ≡ settleCall g (now (locks .entry)) (length (now (scratch .entry))) ⌝ }
     ensures scratch { λ r. ⌜ ScratchKept (settledAnswer r) (now (scratch .entry)) (now (scratch .exit)) ⌝ }
 {
     let refusal = faults::settle_number(
@@ -62,7 +67,9 @@ pub fn settle(
         nodes,
         outputs,
         node_table,
+        node_bits,
         output_table,
+        output_bits,
         locks,
         scratch.len(),
     );
@@ -74,7 +81,9 @@ pub fn settle(
         nodes,
         outputs,
         node_table,
+        node_bits,
         output_table,
+        output_bits,
         locks,
         scratch,
     );

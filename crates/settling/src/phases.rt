@@ -3,8 +3,8 @@ ghost use mathlib.Core.Path.{_≡_};
 ghost use Prim.Native.Nat.{_+_, _*_, _<_};
 ghost use lib.ListN.{length};
 ghost use Rattle.graph.specs.Admission.{LockBytes};
-ghost use Rattle.graph.specs.Graph.{graphOf};
 ghost use Rattle.graph.specs.Count.{C};
+ghost use Rattle.graph.specs.Literals.{graphIn};
 ghost use Rattle.moves.specs.Call.{wordFault};
 ghost use Rattle.state.specs.State.{stands, Ordered};
 ghost use Rattle.rounds.specs.Round.{each, treeAt, nodeAt, pairAt, pairsAt};
@@ -38,15 +38,20 @@ pub fn tree_call_at(
     inputs: u32,
     nodes: u32,
     outputs: u32,
-    node_table: &mut [u32],
+    node_table: &[u32],
+    node_bits: &[u64],
     output_table: &[u32],
+    output_bits: &[u64],
     locks: &[u8],
     v: usize,
     tally: Tally,
     scratch: &mut [u32],
 ) -> Tally
-    requires { ⌜ Ordered (graphOf inputs nodes outputs (now «node_table») (now «output_table»)) (now scratch) × (v < nodes) × (tally .count ≡ C (stands (graphOf inputs nodes outputs (now «node_table») (now «output_table»)) (now scratch))) × Room tally 300000000000000000 × LockBytes nodes (now locks) ⌝ }
-    ensures { λ r. ⌜ Phase (treeAt (now (locks .entry)) (length (now (scratch .entry))) v) 1 (graphOf inputs nodes outputs (now («node_table» .entry)) (now («output_table» .entry))) (now (scratch .entry)) tally (graphOf inputs nodes outputs (now («node_table» .exit)) (now («output_table» .entry))) (now (scratch .exit)) r ⌝ }
+    requires { let g = graphIn inputs nodes outputs (now «node_table») (now «node_bits») (now «output_table») (now «output_bits») in
+        ⌜ Ordered g (now scratch) × (v < nodes) × (tally .count ≡ C (stands g (now scratch))) × Room tally 300000000000000000 × LockBytes nodes (now locks) ⌝ }
+    ensures { λ r.
+        let g = graphIn inputs nodes outputs (now («node_table» .entry)) (now («node_bits» .entry)) (now («output_table» .entry)) (now («output_bits» .entry)) in
+        ⌜ Phase (treeAt (now (locks .entry)) (length (now (scratch .entry))) v) 1 g (now (scratch .entry)) tally (now (scratch .exit)) r ⌝ }
 {
     let only = 8 * v + 3;
     if scratch[only] != MARK {
@@ -57,7 +62,9 @@ pub fn tree_call_at(
         nodes,
         outputs,
         node_table,
+        node_bits,
         output_table,
+        output_bits,
         locks,
         v,
         tally.count,
@@ -71,14 +78,19 @@ pub fn tree_calls(
     inputs: u32,
     nodes: u32,
     outputs: u32,
-    node_table: &mut [u32],
+    node_table: &[u32],
+    node_bits: &[u64],
     output_table: &[u32],
+    output_bits: &[u64],
     locks: &[u8],
     tally: Tally,
     scratch: &mut [u32],
 ) -> Tally
-    requires { ⌜ Ordered (graphOf inputs nodes outputs (now «node_table») (now «output_table»)) (now scratch) × (tally .count ≡ C (stands (graphOf inputs nodes outputs (now «node_table») (now «output_table»)) (now scratch))) × Room tally 200000000000000000 × LockBytes nodes (now locks) ⌝ }
-    ensures { λ r. ⌜ Phase (each (treeAt (now (locks .entry)) (length (now (scratch .entry)))) nodes) nodes (graphOf inputs nodes outputs (now («node_table» .entry)) (now («output_table» .entry))) (now (scratch .entry)) tally (graphOf inputs nodes outputs (now («node_table» .exit)) (now («output_table» .entry))) (now (scratch .exit)) r ⌝ }
+    requires { let g = graphIn inputs nodes outputs (now «node_table») (now «node_bits») (now «output_table») (now «output_bits») in
+        ⌜ Ordered g (now scratch) × (tally .count ≡ C (stands g (now scratch))) × Room tally 200000000000000000 × LockBytes nodes (now locks) ⌝ }
+    ensures { λ r.
+        let g = graphIn inputs nodes outputs (now («node_table» .entry)) (now («node_bits» .entry)) (now («output_table» .entry)) (now («output_bits» .entry)) in
+        ⌜ Phase (each (treeAt (now (locks .entry)) (length (now (scratch .entry)))) nodes) nodes g (now (scratch .entry)) tally (now (scratch .exit)) r ⌝ }
 {
     let end = nodes as usize;
     let mut t = tally;
@@ -89,7 +101,9 @@ pub fn tree_calls(
             nodes,
             outputs,
             node_table,
+            node_bits,
             output_table,
+            output_bits,
             locks,
             end - left,
             t,
@@ -105,22 +119,29 @@ pub fn node_call_at(
     inputs: u32,
     nodes: u32,
     outputs: u32,
-    node_table: &mut [u32],
+    node_table: &[u32],
+    node_bits: &[u64],
     output_table: &[u32],
+    output_bits: &[u64],
     locks: &[u8],
     v: usize,
     tally: Tally,
     scratch: &mut [u32],
 ) -> Tally
-    requires { ⌜ Ordered (graphOf inputs nodes outputs (now «node_table») (now «output_table»)) (now scratch) × (v < nodes) × (tally .count ≡ C (stands (graphOf inputs nodes outputs (now «node_table») (now «output_table»)) (now scratch))) × Room tally 300000000000000000 × LockBytes nodes (now locks) ⌝ }
-    ensures { λ r. ⌜ Phase (nodeAt (now (locks .entry)) v) 1 (graphOf inputs nodes outputs (now («node_table» .entry)) (now («output_table» .entry))) (now (scratch .entry)) tally (graphOf inputs nodes outputs (now («node_table» .exit)) (now («output_table» .entry))) (now (scratch .exit)) r ⌝ }
+    requires { let g = graphIn inputs nodes outputs (now «node_table») (now «node_bits») (now «output_table») (now «output_bits») in
+        ⌜ Ordered g (now scratch) × (v < nodes) × (tally .count ≡ C (stands g (now scratch))) × Room tally 300000000000000000 × LockBytes nodes (now locks) ⌝ }
+    ensures { λ r.
+        let g = graphIn inputs nodes outputs (now («node_table» .entry)) (now («node_bits» .entry)) (now («output_table» .entry)) (now («output_bits» .entry)) in
+        ⌜ Phase (nodeAt (now (locks .entry)) v) 1 g (now (scratch .entry)) tally (now (scratch .exit)) r ⌝ }
 {
     let single = state::moving::node_step(
         inputs,
         nodes,
         outputs,
         node_table,
+        node_bits,
         output_table,
+        output_bits,
         locks,
         v,
         tally.count,
@@ -134,14 +155,19 @@ pub fn single_calls(
     inputs: u32,
     nodes: u32,
     outputs: u32,
-    node_table: &mut [u32],
+    node_table: &[u32],
+    node_bits: &[u64],
     output_table: &[u32],
+    output_bits: &[u64],
     locks: &[u8],
     tally: Tally,
     scratch: &mut [u32],
 ) -> Tally
-    requires { ⌜ Ordered (graphOf inputs nodes outputs (now «node_table») (now «output_table»)) (now scratch) × (tally .count ≡ C (stands (graphOf inputs nodes outputs (now «node_table») (now «output_table»)) (now scratch))) × Room tally 200000000000000000 × LockBytes nodes (now locks) ⌝ }
-    ensures { λ r. ⌜ Phase (each (nodeAt (now (locks .entry))) nodes) nodes (graphOf inputs nodes outputs (now («node_table» .entry)) (now («output_table» .entry))) (now (scratch .entry)) tally (graphOf inputs nodes outputs (now («node_table» .exit)) (now («output_table» .entry))) (now (scratch .exit)) r ⌝ }
+    requires { let g = graphIn inputs nodes outputs (now «node_table») (now «node_bits») (now «output_table») (now «output_bits») in
+        ⌜ Ordered g (now scratch) × (tally .count ≡ C (stands g (now scratch))) × Room tally 200000000000000000 × LockBytes nodes (now locks) ⌝ }
+    ensures { λ r.
+        let g = graphIn inputs nodes outputs (now («node_table» .entry)) (now («node_bits» .entry)) (now («output_table» .entry)) (now («output_bits» .entry)) in
+        ⌜ Phase (each (nodeAt (now (locks .entry))) nodes) nodes g (now (scratch .entry)) tally (now (scratch .exit)) r ⌝ }
 {
     let end = nodes as usize;
     let mut t = tally;
@@ -152,7 +178,9 @@ pub fn single_calls(
             nodes,
             outputs,
             node_table,
+            node_bits,
             output_table,
+            output_bits,
             locks,
             v,
             t,
@@ -168,23 +196,30 @@ pub fn pair_call_at(
     inputs: u32,
     nodes: u32,
     outputs: u32,
-    node_table: &mut [u32],
+    node_table: &[u32],
+    node_bits: &[u64],
     output_table: &[u32],
+    output_bits: &[u64],
     locks: &[u8],
     v: usize,
     k: usize,
     tally: Tally,
     scratch: &mut [u32],
 ) -> Tally
-    requires { ⌜ Ordered (graphOf inputs nodes outputs (now «node_table») (now «output_table»)) (now scratch) × (v < nodes) × (wordFault (graphOf inputs nodes outputs (now «node_table») (now «output_table»)) (inputs + 1 + v) k ≡ 0) × (tally .count ≡ C (stands (graphOf inputs nodes outputs (now «node_table») (now «output_table»)) (now scratch))) × Room tally 300000000000000000 × LockBytes nodes (now locks) ⌝ }
-    ensures { λ r. ⌜ Phase (pairAt (now (locks .entry)) v k) 1 (graphOf inputs nodes outputs (now («node_table» .entry)) (now («output_table» .entry))) (now (scratch .entry)) tally (graphOf inputs nodes outputs (now («node_table» .exit)) (now («output_table» .entry))) (now (scratch .exit)) r ⌝ }
+    requires { let g = graphIn inputs nodes outputs (now «node_table») (now «node_bits») (now «output_table») (now «output_bits») in
+        ⌜ Ordered g (now scratch) × (v < nodes) × (wordFault g (inputs + 1 + v) k ≡ 0) × (tally .count ≡ C (stands g (now scratch))) × Room tally 300000000000000000 × LockBytes nodes (now locks) ⌝ }
+    ensures { λ r.
+        let g = graphIn inputs nodes outputs (now («node_table» .entry)) (now («node_bits» .entry)) (now («output_table» .entry)) (now («output_bits» .entry)) in
+        ⌜ Phase (pairAt (now (locks .entry)) v k) 1 g (now (scratch .entry)) tally (now (scratch .exit)) r ⌝ }
 {
     let step = state::moving::pair_step(
         inputs,
         nodes,
         outputs,
         node_table,
+        node_bits,
         output_table,
+        output_bits,
         locks,
         v,
         k,
@@ -199,22 +234,29 @@ pub fn pair_calls_at(
     inputs: u32,
     nodes: u32,
     outputs: u32,
-    node_table: &mut [u32],
+    node_table: &[u32],
+    node_bits: &[u64],
     output_table: &[u32],
+    output_bits: &[u64],
     locks: &[u8],
     v: usize,
     tally: Tally,
     scratch: &mut [u32],
 ) -> Tally
-    requires { ⌜ Ordered (graphOf inputs nodes outputs (now «node_table») (now «output_table»)) (now scratch) × (v < nodes) × (tally .count ≡ C (stands (graphOf inputs nodes outputs (now «node_table») (now «output_table»)) (now scratch))) × Room tally 250000000000000000 × LockBytes nodes (now locks) ⌝ }
-    ensures { λ r. ⌜ Phase (pairsAt (now (locks .entry)) v) 3 (graphOf inputs nodes outputs (now («node_table» .entry)) (now («output_table» .entry))) (now (scratch .entry)) tally (graphOf inputs nodes outputs (now («node_table» .exit)) (now («output_table» .entry))) (now (scratch .exit)) r ⌝ }
+    requires { let g = graphIn inputs nodes outputs (now «node_table») (now «node_bits») (now «output_table») (now «output_bits») in
+        ⌜ Ordered g (now scratch) × (v < nodes) × (tally .count ≡ C (stands g (now scratch))) × Room tally 250000000000000000 × LockBytes nodes (now locks) ⌝ }
+    ensures { λ r.
+        let g = graphIn inputs nodes outputs (now («node_table» .entry)) (now («node_bits» .entry)) (now («output_table» .entry)) (now («output_bits» .entry)) in
+        ⌜ Phase (pairsAt (now (locks .entry)) v) 3 g (now (scratch .entry)) tally (now (scratch .exit)) r ⌝ }
 {
     let a = pair_call_at(
         inputs,
         nodes,
         outputs,
         node_table,
+        node_bits,
         output_table,
+        output_bits,
         locks,
         v,
         1,
@@ -226,14 +268,16 @@ pub fn pair_calls_at(
         nodes,
         outputs,
         node_table,
+        node_bits,
         output_table,
+        output_bits,
         locks,
         v,
         2,
         a,
         scratch,
     );
-    if moves::rows::is_xor(node_table, v) {
+    if moves::rows::is_xor(node_table, node_bits, v) {
         return b;
     }
     pair_call_at(
@@ -241,7 +285,9 @@ pub fn pair_calls_at(
         nodes,
         outputs,
         node_table,
+        node_bits,
         output_table,
+        output_bits,
         locks,
         v,
         3,
@@ -255,14 +301,19 @@ pub fn pair_calls(
     inputs: u32,
     nodes: u32,
     outputs: u32,
-    node_table: &mut [u32],
+    node_table: &[u32],
+    node_bits: &[u64],
     output_table: &[u32],
+    output_bits: &[u64],
     locks: &[u8],
     tally: Tally,
     scratch: &mut [u32],
 ) -> Tally
-    requires { ⌜ Ordered (graphOf inputs nodes outputs (now «node_table») (now «output_table»)) (now scratch) × (tally .count ≡ C (stands (graphOf inputs nodes outputs (now «node_table») (now «output_table»)) (now scratch))) × Room tally 200000000000000000 × LockBytes nodes (now locks) ⌝ }
-    ensures { λ r. ⌜ Phase (each (pairsAt (now (locks .entry))) nodes) (3 * nodes) (graphOf inputs nodes outputs (now («node_table» .entry)) (now («output_table» .entry))) (now (scratch .entry)) tally (graphOf inputs nodes outputs (now («node_table» .exit)) (now («output_table» .entry))) (now (scratch .exit)) r ⌝ }
+    requires { let g = graphIn inputs nodes outputs (now «node_table») (now «node_bits») (now «output_table») (now «output_bits») in
+        ⌜ Ordered g (now scratch) × (tally .count ≡ C (stands g (now scratch))) × Room tally 200000000000000000 × LockBytes nodes (now locks) ⌝ }
+    ensures { λ r.
+        let g = graphIn inputs nodes outputs (now («node_table» .entry)) (now («node_bits» .entry)) (now («output_table» .entry)) (now («output_bits» .entry)) in
+        ⌜ Phase (each (pairsAt (now (locks .entry))) nodes) (3 * nodes) g (now (scratch .entry)) tally (now (scratch .exit)) r ⌝ }
 {
     let end = nodes as usize;
     let mut t = tally;
@@ -273,7 +324,9 @@ pub fn pair_calls(
             nodes,
             outputs,
             node_table,
+            node_bits,
             output_table,
+            output_bits,
             locks,
             v,
             t,

@@ -1,55 +1,50 @@
 -- `all_rounds` makes rounds until one does not lower C: what is left after each is the rest of settling.
-use mathlib.Core.Path.{_≡_, refl, _∙_}
+use mathlib.Core.Path.{_≡_, refl}
 use native.Mathlib.Omega.{arith}
 use lib.ListN.{length}
-use Rattle.graph.specs.Graph.{graphOf}
+use Rattle.graph.specs.Literals.{graphIn}
 use Rattle.settling.proofs.Repeating.{Going, count-few, going-first, going-last, going-few, going-room, going-more}
 use Rattle.settling.proofs.all.all_rounds.Statement.{statement}
 use Rattle.settling.proofs.all.all_rounds.Tie as tie
 
 abbrev Inv-loop : tie.InvT-loop
-Inv-loop inputs nodes outputs node-table₀ output-table locks count scratch₀ rounds₀ before₀ tally₀ after₀ node-table scratch rounds before tally after =
-    (length node-table ≡ length node-table₀) × (after ≡ tally .count)
-    × Going locks (length scratch₀) (graphOf inputs nodes outputs node-table₀ output-table) scratch₀ (graphOf inputs nodes outputs node-table output-table) scratch rounds before tally
+Inv-loop inputs nodes outputs node-table node-bits output-table output-bits locks count scratch₀ rounds₀ before₀ tally₀ after₀ scratch rounds before tally after =
+    (after ≡ tally .count) × Going locks (length scratch₀) (graphIn inputs nodes outputs node-table node-bits output-table output-bits) scratch₀ scratch rounds before tally
 
 abbrev μ-loop : tie.MeasureT-loop
-μ-loop inputs nodes outputs node-table₀ output-table locks count scratch₀ rounds₀ before₀ tally₀ after₀ node-table scratch rounds before tally after = before
+μ-loop inputs nodes outputs node-table node-bits output-table output-bits locks count scratch₀ rounds₀ before₀ tally₀ after₀ scratch rounds before tally after = before
 
 add-before : tie.Need-add-before Inv-loop μ-loop
-add-before c = let s = c .before .before .before .before in omega (arith, s .pre .1, count-few _ _ (s .pre .0))
+add-before c = let s = c .before .before .before .before .before .before in omega (arith, s .pre .1, count-few _ _ (s .pre .0))
 
 loop-holds : tie.Need-loop-holds Inv-loop μ-loop
-loop-holds c = let s = c .before .before .before .before in (refl, refl, going-first _ _ _ _ (s .pre .0) _ (s .pre .1) refl refl)
+loop-holds c = let s = c .before .before .before .before .before .before in (refl, going-first _ _ _ _ (s .pre .0) _ (s .pre .1) refl refl)
 
 one-round-requires : tie.Need-one-round-requires Inv-loop μ-loop
 one-round-requires c κs =
-    let l = c .before .before .before in
-    let s = l .before .before .before .before .before in
-    let w = l .loop .inv .2 in
-    (w .ordered, w .here, going-room _ _ _ _ _ _ _ _ _ (s .pre .0) w, s .pre .2)
+    let l = c .before .before in
+    let s = l .before .before .before .before .before .before .before in
+    let w = l .loop .inv .1 in
+    (w .ordered, w .here, going-room _ _ _ _ _ _ _ _ (s .pre .0) w, s .pre .2)
 
 add-rounds : tie.Need-add-rounds Inv-loop μ-loop
-add-rounds c = let l = c .before .before .before .before .before .before .before .before in let s = l .before .before .before .before .before in omega (arith, going-few _ _ _ _ _ _ _ _ _ (s .pre .0) (l .loop .inv .2))
+add-rounds c =
+    let l = c .before .before .before .before .before in
+    let s = l .before .before .before .before .before .before .before in
+    omega (arith, going-few _ _ _ _ _ _ _ _ (s .pre .0) (l .loop .inv .1))
 
 loop-again : tie.Need-loop-again Inv-loop μ-loop
 loop-again c =
-    let t = c .before .before .before .before in
-    let l = t .before .before .before .before in
-    let i = l .loop .inv in
-    (t .one-round .kept .1 .1 .1 .0 ∙ i .0, refl, rw (i .1) (going-more _ _ _ _ _ _ _ _ _ (i .2) (omega (arith, i .1)) _ _ _ (rw (i .2 .long) at (t .one-round .ensures))))
-
-same-length : tie.Need-same-length Inv-loop μ-loop
-same-length c = c .before .loop .inv .0
-
-same-length-2 : tie.Need-same-length-2 Inv-loop μ-loop
-same-length-2 c = c .before .loop .inv .2 .long
+    let t = c .before .before in
+    let i = t .before .before .before .loop .inv in
+    (refl, rw (i .0) (going-more _ _ _ _ _ _ _ _ (i .1) (omega (arith, i .0)) _ _ (rw (i .1 .long) at (t .one-round .ensures))))
 
 returns : tie.Need-returns Inv-loop μ-loop
 returns c =
     let l = c .before in
-    let s = l .before .before .before .before .before in
+    let s = l .before .before .before .before .before .before .before in
     let i = l .loop .inv in
-    going-last _ _ _ _ _ _ _ _ _ (s .pre .0) (i .2) (omega (arith, i .1))
+    going-last _ _ _ _ _ _ _ _ (s .pre .0) (i .1) (omega (arith, i .0))
 
 pub all-rounds-spec : {M : Type 1} → statement M
 all-rounds-spec =
@@ -63,6 +58,5 @@ all-rounds-spec =
     add-rounds
     (λ c. omega arith)
     loop-again
-    same-length
-    same-length-2
+    (λ c. c .before .loop .inv .1 .long)
     returns)

@@ -10,18 +10,15 @@ all-rounds-requires : tie.Need-all-rounds-requires
 all-rounds-requires c κs =
     let f = c .before .before .before .before .before in
     let m = f .before .before .before .before in
-    (f .fill-scratch .ensures .0, m .complemented .ensures .0 ∙ ap C (sym (f .fill-scratch .ensures .1)), m .before .before .before .before .before .before .before .pre .2)
-
-write-out-requires : tie.Need-write-out-requires
-write-out-requires c κs = let a = c .before .before .before .before .before .before .before in a .all-rounds .ensures .ordered
+    (f .fill-scratch .ensures .0, m .complemented .ensures .0 ∙ ap C (sym (f .fill-scratch .ensures .1)), m .before .before .before .before .before .before .before .before .before .pre .2)
 
 returns : tie.Need-returns
 returns c =
     let w = c .before .before .before .before in
-    let a = w .before .before .before .before .before .before .before .before in
+    let a = w .before .before .before .before .before .before in
     let f = a .before .before .before .before .before .before in
     let m = f .before .before .before .before in
-    settled-to _ _ _ _ _ _ _ _ _ _ (f .fill-scratch .kept .1 .1 .1 .1 .1 .0) (f .fill-scratch .ensures .1) (a .all-rounds .ensures) (w .write-out .ensures) (m .complemented .ensures .0)
+    settled-to _ _ _ _ _ _ _ _ _ (f .fill-scratch .kept .1 .1 .1 .1 .1 .1 .1 .0) (f .fill-scratch .ensures .1) (a .all-rounds .ensures) (w .write-out .ensures) (m .complemented .ensures .0)
 
 pub settle-admitted-spec : {M : Type 1} → statement M
 settle-admitted-spec =
@@ -30,7 +27,7 @@ settle-admitted-spec =
     (λ c κs. search needs)
     (λ c κs. search needs)
     all-rounds-requires
-    write-out-requires
+    (λ c κs. c .before .before .before .before .before .all-rounds .ensures .ordered)
     (λ c. search needs)
     (λ c. search needs)
     (λ c. search needs)

@@ -7,15 +7,16 @@ use Rattle.graph.proofs.Answers.{admission-le}
 use Rattle.moves.specs.Call.{scratchFault}
 use Rattle.rounds.specs.Settle.{settleNumber}
 use borrow.Author.Needs.{needs}
+use Rattle.graph.specs.Literals.{literals}
 use Rattle.settling.proofs.faults.settle_number.Statement.{statement}
 use Rattle.settling.proofs.faults.settle_number.Tie as tie
 
 abbrev graph-of : tie.Start → Graph
-graph-of s = graphOf (s .args .inputs) (s .args .nodes) (s .args .outputs) (s .args .node-table .now) (s .args .output-table .now)
+graph-of s = graphOf (s .args .inputs) (s .args .nodes) (s .args .outputs) (literals (s .args .node-table .now) (s .args .node-bits .now)) (literals (s .args .output-table .now) (s .args .output-bits .now))
 
 returns : tie.Need-returns
 unfolding settleNumber scratchFault
-returns c = let e = c .before .admission-number .ensures in (fault _ _ e (λ z. c .if1 .taken (e ∙ z)), omega (arith, e, admission-le (graph-of (c .before .before .before .before .before)) (c .before .before .before .before .before .args .locks .now)))
+returns c = let e = c .before .admission-number .ensures in (fault _ _ e (λ z. c .if1 .taken (e ∙ z)), omega (arith, e, admission-le (graph-of (c .before .before .before .before .before .before .before)) (c .before .before .before .before .before .before .before .args .locks .now)))
 
 returns-2 : tie.Need-returns-2
 unfolding settleNumber scratchFault
