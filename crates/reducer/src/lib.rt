@@ -1,11 +1,13 @@
 // The entries for C: each returns 0 or document 01's number, and leaves what it answers beside it at a place that is lent.
 ghost use mathlib.Core.Path.{_≡_};
+ghost use Prim.Native.Nat.{_*_};
 ghost use mathlib.Core.List.{[], _∷_};
 ghost use lib.ListN.{length, getD, take, drop};
 ghost use Rattle.graph.specs.Graph.{graphOf};
 ghost use Rattle.graph.specs.Count.{C};
 ghost use Rattle.graph.specs.Admission.{admissionNumber};
 ghost use Rattle.graph.specs.Answer.{accepted, unless, ScratchKept};
+ghost use Rattle.graph.specs.Literals.{graphIn, literals};
 ghost use Rattle.file_checks.specs.File.{fieldNumber, fieldPayload};
 ghost use Rattle.tagged_file.specs.Load.{loadCall};
 ghost use Rattle.tagged_file.specs.Write.{writeCall};
@@ -39,17 +41,41 @@ pub extern "C" fn reducer_field(bytes: &[u8], payload: &mut [usize; 2]) -> u32
 pub extern "C" fn reducer_load(
     file: &[u8],
     node_table: &mut [u32],
+    node_bits: &mut [u64],
     output_table: &mut [u32],
+    output_bits: &mut [u64],
     locks: &mut [u8],
     numbers: &mut [u32; 3],
 ) -> u32
-    ensures answer { λ r. ⌜ r ≡ loadCall (now (file .entry)) (now («node_table» .entry)) (now («output_table» .entry)) (now (locks .entry)) .answer .number ⌝ }
-    ensures nodes { λ r. ⌜ now («node_table» .exit) ≡ loadCall (now (file .entry)) (now («node_table» .entry)) (now («output_table» .entry)) (now (locks .entry)) .graph .nodes ⌝ }
-    ensures outputs { λ r. ⌜ now («output_table» .exit) ≡ loadCall (now (file .entry)) (now («node_table» .entry)) (now («output_table» .entry)) (now (locks .entry)) .graph .outputs ⌝ }
-    ensures locks { λ r. ⌜ now (locks .exit) ≡ loadCall (now (file .entry)) (now («node_table» .entry)) (now («output_table» .entry)) (now (locks .entry)) .locks ⌝ }
-    ensures numbers { λ r. ⌜ now (numbers .exit) ≡ told (loadCall (now (file .entry)) (now («node_table» .entry)) (now («output_table» .entry)) (now (locks .entry)) .answer) (now (numbers .entry)) ⌝ }
+    ensures answer { λ r.
+        let ns = literals (now («node_table» .entry)) (now («node_bits» .entry)) in
+        let os = literals (now («output_table» .entry)) (now («output_bits» .entry)) in
+        ⌜ r ≡ loadCall (now (file .entry)) ns os (now (locks .entry)) .answer .number ⌝ }
+    ensures nodes { λ r.
+        let ns = literals (now («node_table» .entry)) (now («node_bits» .entry)) in
+        let os = literals (now («output_table» .entry)) (now («output_bits» .entry)) in
+        ⌜ literals (now («node_table» .exit)) (now («node_bits» .exit)) ≡ loadCall (now (file .entry)) ns os (now (locks .entry)) .graph .nodes ⌝ }
+    ensures outputs { λ r.
+        let ns = literals (now («node_table» .entry)) (now («node_bits» .entry)) in
+        let os = literals (now («output_table» .entry)) (now («output_bits» .entry)) in
+        ⌜ literals (now («output_table» .exit)) (now («output_bits» .exit)) ≡ loadCall (now (file .entry)) ns os (now (locks .entry)) .graph .outputs ⌝ }
+    ensures locks { λ r.
+        let ns = literals (now («node_table» .entry)) (now («node_bits» .entry)) in
+        let os = literals (now («output_table» .entry)) (now («output_bits» .entry)) in
+        ⌜ now (locks .exit) ≡ loadCall (now (file .entry)) ns os (now (locks .entry)) .locks ⌝ }
+    ensures numbers { λ r.
+        let ns = literals (now («node_table» .entry)) (now («node_bits» .entry)) in
+        let os = literals (now («output_table» .entry)) (now («output_bits» .entry)) in
+        ⌜ now (numbers .exit) ≡ told (loadCall (now (file .entry)) ns os (now (locks .entry)) .answer) (now (numbers .entry)) ⌝ }
 {
-    let answer = tagged_file::load(file, node_table, output_table, locks);
+    let answer = tagged_file::load(
+        file,
+        node_table,
+        node_bits,
+        output_table,
+        output_bits,
+        locks,
+    );
     *numbers = answers::told::loaded_told(answer, *numbers);
     answers::told::loaded_number(answer)
 }
@@ -59,17 +85,41 @@ pub extern "C" fn reducer_load(
 pub extern "C" fn reducer_import(
     text: &[u8],
     node_table: &mut [u32],
+    node_bits: &mut [u64],
     output_table: &mut [u32],
+    output_bits: &mut [u64],
     locks: &mut [u8],
     numbers: &mut [u32; 3],
 ) -> u32
-    ensures answer { λ r. ⌜ r ≡ importCall (now (text .entry)) (now («node_table» .entry)) (now («output_table» .entry)) (now (locks .entry)) .answer .number ⌝ }
-    ensures nodes { λ r. ⌜ now («node_table» .exit) ≡ importCall (now (text .entry)) (now («node_table» .entry)) (now («output_table» .entry)) (now (locks .entry)) .graph .nodes ⌝ }
-    ensures outputs { λ r. ⌜ now («output_table» .exit) ≡ importCall (now (text .entry)) (now («node_table» .entry)) (now («output_table» .entry)) (now (locks .entry)) .graph .outputs ⌝ }
-    ensures locks { λ r. ⌜ now (locks .exit) ≡ importCall (now (text .entry)) (now («node_table» .entry)) (now («output_table» .entry)) (now (locks .entry)) .locks ⌝ }
-    ensures numbers { λ r. ⌜ now (numbers .exit) ≡ told (importCall (now (text .entry)) (now («node_table» .entry)) (now («output_table» .entry)) (now (locks .entry)) .answer) (now (numbers .entry)) ⌝ }
+    ensures answer { λ r.
+        let ns = literals (now («node_table» .entry)) (now («node_bits» .entry)) in
+        let os = literals (now («output_table» .entry)) (now («output_bits» .entry)) in
+        ⌜ r ≡ importCall (now (text .entry)) ns os (now (locks .entry)) .answer .number ⌝ }
+    ensures nodes { λ r.
+        let ns = literals (now («node_table» .entry)) (now («node_bits» .entry)) in
+        let os = literals (now («output_table» .entry)) (now («output_bits» .entry)) in
+        ⌜ literals (now («node_table» .exit)) (now («node_bits» .exit)) ≡ importCall (now (text .entry)) ns os (now (locks .entry)) .graph .nodes ⌝ }
+    ensures outputs { λ r.
+        let ns = literals (now («node_table» .entry)) (now («node_bits» .entry)) in
+        let os = literals (now («output_table» .entry)) (now («output_bits» .entry)) in
+        ⌜ literals (now («output_table» .exit)) (now («output_bits» .exit)) ≡ importCall (now (text .entry)) ns os (now (locks .entry)) .graph .outputs ⌝ }
+    ensures locks { λ r.
+        let ns = literals (now («node_table» .entry)) (now («node_bits» .entry)) in
+        let os = literals (now («output_table» .entry)) (now («output_bits» .entry)) in
+        ⌜ now (locks .exit) ≡ importCall (now (text .entry)) ns os (now (locks .entry)) .locks ⌝ }
+    ensures numbers { λ r.
+        let ns = literals (now («node_table» .entry)) (now («node_bits» .entry)) in
+        let os = literals (now («output_table» .entry)) (now («output_bits» .entry)) in
+        ⌜ now (numbers .exit) ≡ told (importCall (now (text .entry)) ns os (now (locks .entry)) .answer) (now (numbers .entry)) ⌝ }
 {
-    let answer = aiger_import::import(text, node_table, output_table, locks);
+    let answer = aiger_import::import(
+        text,
+        node_table,
+        node_bits,
+        output_table,
+        output_bits,
+        locks,
+    );
     *numbers = answers::told::loaded_told(answer, *numbers);
     answers::told::loaded_number(answer)
 }
@@ -81,21 +131,31 @@ pub extern "C" fn reducer_write(
     nodes: u32,
     outputs: u32,
     node_table: &[u32],
+    node_bits: &[u64],
     output_table: &[u32],
+    output_bits: &[u64],
     locks: &[u8],
     buffer: &mut [u8],
     length: &mut usize,
 ) -> u32
-    ensures answer { λ r. ⌜ r ≡ writeCall (graphOf inputs nodes outputs (now («node_table» .entry)) (now («output_table» .entry))) (now (locks .entry)) (now (buffer .entry)) .answer .number ⌝ }
-    ensures buffer { λ r. ⌜ now (buffer .exit) ≡ writeCall (graphOf inputs nodes outputs (now («node_table» .entry)) (now («output_table» .entry))) (now (locks .entry)) (now (buffer .entry)) .buffer ⌝ }
-    ensures size { λ r. ⌜ now (length .exit) ≡ toldOne (writeCall (graphOf inputs nodes outputs (now («node_table» .entry)) (now («output_table» .entry))) (now (locks .entry)) (now (buffer .entry)) .answer) (now (length .entry)) ⌝ }
+    ensures answer { λ r.
+        let g = graphIn inputs nodes outputs (now («node_table» .entry)) (now («node_bits» .entry)) (now («output_table» .entry)) (now («output_bits» .entry)) in
+        ⌜ r ≡ writeCall g (now (locks .entry)) (now (buffer .entry)) .answer .number ⌝ }
+    ensures buffer { λ r.
+        let g = graphIn inputs nodes outputs (now («node_table» .entry)) (now («node_bits» .entry)) (now («output_table» .entry)) (now («output_bits» .entry)) in
+        ⌜ now (buffer .exit) ≡ writeCall g (now (locks .entry)) (now (buffer .entry)) .buffer ⌝ }
+    ensures size { λ r.
+        let g = graphIn inputs nodes outputs (now («node_table» .entry)) (now («node_bits» .entry)) (now («output_table» .entry)) (now («output_bits» .entry)) in
+        ⌜ now (length .exit) ≡ toldOne (writeCall g (now (locks .entry)) (now (buffer .entry)) .answer) (now (length .entry)) ⌝ }
 {
     let answer = tagged_file::write(
         inputs,
         nodes,
         outputs,
         node_table,
+        node_bits,
         output_table,
+        output_bits,
         locks,
         buffer,
     );
@@ -110,23 +170,35 @@ pub extern "C" fn reducer_export(
     nodes: u32,
     outputs: u32,
     node_table: &[u32],
+    node_bits: &[u64],
     output_table: &[u32],
+    output_bits: &[u64],
     locks: &[u8],
     scratch: &mut [u32],
     buffer: &mut [u8],
     length: &mut usize,
 ) -> u32
-    ensures answer { λ r. ⌜ r ≡ exportCall (graphOf inputs nodes outputs (now («node_table» .entry)) (now («output_table» .entry))) (now (locks .entry)) (now (scratch .entry)) (now (buffer .entry)) .answer .number ⌝ }
-    ensures buffer { λ r. ⌜ now (buffer .exit) ≡ exportCall (graphOf inputs nodes outputs (now («node_table» .entry)) (now («output_table» .entry))) (now (locks .entry)) (now (scratch .entry)) (now (buffer .entry)) .buffer ⌝ }
-    ensures size { λ r. ⌜ now (length .exit) ≡ toldOne (exportCall (graphOf inputs nodes outputs (now («node_table» .entry)) (now («output_table» .entry))) (now (locks .entry)) (now (scratch .entry)) (now (buffer .entry)) .answer) (now (length .entry)) ⌝ }
-    ensures scratch { λ r. ⌜ ScratchKept (exportCall (graphOf inputs nodes outputs (now («node_table» .entry)) (now («output_table» .entry))) (now (locks .entry)) (now (scratch .entry)) (now (buffer .entry)) .answer) (now (scratch .entry)) (now (scratch .exit)) ⌝ }
+    ensures answer { λ r.
+        let g = graphIn inputs nodes outputs (now («node_table» .entry)) (now («node_bits» .entry)) (now («output_table» .entry)) (now («output_bits» .entry)) in
+        ⌜ r ≡ exportCall g (now (locks .entry)) (now (scratch .entry)) (now (buffer .entry)) .answer .number ⌝ }
+    ensures buffer { λ r.
+        let g = graphIn inputs nodes outputs (now («node_table» .entry)) (now («node_bits» .entry)) (now («output_table» .entry)) (now («output_bits» .entry)) in
+        ⌜ now (buffer .exit) ≡ exportCall g (now (locks .entry)) (now (scratch .entry)) (now (buffer .entry)) .buffer ⌝ }
+    ensures size { λ r.
+        let g = graphIn inputs nodes outputs (now («node_table» .entry)) (now («node_bits» .entry)) (now («output_table» .entry)) (now («output_bits» .entry)) in
+        ⌜ now (length .exit) ≡ toldOne (exportCall g (now (locks .entry)) (now (scratch .entry)) (now (buffer .entry)) .answer) (now (length .entry)) ⌝ }
+    ensures scratch { λ r.
+        let g = graphIn inputs nodes outputs (now («node_table» .entry)) (now («node_bits» .entry)) (now («output_table» .entry)) (now («output_bits» .entry)) in
+        ⌜ ScratchKept (exportCall g (now (locks .entry)) (now (scratch .entry)) (now (buffer .entry)) .answer) (now (scratch .entry)) (now (scratch .exit)) ⌝ }
 {
     let answer = aiger_export::export(
         inputs,
         nodes,
         outputs,
         node_table,
+        node_bits,
         output_table,
+        output_bits,
         locks,
         scratch,
         buffer,
@@ -142,22 +214,32 @@ pub extern "C" fn reducer_evaluate(
     nodes: u32,
     outputs: u32,
     node_table: &[u32],
+    node_bits: &[u64],
     output_table: &[u32],
+    output_bits: &[u64],
     locks: &[u8],
     input_words: &[u64],
     scratch: &mut [u64],
     results: &mut [u64],
 ) -> u32
-    ensures answer { λ r. ⌜ r ≡ unless (evaluateNumber (graphOf inputs nodes outputs (now («node_table» .entry)) (now («output_table» .entry))) (now (locks .entry)) (length (now («input_words» .entry))) (length (now (scratch .entry))) (length (now (results .entry)))) (accepted []) .number ⌝ }
-    ensures results { λ r. ⌜ now (results .exit) ≡ resultsAfter (graphOf inputs nodes outputs (now («node_table» .entry)) (now («output_table» .entry))) (now (locks .entry)) (now («input_words» .entry)) (length (now (scratch .entry))) (now (results .entry)) ⌝ }
-    ensures scratch { λ r. ⌜ ScratchKept (unless (evaluateNumber (graphOf inputs nodes outputs (now («node_table» .entry)) (now («output_table» .entry))) (now (locks .entry)) (length (now («input_words» .entry))) (length (now (scratch .entry))) (length (now (results .entry)))) (accepted [])) (now (scratch .entry)) (now (scratch .exit)) ⌝ }
+    ensures answer { λ r.
+        let g = graphIn inputs nodes outputs (now («node_table» .entry)) (now («node_bits» .entry)) (now («output_table» .entry)) (now («output_bits» .entry)) in
+        ⌜ r ≡ unless (evaluateNumber g (now (locks .entry)) (length (now («input_words» .entry))) (length (now (scratch .entry))) (length (now (results .entry)))) (accepted []) .number ⌝ }
+    ensures results { λ r.
+        let g = graphIn inputs nodes outputs (now («node_table» .entry)) (now («node_bits» .entry)) (now («output_table» .entry)) (now («output_bits» .entry)) in
+        ⌜ now (results .exit) ≡ resultsAfter g (now (locks .entry)) (now («input_words» .entry)) (length (now (scratch .entry))) (now (results .entry)) ⌝ }
+    ensures scratch { λ r.
+        let g = graphIn inputs nodes outputs (now («node_table» .entry)) (now («node_bits» .entry)) (now («output_table» .entry)) (now («output_bits» .entry)) in
+        ⌜ ScratchKept (unless (evaluateNumber g (now (locks .entry)) (length (now («input_words» .entry))) (length (now (scratch .entry))) (length (now (results .entry)))) (accepted [])) (now (scratch .entry)) (now (scratch .exit)) ⌝ }
 {
     answers::told::evaluated_number(evaluation::evaluate(
         inputs,
         nodes,
         outputs,
         node_table,
+        node_bits,
         output_table,
+        output_bits,
         locks,
         input_words,
         scratch,
@@ -172,14 +254,29 @@ pub extern "C" fn reducer_count(
     nodes: u32,
     outputs: u32,
     node_table: &[u32],
+    node_bits: &[u64],
     output_table: &[u32],
+    output_bits: &[u64],
     locks: &[u8],
     count: &mut u32,
 ) -> u32
-    ensures answer { λ r. ⌜ r ≡ unless (admissionNumber (graphOf inputs nodes outputs (now («node_table» .entry)) (now («output_table» .entry))) (now (locks .entry))) (accepted (C (graphOf inputs nodes outputs (now («node_table» .entry)) (now («output_table» .entry))) ∷ [])) .number ⌝ }
-    ensures count { λ r. ⌜ now (count .exit) ≡ toldOne (unless (admissionNumber (graphOf inputs nodes outputs (now («node_table» .entry)) (now («output_table» .entry))) (now (locks .entry))) (accepted (C (graphOf inputs nodes outputs (now («node_table» .entry)) (now («output_table» .entry))) ∷ []))) (now (count .entry)) ⌝ }
+    ensures answer { λ r.
+        let g = graphIn inputs nodes outputs (now («node_table» .entry)) (now («node_bits» .entry)) (now («output_table» .entry)) (now («output_bits» .entry)) in
+        ⌜ r ≡ unless (admissionNumber g (now (locks .entry))) (accepted (C g ∷ [])) .number ⌝ }
+    ensures count { λ r.
+        let g = graphIn inputs nodes outputs (now («node_table» .entry)) (now («node_bits» .entry)) (now («output_table» .entry)) (now («output_bits» .entry)) in
+        ⌜ now (count .exit) ≡ toldOne (unless (admissionNumber g (now (locks .entry))) (accepted (C g ∷ []))) (now (count .entry)) ⌝ }
 {
-    let answer = graph::complemented_edges(inputs, nodes, outputs, node_table, output_table, locks);
+    let answer = graph::complemented_edges(
+        inputs,
+        nodes,
+        outputs,
+        node_table,
+        node_bits,
+        output_table,
+        output_bits,
+        locks,
+    );
     *count = answers::told::count_told(answer, *count);
     answers::told::count_number(answer)
 }
@@ -190,22 +287,33 @@ pub extern "C" fn reducer_node(
     inputs: u32,
     nodes: u32,
     outputs: u32,
-    node_table: &mut [u32],
-    output_table: &mut [u32],
+    node_table: &[u32],
+    node_bits: &mut [u64],
+    output_table: &[u32],
+    output_bits: &mut [u64],
     locks: &[u8],
     node: u32,
     saving: &mut [i64; 2],
 ) -> u32
-    ensures answer { λ r. ⌜ r ≡ nodeCall (graphOf inputs nodes outputs (now («node_table» .entry)) (now («output_table» .entry))) (now (locks .entry)) node .answer .number ⌝ }
-    ensures graph { λ r. ⌜ graphOf inputs nodes outputs (now («node_table» .exit)) (now («output_table» .exit)) ≡ nodeCall (graphOf inputs nodes outputs (now («node_table» .entry)) (now («output_table» .entry))) (now (locks .entry)) node .graph ⌝ }
-    ensures told { λ r. ⌜ now (saving .exit) ≡ toldSigned (nodeCall (graphOf inputs nodes outputs (now («node_table» .entry)) (now («output_table» .entry))) (now (locks .entry)) node .answer) (now (saving .entry)) ⌝ }
+    ensures answer { λ r.
+        let g = graphIn inputs nodes outputs (now («node_table» .entry)) (now («node_bits» .entry)) (now («output_table» .entry)) (now («output_bits» .entry)) in
+        ⌜ r ≡ nodeCall g (now (locks .entry)) node .answer .number ⌝ }
+    ensures graph { λ r.
+        let g = graphIn inputs nodes outputs (now («node_table» .entry)) (now («node_bits» .entry)) (now («output_table» .entry)) (now («output_bits» .entry)) in
+        let k = graphIn inputs nodes outputs (now («node_table» .entry)) (now («node_bits» .exit)) (now («output_table» .entry)) (now («output_bits» .exit)) in
+        ⌜ k ≡ nodeCall g (now (locks .entry)) node .graph ⌝ }
+    ensures told { λ r.
+        let g = graphIn inputs nodes outputs (now («node_table» .entry)) (now («node_bits» .entry)) (now («output_table» .entry)) (now («output_bits» .entry)) in
+        ⌜ now (saving .exit) ≡ toldSigned (nodeCall g (now (locks .entry)) node .answer) (now (saving .entry)) ⌝ }
 {
     let answer = node_call::node_call(
         inputs,
         nodes,
         outputs,
         node_table,
+        node_bits,
         output_table,
+        output_bits,
         locks,
         node,
     );
@@ -219,23 +327,34 @@ pub extern "C" fn reducer_pair(
     inputs: u32,
     nodes: u32,
     outputs: u32,
-    node_table: &mut [u32],
-    output_table: &mut [u32],
+    node_table: &[u32],
+    node_bits: &mut [u64],
+    output_table: &[u32],
+    output_bits: &mut [u64],
     locks: &[u8],
     node: u32,
     word: u32,
     saving: &mut [i64; 2],
 ) -> u32
-    ensures answer { λ r. ⌜ r ≡ pairCall (graphOf inputs nodes outputs (now («node_table» .entry)) (now («output_table» .entry))) (now (locks .entry)) node word .answer .number ⌝ }
-    ensures graph { λ r. ⌜ graphOf inputs nodes outputs (now («node_table» .exit)) (now («output_table» .exit)) ≡ pairCall (graphOf inputs nodes outputs (now («node_table» .entry)) (now («output_table» .entry))) (now (locks .entry)) node word .graph ⌝ }
-    ensures told { λ r. ⌜ now (saving .exit) ≡ toldSigned (pairCall (graphOf inputs nodes outputs (now («node_table» .entry)) (now («output_table» .entry))) (now (locks .entry)) node word .answer) (now (saving .entry)) ⌝ }
+    ensures answer { λ r.
+        let g = graphIn inputs nodes outputs (now («node_table» .entry)) (now («node_bits» .entry)) (now («output_table» .entry)) (now («output_bits» .entry)) in
+        ⌜ r ≡ pairCall g (now (locks .entry)) node word .answer .number ⌝ }
+    ensures graph { λ r.
+        let g = graphIn inputs nodes outputs (now («node_table» .entry)) (now («node_bits» .entry)) (now («output_table» .entry)) (now («output_bits» .entry)) in
+        let k = graphIn inputs nodes outputs (now («node_table» .entry)) (now («node_bits» .exit)) (now («output_table» .entry)) (now («output_bits» .exit)) in
+        ⌜ k ≡ pairCall g (now (locks .entry)) node word .graph ⌝ }
+    ensures told { λ r.
+        let g = graphIn inputs nodes outputs (now («node_table» .entry)) (now («node_bits» .entry)) (now («output_table» .entry)) (now («output_bits» .entry)) in
+        ⌜ now (saving .exit) ≡ toldSigned (pairCall g (now (locks .entry)) node word .answer) (now (saving .entry)) ⌝ }
 {
     let answer = node_call::pair_call(
         inputs,
         nodes,
         outputs,
         node_table,
+        node_bits,
         output_table,
+        output_bits,
         locks,
         node,
         word,
@@ -251,7 +370,9 @@ pub extern "C" fn reducer_trial(
     nodes: u32,
     outputs: u32,
     node_table: &[u32],
+    node_bits: &[u64],
     output_table: &[u32],
+    output_bits: &[u64],
     locks: &[u8],
     node: u32,
     word: u32,
@@ -259,15 +380,21 @@ pub extern "C" fn reducer_trial(
     node_move: u32,
     gain: &mut i64,
 ) -> u32
-    ensures answer { λ r. ⌜ r ≡ trialCall (graphOf inputs nodes outputs (now («node_table» .entry)) (now («output_table» .entry))) (now (locks .entry)) node word «named_move» «node_move» .number ⌝ }
-    ensures told { λ r. ⌜ now (gain .exit) ≡ toldGain (trialCall (graphOf inputs nodes outputs (now («node_table» .entry)) (now («output_table» .entry))) (now (locks .entry)) node word «named_move» «node_move») (now (gain .entry)) ⌝ }
+    ensures answer { λ r.
+        let g = graphIn inputs nodes outputs (now («node_table» .entry)) (now («node_bits» .entry)) (now («output_table» .entry)) (now («output_bits» .entry)) in
+        ⌜ r ≡ trialCall g (now (locks .entry)) node word «named_move» «node_move» .number ⌝ }
+    ensures told { λ r.
+        let g = graphIn inputs nodes outputs (now («node_table» .entry)) (now («node_bits» .entry)) (now («output_table» .entry)) (now («output_bits» .entry)) in
+        ⌜ now (gain .exit) ≡ toldGain (trialCall g (now (locks .entry)) node word «named_move» «node_move») (now (gain .entry)) ⌝ }
 {
     let answer = node_call::trial(
         inputs,
         nodes,
         outputs,
         node_table,
+        node_bits,
         output_table,
+        output_bits,
         locks,
         node,
         word,
@@ -286,23 +413,34 @@ pub extern "C" fn reducer_many(
     inputs: u32,
     nodes: u32,
     outputs: u32,
-    node_table: &mut [u32],
-    output_table: &mut [u32],
+    node_table: &[u32],
+    node_bits: &mut [u64],
+    output_table: &[u32],
+    output_bits: &mut [u64],
     locks: &[u8],
     list: &[u32],
     bytes: &[u8],
     saving: &mut i64,
 ) -> u32
-    ensures answer { λ r. ⌜ r ≡ manyCall (graphOf inputs nodes outputs (now («node_table» .entry)) (now («output_table» .entry))) (now (locks .entry)) (now (list .entry)) (now (bytes .entry)) .answer .number ⌝ }
-    ensures graph { λ r. ⌜ graphOf inputs nodes outputs (now («node_table» .exit)) (now («output_table» .exit)) ≡ manyCall (graphOf inputs nodes outputs (now («node_table» .entry)) (now («output_table» .entry))) (now (locks .entry)) (now (list .entry)) (now (bytes .entry)) .graph ⌝ }
-    ensures told { λ r. ⌜ now (saving .exit) ≡ toldGain (manyCall (graphOf inputs nodes outputs (now («node_table» .entry)) (now («output_table» .entry))) (now (locks .entry)) (now (list .entry)) (now (bytes .entry)) .answer) (now (saving .entry)) ⌝ }
+    ensures answer { λ r.
+        let g = graphIn inputs nodes outputs (now («node_table» .entry)) (now («node_bits» .entry)) (now («output_table» .entry)) (now («output_bits» .entry)) in
+        ⌜ r ≡ manyCall g (now (locks .entry)) (now (list .entry)) (now (bytes .entry)) .answer .number ⌝ }
+    ensures graph { λ r.
+        let g = graphIn inputs nodes outputs (now («node_table» .entry)) (now («node_bits» .entry)) (now («output_table» .entry)) (now («output_bits» .entry)) in
+        let k = graphIn inputs nodes outputs (now («node_table» .entry)) (now («node_bits» .exit)) (now («output_table» .entry)) (now («output_bits» .exit)) in
+        ⌜ k ≡ manyCall g (now (locks .entry)) (now (list .entry)) (now (bytes .entry)) .graph ⌝ }
+    ensures told { λ r.
+        let g = graphIn inputs nodes outputs (now («node_table» .entry)) (now («node_bits» .entry)) (now («output_table» .entry)) (now («output_bits» .entry)) in
+        ⌜ now (saving .exit) ≡ toldGain (manyCall g (now (locks .entry)) (now (list .entry)) (now (bytes .entry)) .answer) (now (saving .entry)) ⌝ }
 {
     let answer = many::many(
         inputs,
         nodes,
         outputs,
         node_table,
+        node_bits,
         output_table,
+        output_bits,
         locks,
         list,
         bytes,
@@ -319,24 +457,37 @@ pub extern "C" fn reducer_tree(
     inputs: u32,
     nodes: u32,
     outputs: u32,
-    node_table: &mut [u32],
-    output_table: &mut [u32],
+    node_table: &[u32],
+    node_bits: &mut [u64],
+    output_table: &[u32],
+    output_bits: &mut [u64],
     locks: &[u8],
     root: u32,
     scratch: &mut [u32],
     saving: &mut [i64; 2],
 ) -> u32
-    ensures answer { λ r. ⌜ r ≡ treeCall (graphOf inputs nodes outputs (now («node_table» .entry)) (now («output_table» .entry))) (now (locks .entry)) (length (now (scratch .entry))) root .answer .number ⌝ }
-    ensures graph { λ r. ⌜ graphOf inputs nodes outputs (now («node_table» .exit)) (now («output_table» .exit)) ≡ treeCall (graphOf inputs nodes outputs (now («node_table» .entry)) (now («output_table» .entry))) (now (locks .entry)) (length (now (scratch .entry))) root .graph ⌝ }
-    ensures told { λ r. ⌜ now (saving .exit) ≡ toldSigned (treeCall (graphOf inputs nodes outputs (now («node_table» .entry)) (now («output_table» .entry))) (now (locks .entry)) (length (now (scratch .entry))) root .answer) (now (saving .entry)) ⌝ }
-    ensures scratch { λ r. ⌜ ScratchKept (treeCall (graphOf inputs nodes outputs (now («node_table» .entry)) (now («output_table» .entry))) (now (locks .entry)) (length (now (scratch .entry))) root .answer) (now (scratch .entry)) (now (scratch .exit)) ⌝ }
+    ensures answer { λ r.
+        let g = graphIn inputs nodes outputs (now («node_table» .entry)) (now («node_bits» .entry)) (now («output_table» .entry)) (now («output_bits» .entry)) in
+        ⌜ r ≡ treeCall g (now (locks .entry)) (length (now (scratch .entry))) root .answer .number ⌝ }
+    ensures graph { λ r.
+        let g = graphIn inputs nodes outputs (now («node_table» .entry)) (now («node_bits» .entry)) (now («output_table» .entry)) (now («output_bits» .entry)) in
+        let k = graphIn inputs nodes outputs (now («node_table» .entry)) (now («node_bits» .exit)) (now («output_table» .entry)) (now («output_bits» .exit)) in
+        ⌜ k ≡ treeCall g (now (locks .entry)) (length (now (scratch .entry))) root .graph ⌝ }
+    ensures told { λ r.
+        let g = graphIn inputs nodes outputs (now («node_table» .entry)) (now («node_bits» .entry)) (now («output_table» .entry)) (now («output_bits» .entry)) in
+        ⌜ now (saving .exit) ≡ toldSigned (treeCall g (now (locks .entry)) (length (now (scratch .entry))) root .answer) (now (saving .entry)) ⌝ }
+    ensures scratch { λ r.
+        let g = graphIn inputs nodes outputs (now («node_table» .entry)) (now («node_bits» .entry)) (now («output_table» .entry)) (now («output_bits» .entry)) in
+        ⌜ ScratchKept (treeCall g (now (locks .entry)) (length (now (scratch .entry))) root .answer) (now (scratch .entry)) (now (scratch .exit)) ⌝ }
 {
     let answer = tree_call::tree_call(
         inputs,
         nodes,
         outputs,
         node_table,
+        node_bits,
         output_table,
+        output_bits,
         locks,
         root,
         scratch,
@@ -352,24 +503,36 @@ pub extern "C" fn reducer_preview(
     nodes: u32,
     outputs: u32,
     node_table: &[u32],
+    node_bits: &[u64],
     output_table: &[u32],
+    output_bits: &[u64],
     locks: &[u8],
     root: u32,
     moves: &mut [u8],
     scratch: &mut [u32],
     saving: &mut [i64; 2],
 ) -> u32
-    ensures answer { λ r. ⌜ r ≡ previewAnswer (graphOf inputs nodes outputs (now («node_table» .entry)) (now («output_table» .entry))) (now (locks .entry)) (length (now (moves .entry))) (length (now (scratch .entry))) root .number ⌝ }
-    ensures moves { λ r. ⌜ now (moves .exit) ≡ previewBytes (graphOf inputs nodes outputs (now («node_table» .entry)) (now («output_table» .entry))) (now (locks .entry)) (now (moves .entry)) (length (now (scratch .entry))) root ⌝ }
-    ensures told { λ r. ⌜ now (saving .exit) ≡ toldSigned (previewAnswer (graphOf inputs nodes outputs (now («node_table» .entry)) (now («output_table» .entry))) (now (locks .entry)) (length (now (moves .entry))) (length (now (scratch .entry))) root) (now (saving .entry)) ⌝ }
-    ensures scratch { λ r. ⌜ ScratchKept (previewAnswer (graphOf inputs nodes outputs (now («node_table» .entry)) (now («output_table» .entry))) (now (locks .entry)) (length (now (moves .entry))) (length (now (scratch .entry))) root) (now (scratch .entry)) (now (scratch .exit)) ⌝ }
+    ensures answer { λ r.
+        let g = graphIn inputs nodes outputs (now («node_table» .entry)) (now («node_bits» .entry)) (now («output_table» .entry)) (now («output_bits» .entry)) in
+        ⌜ r ≡ previewAnswer g (now (locks .entry)) (length (now (moves .entry))) (length (now (scratch .entry))) root .number ⌝ }
+    ensures moves { λ r.
+        let g = graphIn inputs nodes outputs (now («node_table» .entry)) (now («node_bits» .entry)) (now («output_table» .entry)) (now («output_bits» .entry)) in
+        ⌜ now (moves .exit) ≡ previewBytes g (now (locks .entry)) (now (moves .entry)) (length (now (scratch .entry))) root ⌝ }
+    ensures told { λ r.
+        let g = graphIn inputs nodes outputs (now («node_table» .entry)) (now («node_bits» .entry)) (now («output_table» .entry)) (now («output_bits» .entry)) in
+        ⌜ now (saving .exit) ≡ toldSigned (previewAnswer g (now (locks .entry)) (length (now (moves .entry))) (length (now (scratch .entry))) root) (now (saving .entry)) ⌝ }
+    ensures scratch { λ r.
+        let g = graphIn inputs nodes outputs (now («node_table» .entry)) (now («node_bits» .entry)) (now («output_table» .entry)) (now («output_bits» .entry)) in
+        ⌜ ScratchKept (previewAnswer g (now (locks .entry)) (length (now (moves .entry))) (length (now (scratch .entry))) root) (now (scratch .entry)) (now (scratch .exit)) ⌝ }
 {
     let answer = preview::preview(
         inputs,
         nodes,
         outputs,
         node_table,
+        node_bits,
         output_table,
+        output_bits,
         locks,
         root,
         moves,
@@ -385,25 +548,40 @@ pub extern "C" fn reducer_settle(
     inputs: u32,
     nodes: u32,
     outputs: u32,
-    node_table: &mut [u32],
-    output_table: &mut [u32],
+    node_table: &[u32],
+    node_bits: &mut [u64],
+    output_table: &[u32],
+    output_bits: &mut [u64],
     locks: &[u8],
     scratch: &mut [u32],
     figures: &mut [u32; 3],
     savings: &mut [i64; 2],
 ) -> u32
-    ensures answer { λ r. ⌜ r ≡ settleCall (graphOf inputs nodes outputs (now («node_table» .entry)) (now («output_table» .entry))) (now (locks .entry)) (length (now (scratch .entry))) .answer .number ⌝ }
-    ensures graph { λ r. ⌜ graphOf inputs nodes outputs (now («node_table» .exit)) (now («output_table» .exit)) ≡ settleCall (graphOf inputs nodes outputs (now («node_table» .entry)) (now («output_table» .entry))) (now (locks .entry)) (length (now (scratch .entry))) .graph ⌝ }
-    ensures told { λ r. ⌜ now (figures .exit) ≡ told (settleCall (graphOf inputs nodes outputs (now («node_table» .entry)) (now («output_table» .entry))) (now (locks .entry)) (length (now (scratch .entry))) .answer) (now (figures .entry)) ⌝ }
-    ensures savings { λ r. ⌜ now (savings .exit) ≡ toldSigned (settleCall (graphOf inputs nodes outputs (now («node_table» .entry)) (now («output_table» .entry))) (now (locks .entry)) (length (now (scratch .entry))) .answer) (now (savings .entry)) ⌝ }
-    ensures scratch { λ r. ⌜ ScratchKept (settleCall (graphOf inputs nodes outputs (now («node_table» .entry)) (now («output_table» .entry))) (now (locks .entry)) (length (now (scratch .entry))) .answer) (now (scratch .entry)) (now (scratch .exit)) ⌝ }
+    ensures answer { λ r.
+        let g = graphIn inputs nodes outputs (now («node_table» .entry)) (now («node_bits» .entry)) (now («output_table» .entry)) (now («output_bits» .entry)) in
+        ⌜ r ≡ settleCall g (now (locks .entry)) (length (now (scratch .entry))) .answer .number ⌝ }
+    ensures graph { λ r.
+        let g = graphIn inputs nodes outputs (now («node_table» .entry)) (now («node_bits» .entry)) (now («output_table» .entry)) (now («output_bits» .entry)) in
+        let k = graphIn inputs nodes outputs (now («node_table» .entry)) (now («node_bits» .exit)) (now («output_table» .entry)) (now («output_bits» .exit)) in
+        ⌜ k ≡ settleCall g (now (locks .entry)) (length (now (scratch .entry))) .graph ⌝ }
+    ensures told { λ r.
+        let g = graphIn inputs nodes outputs (now («node_table» .entry)) (now («node_bits» .entry)) (now («output_table» .entry)) (now («output_bits» .entry)) in
+        ⌜ now (figures .exit) ≡ told (settleCall g (now (locks .entry)) (length (now (scratch .entry))) .answer) (now (figures .entry)) ⌝ }
+    ensures savings { λ r.
+        let g = graphIn inputs nodes outputs (now («node_table» .entry)) (now («node_bits» .entry)) (now («output_table» .entry)) (now («output_bits» .entry)) in
+        ⌜ now (savings .exit) ≡ toldSigned (settleCall g (now (locks .entry)) (length (now (scratch .entry))) .answer) (now (savings .entry)) ⌝ }
+    ensures scratch { λ r.
+        let g = graphIn inputs nodes outputs (now («node_table» .entry)) (now («node_bits» .entry)) (now («output_table» .entry)) (now («output_bits» .entry)) in
+        ⌜ ScratchKept (settleCall g (now (locks .entry)) (length (now (scratch .entry))) .answer) (now (scratch .entry)) (now (scratch .exit)) ⌝ }
 {
     let answer = settling::settle(
         inputs,
         nodes,
         outputs,
         node_table,
+        node_bits,
         output_table,
+        output_bits,
         locks,
         scratch,
     );
@@ -418,7 +596,9 @@ pub extern "C" fn reducer_replay(
     file: &[u8],
     calls: &[u32],
     node_table: &mut [u32],
+    node_bits: &mut [u64],
     output_table: &mut [u32],
+    output_bits: &mut [u64],
     locks: &mut [u8],
     list: &[u32],
     bytes: &[u8],
@@ -426,20 +606,55 @@ pub extern "C" fn reducer_replay(
     answers: &mut [i64],
     numbers: &mut [u32; 3],
 ) -> u32
-    ensures answer { λ r. ⌜ r ≡ replayCall (now (file .entry)) (now (calls .entry)) (lent (now (scratch .entry)) (now (list .entry)) (now (bytes .entry))) (now («node_table» .entry)) (now («output_table» .entry)) (now (locks .entry)) (length (now (answers .entry))) .answer .number ⌝ }
-    ensures nodes { λ r. ⌜ now («node_table» .exit) ≡ replayCall (now (file .entry)) (now (calls .entry)) (lent (now (scratch .entry)) (now (list .entry)) (now (bytes .entry))) (now («node_table» .entry)) (now («output_table» .entry)) (now (locks .entry)) (length (now (answers .entry))) .graph .nodes ⌝ }
-    ensures outputs { λ r. ⌜ now («output_table» .exit) ≡ replayCall (now (file .entry)) (now (calls .entry)) (lent (now (scratch .entry)) (now (list .entry)) (now (bytes .entry))) (now («node_table» .entry)) (now («output_table» .entry)) (now (locks .entry)) (length (now (answers .entry))) .graph .outputs ⌝ }
-    ensures locks { λ r. ⌜ now (locks .exit) ≡ replayCall (now (file .entry)) (now (calls .entry)) (lent (now (scratch .entry)) (now (list .entry)) (now (bytes .entry))) (now («node_table» .entry)) (now («output_table» .entry)) (now (locks .entry)) (length (now (answers .entry))) .locks ⌝ }
-    ensures numbers { λ r. ⌜ now (numbers .exit) ≡ told (replayCall (now (file .entry)) (now (calls .entry)) (lent (now (scratch .entry)) (now (list .entry)) (now (bytes .entry))) (now («node_table» .entry)) (now («output_table» .entry)) (now (locks .entry)) (length (now (answers .entry))) .answer) (now (numbers .entry)) ⌝ }
-    ensures answers { λ r. ⌜ now (answers .exit) ≡ answersAfter (now (file .entry)) (now (calls .entry)) (lent (now (scratch .entry)) (now (list .entry)) (now (bytes .entry))) (now («node_table» .entry)) (now («output_table» .entry)) (now (locks .entry)) (now (answers .entry)) ⌝ }
-    ensures scratch { λ r. ⌜ ScratchKept (replayCall (now (file .entry)) (now (calls .entry)) (lent (now (scratch .entry)) (now (list .entry)) (now (bytes .entry))) (now («node_table» .entry)) (now («output_table» .entry)) (now (locks .entry)) (length (now (answers .entry))) .answer) (now (scratch .entry)) (now (scratch .exit)) ⌝ }
-    ensures demand { λ r. ⌜ (r ≡ 0 → DemandMet (left (loadCall (now (file .entry)) (now («node_table» .entry)) (now («output_table» .entry)) (now (locks .entry)))) (decode (lent (now (scratch .entry)) (now (list .entry)) (now (bytes .entry))) (now (calls .entry))) (withLocks (graphOf (getD (now (numbers .exit)) 0 0) (getD (now (numbers .exit)) 1 0) (getD (now (numbers .exit)) 2 0) (now («node_table» .exit)) (now («output_table» .exit))) (now (locks .exit))) (now (answers .exit))) ⌝ }
+    ensures answer { λ r.
+        let ns = literals (now («node_table» .entry)) (now («node_bits» .entry)) in
+        let os = literals (now («output_table» .entry)) (now («output_bits» .entry)) in
+        let l = lent (now (scratch .entry)) (now (list .entry)) (now (bytes .entry)) in
+        ⌜ r ≡ replayCall (now (file .entry)) (now (calls .entry)) l ns os (now (locks .entry)) (length (now (answers .entry))) .answer .number ⌝ }
+    ensures nodes { λ r.
+        let ns = literals (now («node_table» .entry)) (now («node_bits» .entry)) in
+        let os = literals (now («output_table» .entry)) (now («output_bits» .entry)) in
+        let l = lent (now (scratch .entry)) (now (list .entry)) (now (bytes .entry)) in
+        ⌜ literals (now («node_table» .exit)) (now («node_bits» .exit)) ≡ replayCall (now (file .entry)) (now (calls .entry)) l ns os (now (locks .entry)) (length (now (answers .entry))) .graph .nodes ⌝ }
+    ensures outputs { λ r.
+        let ns = literals (now («node_table» .entry)) (now («node_bits» .entry)) in
+        let os = literals (now («output_table» .entry)) (now («output_bits» .entry)) in
+        let l = lent (now (scratch .entry)) (now (list .entry)) (now (bytes .entry)) in
+        ⌜ literals (now («output_table» .exit)) (now («output_bits» .exit)) ≡ replayCall (now (file .entry)) (now (calls .entry)) l ns os (now (locks .entry)) (length (now (answers .entry))) .graph .outputs ⌝ }
+    ensures locks { λ r.
+        let ns = literals (now («node_table» .entry)) (now («node_bits» .entry)) in
+        let os = literals (now («output_table» .entry)) (now («output_bits» .entry)) in
+        let l = lent (now (scratch .entry)) (now (list .entry)) (now (bytes .entry)) in
+        ⌜ now (locks .exit) ≡ replayCall (now (file .entry)) (now (calls .entry)) l ns os (now (locks .entry)) (length (now (answers .entry))) .locks ⌝ }
+    ensures numbers { λ r.
+        let ns = literals (now («node_table» .entry)) (now («node_bits» .entry)) in
+        let os = literals (now («output_table» .entry)) (now («output_bits» .entry)) in
+        let l = lent (now (scratch .entry)) (now (list .entry)) (now (bytes .entry)) in
+        ⌜ now (numbers .exit) ≡ told (replayCall (now (file .entry)) (now (calls .entry)) l ns os (now (locks .entry)) (length (now (answers .entry))) .answer) (now (numbers .entry)) ⌝ }
+    ensures answers { λ r.
+        let ns = literals (now («node_table» .entry)) (now («node_bits» .entry)) in
+        let os = literals (now («output_table» .entry)) (now («output_bits» .entry)) in
+        let l = lent (now (scratch .entry)) (now (list .entry)) (now (bytes .entry)) in
+        ⌜ now (answers .exit) ≡ answersAfter (now (file .entry)) (now (calls .entry)) l ns os (now (locks .entry)) (now (answers .entry)) ⌝ }
+    ensures scratch { λ r.
+        let ns = literals (now («node_table» .entry)) (now («node_bits» .entry)) in
+        let os = literals (now («output_table» .entry)) (now («output_bits» .entry)) in
+        let l = lent (now (scratch .entry)) (now (list .entry)) (now (bytes .entry)) in
+        ⌜ ScratchKept (replayCall (now (file .entry)) (now (calls .entry)) l ns os (now (locks .entry)) (length (now (answers .entry))) .answer) (now (scratch .entry)) (now (scratch .exit)) ⌝ }
+    ensures demand { λ r.
+        let ns = literals (now («node_table» .entry)) (now («node_bits» .entry)) in
+        let os = literals (now («output_table» .entry)) (now («output_bits» .entry)) in
+        let l = lent (now (scratch .entry)) (now (list .entry)) (now (bytes .entry)) in
+        let cs = decode l (now (calls .entry)) in
+        ⌜ (r ≡ 0 → DemandMet (left (loadCall (now (file .entry)) ns os (now (locks .entry)))) cs (withLocks (graphOf (getD (now (numbers .exit)) 0 0) (getD (now (numbers .exit)) 1 0) (getD (now (numbers .exit)) 2 0) (literals (now («node_table» .exit)) (now («node_bits» .exit))) (literals (now («output_table» .exit)) (now («output_bits» .exit)))) (now (locks .exit))) (now (answers .exit))) ⌝ }
 {
     let answer = replay::replay(
         file,
         calls,
         node_table,
+        node_bits,
         output_table,
+        output_bits,
         locks,
         list,
         bytes,

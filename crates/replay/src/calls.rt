@@ -3,7 +3,7 @@ ghost use mathlib.Core.Path.{_≡_};
 ghost use mathlib.Core.List.{_++_};
 ghost use Prim.Native.Nat.{_*_, _/_, _≤_};
 ghost use lib.ListN.{length, drop};
-ghost use Rattle.graph.specs.Graph.{graphOf};
+ghost use Rattle.graph.specs.Literals.{graphIn};
 ghost use Rattle.moves.specs.Call.{savingAnswer};
 ghost use Rattle.moves.specs.Trial.{gainAnswer};
 ghost use Rattle.settling.specs.Settle.{settledAnswer};
@@ -60,15 +60,20 @@ pub fn part_call(
     inputs: u32,
     nodes: u32,
     outputs: u32,
-    node_table: &mut [u32],
-    output_table: &mut [u32],
+    node_table: &[u32],
+    node_bits: &mut [u64],
+    output_table: &[u32],
+    output_bits: &mut [u64],
     locks: &[u8],
     list: &[u32],
     bytes: &[u8],
     start: u32,
     count: u32,
 ) -> CallAnswer
-    ensures { λ r. ⌜ Tells (withLocks (graphOf inputs nodes outputs (now («node_table» .entry)) (now («output_table» .entry))) (now (locks .entry))) (manyAt (part start count (now (list .entry))) (part start count (now (bytes .entry)))) (withLocks (graphOf inputs nodes outputs (now («node_table» .exit)) (now («output_table» .exit))) (now (locks .entry))) r ⌝ }
+    ensures { λ r.
+        let g = graphIn inputs nodes outputs (now («node_table» .entry)) (now («node_bits» .entry)) (now («output_table» .entry)) (now («output_bits» .entry)) in
+        let k = graphIn inputs nodes outputs (now («node_table» .entry)) (now («node_bits» .exit)) (now («output_table» .entry)) (now («output_bits» .exit)) in
+        ⌜ Tells (withLocks g (now (locks .entry))) (manyAt (part start count (now (list .entry))) (part start count (now (bytes .entry)))) (withLocks k (now (locks .entry))) r ⌝ }
 {
     let us = &list[lesser(start as usize, list.len())..];
     let ms = &bytes[lesser(start as usize, bytes.len())..];
@@ -77,7 +82,9 @@ pub fn part_call(
         nodes,
         outputs,
         node_table,
+        node_bits,
         output_table,
+        output_bits,
         locks,
         &us[..lesser(count as usize, us.len())],
         &ms[..lesser(count as usize, ms.len())],
@@ -89,8 +96,10 @@ pub fn one_call(
     inputs: u32,
     nodes: u32,
     outputs: u32,
-    node_table: &mut [u32],
-    output_table: &mut [u32],
+    node_table: &[u32],
+    node_bits: &mut [u64],
+    output_table: &[u32],
+    output_bits: &mut [u64],
     locks: &[u8],
     list: &[u32],
     bytes: &[u8],
@@ -99,7 +108,10 @@ pub fn one_call(
     word: u32,
     scratch: &mut [u32],
 ) -> CallAnswer
-    ensures { λ r. ⌜ Tells (withLocks (graphOf inputs nodes outputs (now («node_table» .entry)) (now («output_table» .entry))) (now (locks .entry))) (callOf (lent (now (scratch .entry)) (now (list .entry)) (now (bytes .entry))) kind node word) (withLocks (graphOf inputs nodes outputs (now («node_table» .exit)) (now («output_table» .exit))) (now (locks .entry))) r ⌝ }
+    ensures { λ r.
+        let g = graphIn inputs nodes outputs (now («node_table» .entry)) (now («node_bits» .entry)) (now («output_table» .entry)) (now («output_bits» .entry)) in
+        let k = graphIn inputs nodes outputs (now («node_table» .entry)) (now («node_bits» .exit)) (now («output_table» .entry)) (now («output_bits» .exit)) in
+        ⌜ Tells (withLocks g (now (locks .entry))) (callOf (lent (now (scratch .entry)) (now (list .entry)) (now (bytes .entry))) kind node word) (withLocks k (now (locks .entry))) r ⌝ }
 {
     if kind == 0 {
         return saving_answer(node_call::node_call(
@@ -107,7 +119,9 @@ pub fn one_call(
             nodes,
             outputs,
             node_table,
+            node_bits,
             output_table,
+            output_bits,
             locks,
             node,
         ));
@@ -118,7 +132,9 @@ pub fn one_call(
             nodes,
             outputs,
             node_table,
+            node_bits,
             output_table,
+            output_bits,
             locks,
             node,
             word,
@@ -130,7 +146,9 @@ pub fn one_call(
             nodes,
             outputs,
             node_table,
+            node_bits,
             output_table,
+            output_bits,
             locks,
             node,
             scratch,
@@ -142,7 +160,9 @@ pub fn one_call(
             nodes,
             outputs,
             node_table,
+            node_bits,
             output_table,
+            output_bits,
             locks,
             scratch,
         ));
@@ -152,7 +172,9 @@ pub fn one_call(
         nodes,
         outputs,
         node_table,
+        node_bits,
         output_table,
+        output_bits,
         locks,
         list,
         bytes,
@@ -166,8 +188,10 @@ pub fn make_calls(
     inputs: u32,
     nodes: u32,
     outputs: u32,
-    node_table: &mut [u32],
-    output_table: &mut [u32],
+    node_table: &[u32],
+    node_bits: &mut [u64],
+    output_table: &[u32],
+    output_bits: &mut [u64],
     locks: &[u8],
     list: &[u32],
     bytes: &[u8],
@@ -176,8 +200,13 @@ pub fn make_calls(
     answers: &mut [i64],
 )
     requires { ⌜ (3 * (length (now calls) / 3) ≤ length (now answers)) × (3 * (length (now calls) / 3) ≤ 1152921504606846976) ⌝ }
-    ensures graph { λ _. ⌜ withLocks (graphOf inputs nodes outputs (now («node_table» .exit)) (now («output_table» .exit))) (now (locks .entry)) ≡ run (withLocks (graphOf inputs nodes outputs (now («node_table» .entry)) (now («output_table» .entry))) (now (locks .entry))) (decode (lent (now (scratch .entry)) (now (list .entry)) (now (bytes .entry))) (now (calls .entry))) ⌝ }
-    ensures answers { λ _. ⌜ now (answers .exit) ≡ answersOf (withLocks (graphOf inputs nodes outputs (now («node_table» .entry)) (now («output_table» .entry))) (now (locks .entry))) (decode (lent (now (scratch .entry)) (now (list .entry)) (now (bytes .entry))) (now (calls .entry))) ++ drop (3 * (length (now (calls .entry)) / 3)) (now (answers .entry)) ⌝ }
+    ensures graph { λ _.
+        let g = graphIn inputs nodes outputs (now («node_table» .entry)) (now («node_bits» .entry)) (now («output_table» .entry)) (now («output_bits» .entry)) in
+        let k = graphIn inputs nodes outputs (now («node_table» .entry)) (now («node_bits» .exit)) (now («output_table» .entry)) (now («output_bits» .exit)) in
+        ⌜ withLocks k (now (locks .entry)) ≡ run (withLocks g (now (locks .entry))) (decode (lent (now (scratch .entry)) (now (list .entry)) (now (bytes .entry))) (now (calls .entry))) ⌝ }
+    ensures answers { λ _.
+        let g = graphIn inputs nodes outputs (now («node_table» .entry)) (now («node_bits» .entry)) (now («output_table» .entry)) (now («output_bits» .entry)) in
+        ⌜ now (answers .exit) ≡ answersOf (withLocks g (now (locks .entry))) (decode (lent (now (scratch .entry)) (now (list .entry)) (now (bytes .entry))) (now (calls .entry))) ++ drop (3 * (length (now (calls .entry)) / 3)) (now (answers .entry)) ⌝ }
 {
     let mut s = calls;
     let mut at = 0;
@@ -187,7 +216,9 @@ pub fn make_calls(
             nodes,
             outputs,
             node_table,
+            node_bits,
             output_table,
+            output_bits,
             locks,
             list,
             bytes,

@@ -2,6 +2,7 @@
 ghost use mathlib.Core.Path.{_≡_};
 ghost use lib.ListN.{length};
 ghost use Rattle.graph.specs.Answer.{lockedOutcome, ScratchKept};
+ghost use Rattle.graph.specs.Literals.{literals};
 ghost use Rattle.tagged_file.specs.Load.{loadCall};
 ghost use Rattle.promises.specs.Demand.{withLocks, left};
 ghost use Rattle.replay.specs.Replay.{lent, decode, replayCall, answersAfter, replayedAnswer, replayedGraph, DemandMet};
@@ -37,17 +38,32 @@ pub fn replay(
     file: &[u8],
     calls: &[u32],
     node_table: &mut [u32],
+    node_bits: &mut [u64],
     output_table: &mut [u32],
+    output_bits: &mut [u64],
     locks: &mut [u8],
     list: &[u32],
     bytes: &[u8],
     scratch: &mut [u32],
     answers: &mut [i64],
 ) -> Replayed
-    ensures call { λ r. ⌜ lockedOutcome (replayedAnswer r) (replayedGraph r (now («node_table» .exit)) (now («output_table» .exit))) (now (locks .exit)) ≡ replayCall (now (file .entry)) (now (calls .entry)) (lent (now (scratch .entry)) (now (list .entry)) (now (bytes .entry))) (now («node_table» .entry)) (now («output_table» .entry)) (now (locks .entry)) (length (now (answers .entry))) ⌝ }
-    ensures answers { λ r. ⌜ now (answers .exit) ≡ answersAfter (now (file .entry)) (now (calls .entry)) (lent (now (scratch .entry)) (now (list .entry)) (now (bytes .entry))) (now («node_table» .entry)) (now («output_table» .entry)) (now (locks .entry)) (now (answers .entry)) ⌝ }
+    ensures call { λ r.
+        let ns = literals (now («node_table» .entry)) (now («node_bits» .entry)) in
+        let os = literals (now («output_table» .entry)) (now («output_bits» .entry)) in
+        let l = lent (now (scratch .entry)) (now (list .entry)) (now (bytes .entry)) in
+        ⌜ lockedOutcome (replayedAnswer r) (replayedGraph r (literals (now («node_table» .exit)) (now («node_bits» .exit))) (literals (now («output_table» .exit)) (now («output_bits» .exit)))) (now (locks .exit)) ≡ replayCall (now (file .entry)) (now (calls .entry)) l ns os (now (locks .entry)) (length (now (answers .entry))) ⌝ }
+    ensures answers { λ r.
+        let ns = literals (now («node_table» .entry)) (now («node_bits» .entry)) in
+        let os = literals (now («output_table» .entry)) (now («output_bits» .entry)) in
+        let l = lent (now (scratch .entry)) (now (list .entry)) (now (bytes .entry)) in
+        ⌜ now (answers .exit) ≡ answersAfter (now (file .entry)) (now (calls .entry)) l ns os (now (locks .entry)) (now (answers .entry)) ⌝ }
     ensures scratch { λ r. ⌜ ScratchKept (replayedAnswer r) (now (scratch .entry)) (now (scratch .exit)) ⌝ }
-    ensures demand { λ r. ⌜ (replayedAnswer r .number ≡ 0 → DemandMet (left (loadCall (now (file .entry)) (now («node_table» .entry)) (now («output_table» .entry)) (now (locks .entry)))) (decode (lent (now (scratch .entry)) (now (list .entry)) (now (bytes .entry))) (now (calls .entry))) (withLocks (replayedGraph r (now («node_table» .exit)) (now («output_table» .exit))) (now (locks .exit))) (now (answers .exit))) ⌝ }
+    ensures demand { λ r.
+        let ns = literals (now («node_table» .entry)) (now («node_bits» .entry)) in
+        let os = literals (now («output_table» .entry)) (now («output_bits» .entry)) in
+        let l = lent (now (scratch .entry)) (now (list .entry)) (now (bytes .entry)) in
+        let cs = decode l (now (calls .entry)) in
+        ⌜ (replayedAnswer r .number ≡ 0 → DemandMet (left (loadCall (now (file .entry)) ns os (now (locks .entry)))) cs (withLocks (replayedGraph r (literals (now («node_table» .exit)) (now («node_bits» .exit))) (literals (now («output_table» .exit)) (now («output_bits» .exit)))) (now (locks .exit))) (now (answers .exit))) ⌝ }
 {
     if calls.len() % 3 != 0 {
         return Replayed::NotCalls(CallsFault::LeftOver);
@@ -63,7 +79,14 @@ pub fn replay(
     if room / 3 < calls.len() / 3 {
         return Replayed::Refused(graph::Refusal::ShortSlice);
     }
-    let answer = tagged_file::load(file, node_table, output_table, locks);
+    let answer = tagged_file::load(
+        file,
+        node_table,
+        node_bits,
+        output_table,
+        output_bits,
+        locks,
+    );
     match answer {
         Loaded::Refused(refusal) => Replayed::Refused(refusal),
         Loaded::Graph {
@@ -76,7 +99,9 @@ pub fn replay(
                 nodes,
                 outputs,
                 node_table,
+                node_bits,
                 output_table,
+                output_bits,
                 locks,
                 list,
                 bytes,

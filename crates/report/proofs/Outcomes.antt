@@ -10,18 +10,20 @@ use lib.Seq.{sets}
 use Rattle.graph.specs.Graph.{Graph, graphOf}
 use Rattle.graph.specs.Admission.{Admitted}
 use Rattle.graph.specs.declared.Refusal.{Refusal}
+use Rattle.graph.specs.Literals.{held}
 use Rattle.graph.specs.Answer.{accepted, refused, gained, numberOf, Outcome, outcome, guarded, LockedOutcome, lockedOutcome}
-use Rattle.graph.proofs.Tests.{equal, unequal, both}
-use Rattle.graph.proofs.Admit.{admitted}
-use Rattle.graph.proofs.Answers.{number-some}
+use Rattle.graph.proofs.Tests.{equal, unequal}
+use Rattle.graph.proofs.Answers.{number-some, accepted-outcome}
 use Rattle.tagged_file.proofs.Stores.{front}
 use Rattle.tagged_file.specs.Load.{loadedAnswer, loadedGraph, blank}
 use Rattle.tagged_file.specs.declared.Loaded.{Loaded}
 use Rattle.tagged_file.specs.declared.Loaded.the-variants as loaded
-use Rattle.rounds.specs.Settle.{settleNumber, settleCall}
+use Rattle.rounds.specs.Settle.{settle, settleNumber, settleCall}
+use Rattle.rounds.proofs.Rounds.{settle-ended}
+use Rattle.settling.proofs.Answering.{passed}
 use Rattle.settling.specs.Settle.{settledAnswer}
 use Rattle.settling.specs.declared.Settled.{Settled}
-use Rattle.settling.specs.declared.Settled.the-variants as settled
+use Rattle.settling.specs.declared.Settled.the-variants as answer
 use Rattle.report.specs.Text.{refusedText, line1}
 use Rattle.report.specs.Report.{settledText, textOf, settledWith, thenSettle, settledFile, reportNumber, ReportOutcome, reportOutcome, printed, reportCall}
 
@@ -63,24 +65,28 @@ pub refused-then : (l : LockedOutcome) (q : Refusal) (g : Graph) (ls : List ℕ)
 unfolding thenSettle
 refused-then l q g ls s e = unequal (numberOf q) 0 _ _ (number-some q) refl ∙ ap (λ (x : LockedOutcome). thenSettle x s) e
 
--- a call that is accepted met no fault, and a graph that is settled was admitted
+-- a call that is accepted met no fault, and a graph that is settled is admitted
 guarded-zero : (k : ℕ) (g : Graph) (o : Outcome) → guarded k g o .answer .number ≡ 0 → k ≡ 0
 unfolding guarded
 guarded-zero zero g o e = refl
 guarded-zero (suc k) g o e = absurd (omega arith)
 
 pub settled-admitted : (g h : Graph) (ls : List ℕ) (s : ℕ) (vs : List ℕ) (x y : ℤ) → lockedOutcome (gained vs x y) h ls ≡ settledWith g ls s
-    → Admitted g
-unfolding settleCall settleNumber
-settled-admitted g h ls s vs x y e = admitted g ls (both _ _ (guarded-zero (settleNumber g ls s) g _ (sym (ap (λ (o : LockedOutcome). o .answer .number) e))) .0)
+    → Admitted h
+unfolding settleCall
+settled-admitted g h ls s vs x y e =
+    let z = guarded-zero (settleNumber g ls s) g _ (sym (ap (λ (o : LockedOutcome). o .answer .number) e)) in
+    let p = passed g ls s z in
+    let q : settle ls s g .made .graph ≡ h = ap (λ (o : Outcome). o .graph) (accepted-outcome (settleNumber g ls s) g _ z) ∙ sym (ap (λ (o : LockedOutcome). o .graph) e) in
+    rw q at (settle-ended ls s g (p .0) (p .2) (p .1) .keeps .stays .admitted)
 
 -- the answers of both calls, by their cases
-pub settled-rounds : (q : Settled) (n before after : ℕ) (x y : ℤ) (g : Graph) (ls : List ℕ) (o : Outcome) → q ≡ settled.Rounds n before after x y
+pub settled-rounds : (q : Settled) (n before after : ℕ) (x y : ℤ) (g : Graph) (ls : List ℕ) (o : Outcome) → q ≡ answer.Rounds n before after x y
     → outcome (settledAnswer q) g ≡ o → lockedOutcome (gained (n ∷ before ∷ after ∷ []) x y) g ls ≡ lockedOutcome (o .answer) (o .graph) ls
 settled-rounds q n before after x y g ls o e h =
     ap (λ (z : Settled). lockedOutcome (settledAnswer z) g ls) (sym e) ∙ ap (λ (z : Outcome). lockedOutcome (z .answer) (z .graph) ls) h
 
-pub settled-refused : (q : Settled) (r : Refusal) (g : Graph) (ls : List ℕ) (o : Outcome) → q ≡ settled.Refused r → outcome (settledAnswer q) g ≡ o
+pub settled-refused : (q : Settled) (r : Refusal) (g : Graph) (ls : List ℕ) (o : Outcome) → q ≡ answer.Refused r → outcome (settledAnswer q) g ≡ o
     → lockedOutcome (refused (numberOf r)) g ls ≡ lockedOutcome (o .answer) (o .graph) ls
 settled-refused q r g ls o e h =
     ap (λ (z : Settled). lockedOutcome (settledAnswer z) g ls) (sym e) ∙ ap (λ (z : Outcome). lockedOutcome (z .answer) (z .graph) ls) h
@@ -94,12 +100,12 @@ pub loaded-refused : (q : Loaded) (r : Refusal) (ns os ls : List ℕ) (o : Locke
 loaded-refused q r ns os ls o e h = ap (λ (x : Loaded). lockedOutcome (loadedAnswer x) (loadedGraph x ns os) ls) (sym e) ∙ h
 
 -- what the report call answers, by its number
-pub report-refused : (k : ℕ) (file ns os ls : List ℕ) (s : ℕ) (b : List ℕ) → k ≡ reportNumber (length ns) (length os) s (length b) → (k ≡ 0 → ⊥)
+pub report-refused : (k : ℕ) (file ns os ls : List ℕ) (s : ℕ) (b : List ℕ) → k ≡ reportNumber (held ns) (held os) s (length b) → (k ≡ 0 → ⊥)
     → reportOutcome (refused k) ns os ls b ≡ reportCall file ns os ls s b
 unfolding reportCall
 report-refused k file ns os ls s b e n = unequal _ 0 _ _ (λ z. n (e ∙ z)) (ap (λ (i : ℕ). reportOutcome (refused i) ns os ls b) e)
 
-pub report-made : (r : ReportOutcome) (file ns os ls : List ℕ) (s : ℕ) (b : List ℕ) → reportNumber (length ns) (length os) s (length b) ≡ 0
+pub report-made : (r : ReportOutcome) (file ns os ls : List ℕ) (s : ℕ) (b : List ℕ) → reportNumber (held ns) (held os) s (length b) ≡ 0
     → r ≡ printed (settledFile file ns os ls s) b → r ≡ reportCall file ns os ls s b
 unfolding reportCall
 report-made r file ns os ls s b z e = equal _ 0 _ _ z e

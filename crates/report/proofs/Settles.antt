@@ -7,6 +7,7 @@ use native.Mathlib.Omega.{arith}
 use lib.ListN.{length}
 use Rattle.graph.specs.Graph.{Graph}
 use Rattle.graph.specs.Admission.{Admitted, LockBytes}
+use Rattle.graph.specs.Literals.{held}
 use Rattle.graph.specs.Answer.{Outcome, LockedOutcome}
 use Rattle.graph.proofs.Admit.{admission-none}
 use Rattle.graph.proofs.Answers.{accepted-outcome}
@@ -26,17 +27,17 @@ settle-accepted g ls s a ok h =
     sym (ap (λ (o : Outcome). o .answer .number) (accepted-outcome (settleNumber g ls s) g _ (sym z)))
 
 -- the node table has room for the loaded nodes
-nodes-within : (file ns os ls : List ℕ) → loadCall file ns os ls .answer .number ≡ 0 → 3 * loadCall file ns os ls .graph .N ≤ length ns
+nodes-within : (file ns os ls : List ℕ) → loadCall file ns os ls .answer .number ≡ 0 → 3 * loadCall file ns os ls .graph .N ≤ held ns
 unfolding graphRead
 nodes-within file ns os ls e =
-    rw (read-is file ns os ls e) (passed file (length ns) (length os) (length ls) (no-fault file ns os ls e) .head .rooms .long-nodes)
+    rw (read-is file ns os ls e) (passed file (held ns) (held os) (length ls) (no-fault file ns os ls e) .head .rooms .long-nodes)
 
-pub always-settles : (file ns os ls : List ℕ) (s room : ℕ) → reportNumber (length ns) (length os) s room ≡ 0
+pub always-settles : (file ns os ls : List ℕ) (s room : ℕ) → reportNumber (held ns) (held os) s room ≡ 0
     → loadCall file ns os ls .answer .number ≡ 0 → settledFile file ns os ls s .answer .number ≡ 0
 unfolding settledFile thenSettle
 always-settles file ns os ls s room k e =
     let l : LockedOutcome = loadCall file ns os ls in
-    let h = enough-is (length ns) (length os) s room k in
+    let h = enough-is (held ns) (held os) s room k in
     let n = nodes-within file ns os ls e in
     let a = settle-accepted (l .graph) (l .locks) s (load-admitted file ns os ls e) (load-locks file ns os ls e) (omega arith) in
     ap (λ (o : LockedOutcome). o .answer .number) (sym (equal (l .answer .number) 0 _ _ e refl)) ∙ a

@@ -5,6 +5,7 @@ use mathlib.Core.List.{List, [], _∷_, _++_}
 use Prim.Native.Nat.{ℕ, _≤_}
 use native.Mathlib.Omega.{arith}
 use lib.ListN.{length, getD, drop, length-append}
+use Rattle.graph.specs.Literals.{held}
 use Rattle.graph.specs.Answer.{accepted, LockedOutcome}
 use Rattle.graph.proofs.Cases.{eq-or-ne}
 use Rattle.graph.proofs.Tests.{equal, unequal}
@@ -23,7 +24,7 @@ pub within : (q : Reported) (n : ℕ) (file ns os ls b ns′ os′ ls′ b′ : 
     → reportOutcome (reportedAnswer q) ns′ os′ ls′ b′ ≡ reportCall file ns os ls s b → n ≤ length b′
 unfolding reportCall
 within q n file ns os ls b ns′ os′ ls′ b′ s e h =
-    let k : ℕ = reportNumber (length ns) (length os) s (length b) in
+    let k : ℕ = reportNumber (held ns) (held os) s (length b) in
     let t : reportOutcome (accepted (n ∷ [])) ns′ os′ ls′ b′ ≡ reportCall file ns os ls s b = ap (λ (x : Reported). reportOutcome (reportedAnswer x) ns′ os′ ls′ b′) (sym e) ∙ h in
     ⊎-elim
     (λ (z : k ≡ 0). text-within n ns′ os′ ls′ b b′ (settledFile file ns os ls s) (t ∙ sym (equal k 0 _ _ z refl)))

@@ -7,7 +7,7 @@ use Rattle.graph.specs.Finite.{tab, sum, count, ifLess, ifEqual, first, firstOf
 use Rattle.graph.specs.Graph.{turn, isXor, isEdge}
 use Rattle.graph.specs.Turned.{turnedTable, turnedBy}
 use Rattle.graph.specs.Count.{adds, wordAdds, nodeAdds, outputAdds, C, named, outputNamed, nodeReaders, readers}
-use Rattle.graph.specs.Admission.{roomNumber, tablesNumber, wordNumber, outputNumber, literalNumber, lockNumber, locksNumber, contentNumber, admissionNumber}
+use Rattle.graph.specs.Admission.{roomNumber, tablesNumber, wordNumber, outputNumber, literalNumber, lockNumber, locksNumber, contentNumber, admissionNumber, strayNumber, straysNumber}
 use Rattle.graph.specs.Answer.{guarded, guardedLocks}
 use Rattle.graph.specs.Decimal.{decimalIn, decimal}
 use Rattle.choice.specs.Choice.{from, choices, unlessLess, least, best}
@@ -24,6 +24,7 @@ use Rattle.file_checks.specs.File as file
 use Rattle.tagged_file.specs.Load.{graphRead, locksRead, loadCall}
 use Rattle.report.specs.Text.{inputsText, nodesText, outputsText, beforeText, afterText, roundsText, nodeText, majText, xorText, spaceText, outText, refusedText, numbered, line1, line2, line3, line4}
 use Rattle.report.specs.Report.{sizesLine, countsLine, nodeLine, outputLine, nodeLineAt, outputLineAt, settledText, textOf, thenSettle, settledFile}
+use Rattle.graph.specs.Literals.{bitOf, held, strays, evened, cleared, filled}
 
 -- P1's file: I = 3, one node 3 5 7, one output 9
 abbrev p1 : List ℕ
@@ -73,13 +74,13 @@ abbrev refused6 : List ℕ
 refused6 = 114 ∷ 101 ∷ 102 ∷ 117 ∷ 115 ∷ 101 ∷ 100 ∷ 32 ∷ 54 ∷ 10 ∷ []
 
 pub p1-report : textOf (settledFile p1 (0 ∷ 0 ∷ 0 ∷ []) (0 ∷ []) (1 ∷ []) 8) ≡ text1 ++ (text2 ++ (text3 ++ text4))
-unfolding flatMap tab sum count ifLess ifEqual first firstOf turn isXor isEdge adds wordAdds nodeAdds outputAdds C named outputNamed nodeReaders readers tablesNumber roomNumber wordNumber outputNumber literalNumber lockNumber locksNumber contentNumber admissionNumber guarded guardedLocks decimalIn decimal from choices unlessLess least best rows firstRow arity flag kindMoves lockAt movesAt at put seen own turns outputTurns turnedTable turnedBy apply isRoot last place reader rootIn rootOf members tree moved movedC bestAt rewrite isNode nodeFault wordFault rootFault scratchFault nodeNumber nodeCall namedBy pairNumber pairRewrite pairCall treeNumber treeCall difference among ownAdds otherAdds split start after each treeAt nodeAt pairAt pairsAt round settleIn settle settleNumber settleCall be2 be4 payloadOf dueNumber nodeSize third headNumber lockFieldNumber endNumber lockCount fileNumber locksFrom lockIndices file.nodeFieldNumber file.outputFieldNumber graphRead locksRead loadCall inputsText nodesText outputsText beforeText afterText roundsText nodeText majText xorText spaceText outText refusedText numbered line1 line2 line3 line4 sizesLine countsLine nodeLine outputLine nodeLineAt outputLineAt settledText textOf thenSettle settledFile
+unfolding flatMap tab sum count ifLess ifEqual first firstOf turn isXor isEdge adds wordAdds nodeAdds outputAdds C named outputNamed nodeReaders readers tablesNumber roomNumber wordNumber outputNumber literalNumber lockNumber locksNumber contentNumber admissionNumber guarded guardedLocks decimalIn decimal from choices unlessLess least best rows firstRow arity flag kindMoves lockAt movesAt at put seen own turns outputTurns turnedTable turnedBy apply isRoot last place reader rootIn rootOf members tree moved movedC bestAt rewrite isNode nodeFault wordFault rootFault scratchFault nodeNumber nodeCall namedBy pairNumber pairRewrite pairCall treeNumber treeCall difference among ownAdds otherAdds split start after each treeAt nodeAt pairAt pairsAt round settleIn settle settleNumber settleCall be2 be4 payloadOf dueNumber nodeSize third headNumber lockFieldNumber endNumber lockCount fileNumber locksFrom lockIndices file.nodeFieldNumber file.outputFieldNumber graphRead locksRead loadCall inputsText nodesText outputsText beforeText afterText roundsText nodeText majText xorText spaceText outText refusedText numbered line1 line2 line3 line4 sizesLine countsLine nodeLine outputLine nodeLineAt outputLineAt settledText textOf thenSettle settledFile held strays bitOf straysNumber strayNumber cleared evened filled
 p1-report = refl
 
 pub p1-longer : textOf (settledFile (p1 ++ (0 ∷ [])) (0 ∷ 0 ∷ 0 ∷ []) (0 ∷ []) (1 ∷ []) 8) ≡ refused6
-unfolding flatMap tab sum count ifLess ifEqual first firstOf turn isXor isEdge adds wordAdds nodeAdds outputAdds C named outputNamed nodeReaders readers tablesNumber roomNumber wordNumber outputNumber literalNumber lockNumber locksNumber contentNumber admissionNumber guarded guardedLocks decimalIn decimal from choices unlessLess least best rows firstRow arity flag kindMoves lockAt movesAt at put seen own turns outputTurns turnedTable turnedBy apply isRoot last place reader rootIn rootOf members tree moved movedC bestAt rewrite isNode nodeFault wordFault rootFault scratchFault nodeNumber nodeCall namedBy pairNumber pairRewrite pairCall treeNumber treeCall difference among ownAdds otherAdds split start after each treeAt nodeAt pairAt pairsAt round settleIn settle settleNumber settleCall be2 be4 payloadOf dueNumber nodeSize third headNumber lockFieldNumber endNumber lockCount fileNumber locksFrom lockIndices file.nodeFieldNumber file.outputFieldNumber graphRead locksRead loadCall inputsText nodesText outputsText beforeText afterText roundsText nodeText majText xorText spaceText outText refusedText numbered line1 line2 line3 line4 sizesLine countsLine nodeLine outputLine nodeLineAt outputLineAt settledText textOf thenSettle settledFile
+unfolding flatMap tab sum count ifLess ifEqual first firstOf turn isXor isEdge adds wordAdds nodeAdds outputAdds C named outputNamed nodeReaders readers tablesNumber roomNumber wordNumber outputNumber literalNumber lockNumber locksNumber contentNumber admissionNumber guarded guardedLocks decimalIn decimal from choices unlessLess least best rows firstRow arity flag kindMoves lockAt movesAt at put seen own turns outputTurns turnedTable turnedBy apply isRoot last place reader rootIn rootOf members tree moved movedC bestAt rewrite isNode nodeFault wordFault rootFault scratchFault nodeNumber nodeCall namedBy pairNumber pairRewrite pairCall treeNumber treeCall difference among ownAdds otherAdds split start after each treeAt nodeAt pairAt pairsAt round settleIn settle settleNumber settleCall be2 be4 payloadOf dueNumber nodeSize third headNumber lockFieldNumber endNumber lockCount fileNumber locksFrom lockIndices file.nodeFieldNumber file.outputFieldNumber graphRead locksRead loadCall inputsText nodesText outputsText beforeText afterText roundsText nodeText majText xorText spaceText outText refusedText numbered line1 line2 line3 line4 sizesLine countsLine nodeLine outputLine nodeLineAt outputLineAt settledText textOf thenSettle settledFile held strays bitOf straysNumber strayNumber cleared evened filled
 p1-longer = refl
 
 pub p1-locked : textOf (settledFile p1Locked (0 ∷ 0 ∷ 0 ∷ []) (0 ∷ []) (0 ∷ []) 8) ≡ text1 ++ (text5 ++ (text6 ++ text7))
-unfolding flatMap tab sum count ifLess ifEqual first firstOf turn isXor isEdge adds wordAdds nodeAdds outputAdds C named outputNamed nodeReaders readers tablesNumber roomNumber wordNumber outputNumber literalNumber lockNumber locksNumber contentNumber admissionNumber guarded guardedLocks decimalIn decimal from choices unlessLess least best rows firstRow arity flag kindMoves lockAt movesAt at put seen own turns outputTurns turnedTable turnedBy apply isRoot last place reader rootIn rootOf members tree moved movedC bestAt rewrite isNode nodeFault wordFault rootFault scratchFault nodeNumber nodeCall namedBy pairNumber pairRewrite pairCall treeNumber treeCall difference among ownAdds otherAdds split start after each treeAt nodeAt pairAt pairsAt round settleIn settle settleNumber settleCall be2 be4 payloadOf dueNumber nodeSize third headNumber lockFieldNumber endNumber lockCount fileNumber locksFrom lockIndices file.nodeFieldNumber file.outputFieldNumber graphRead locksRead loadCall inputsText nodesText outputsText beforeText afterText roundsText nodeText majText xorText spaceText outText refusedText numbered line1 line2 line3 line4 sizesLine countsLine nodeLine outputLine nodeLineAt outputLineAt settledText textOf thenSettle settledFile
+unfolding flatMap tab sum count ifLess ifEqual first firstOf turn isXor isEdge adds wordAdds nodeAdds outputAdds C named outputNamed nodeReaders readers tablesNumber roomNumber wordNumber outputNumber literalNumber lockNumber locksNumber contentNumber admissionNumber guarded guardedLocks decimalIn decimal from choices unlessLess least best rows firstRow arity flag kindMoves lockAt movesAt at put seen own turns outputTurns turnedTable turnedBy apply isRoot last place reader rootIn rootOf members tree moved movedC bestAt rewrite isNode nodeFault wordFault rootFault scratchFault nodeNumber nodeCall namedBy pairNumber pairRewrite pairCall treeNumber treeCall difference among ownAdds otherAdds split start after each treeAt nodeAt pairAt pairsAt round settleIn settle settleNumber settleCall be2 be4 payloadOf dueNumber nodeSize third headNumber lockFieldNumber endNumber lockCount fileNumber locksFrom lockIndices file.nodeFieldNumber file.outputFieldNumber graphRead locksRead loadCall inputsText nodesText outputsText beforeText afterText roundsText nodeText majText xorText spaceText outText refusedText numbered line1 line2 line3 line4 sizesLine countsLine nodeLine outputLine nodeLineAt outputLineAt settledText textOf thenSettle settledFile held strays bitOf straysNumber strayNumber cleared evened filled
 p1-locked = refl

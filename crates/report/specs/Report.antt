@@ -4,6 +4,7 @@ use Prim.Native.Nat.{ℕ, _+_, _*_, _/_}
 use lib.ListN.{length, getD, drop}
 use Rattle.graph.specs.Finite.{ifLess, ifEqual}
 use Rattle.graph.specs.Graph.{Graph, mark}
+use Rattle.graph.specs.Literals.{held}
 use Rattle.graph.specs.Answer.{Answer, accepted, refused, LockedOutcome, lockedOutcome}
 use Rattle.tagged_file.specs.Write.{inOrder}
 use Rattle.tagged_file.specs.Load.{loadCall}
@@ -63,7 +64,7 @@ settledFile file ns os ls s = thenSettle (loadCall file ns os ls) s
 
 -- The lengths alone decide whether there is a report, and what they refuse has numbers that are none of document 01's. 103:
 -- scratch does not do for as many nodes as the node table has room for; 104: the buffer has fewer than 128 bytes for the
--- first two lines and 18 for each word of the tables, which is enough for numbers of ten digits.
+-- first two lines and 18 for each literal that the tables hold, which is enough for numbers of ten digits.
 abbrev pub roomNumber : RoomFault → ℕ
 roomNumber Scratch = 103
 roomNumber Buffer = 104
@@ -97,6 +98,6 @@ printed o b =
 -- reporting the file into the tables, the locks and the buffer, with s words of scratch
 unfoldable pub reportCall : List ℕ → List ℕ → List ℕ → List ℕ → ℕ → List ℕ → ReportOutcome
 reportCall file ns os ls s b =
-    ifEqual (reportNumber (length ns) (length os) s (length b)) 0
+    ifEqual (reportNumber (held ns) (held os) s (length b)) 0
     (printed (settledFile file ns os ls s) b)
-    (reportOutcome (refused (reportNumber (length ns) (length os) s (length b))) ns os ls b)
+    (reportOutcome (refused (reportNumber (held ns) (held os) s (length b))) ns os ls b)

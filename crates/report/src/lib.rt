@@ -2,6 +2,7 @@
 ghost use mathlib.Core.Path.{_≡_};
 ghost use lib.ListN.{length};
 ghost use Rattle.graph.specs.Answer.{ScratchKept};
+ghost use Rattle.graph.specs.Literals.{literals};
 ghost use Rattle.tagged_file.specs.Load.{loadCall};
 ghost use Rattle.report.specs.Report.{reportedAnswer, reportOutcome, reportCall};
 
@@ -9,6 +10,8 @@ mod faults;
 mod lines;
 mod text;
 mod whole;
+
+use graph::table::room_of;
 
 // Which lent slice has no room for every report that the tables could hold.
 pub enum RoomFault {
@@ -27,20 +30,39 @@ pub enum Reported {
 pub fn report(
     file: &[u8],
     node_table: &mut [u32],
+    node_bits: &mut [u64],
     output_table: &mut [u32],
+    output_bits: &mut [u64],
     locks: &mut [u8],
     scratch: &mut [u32],
     buffer: &mut [u8],
 ) -> Reported
-    ensures { λ r. ⌜ reportOutcome (reportedAnswer r) (now («node_table» .exit)) (now («output_table» .exit)) (now (locks .exit)) (now (buffer .exit)) ≡ reportCall (now (file .entry)) (now («node_table» .entry)) (now («output_table» .entry)) (now (locks .entry)) (length (now (scratch .entry))) (now (buffer .entry)) ⌝ }
+    ensures { λ r.
+        let ns = literals (now («node_table» .entry)) (now («node_bits» .entry)) in
+        let os = literals (now («output_table» .entry)) (now («output_bits» .entry)) in
+        ⌜ reportOutcome (reportedAnswer r) (literals (now («node_table» .exit)) (now («node_bits» .exit))) (literals (now («output_table» .exit)) (now («output_bits» .exit))) (now (locks .exit)) (now (buffer .exit)) ≡ reportCall (now (file .entry)) ns os (now (locks .entry)) (length (now (scratch .entry))) (now (buffer .entry)) ⌝ }
     ensures { λ r. ⌜ ScratchKept (reportedAnswer r) (now (scratch .entry)) (now (scratch .exit)) ⌝ }
-    ensures { λ r. ⌜ ScratchKept (loadCall (now (file .entry)) (now («node_table» .entry)) (now («output_table» .entry)) (now (locks .entry)) .answer) (now (scratch .entry)) (now (scratch .exit)) ⌝ }
+    ensures { λ r.
+        let ns = literals (now («node_table» .entry)) (now («node_bits» .entry)) in
+        let os = literals (now («output_table» .entry)) (now («output_bits» .entry)) in
+        ⌜ ScratchKept (loadCall (now (file .entry)) ns os (now (locks .entry)) .answer) (now (scratch .entry)) (now (scratch .exit)) ⌝ }
 {
-    if scratch.len() / 8 < node_table.len() / 3 {
+    let nodes = room_of(node_table, node_bits);
+    let outputs = room_of(output_table, output_bits);
+    if scratch.len() / 8 < nodes / 3 {
         return Reported::NoRoom(RoomFault::Scratch);
     }
-    if faults::buffer_number(node_table.len(), output_table.len(), buffer.len()) != 0 {
+    if faults::buffer_number(nodes, outputs, buffer.len()) != 0 {
         return Reported::NoRoom(RoomFault::Buffer);
     }
-    Reported::Text(whole::put_report(file, node_table, output_table, locks, scratch, buffer))
+    Reported::Text(whole::put_report(
+        file,
+        node_table,
+        node_bits,
+        output_table,
+        output_bits,
+        locks,
+        scratch,
+        buffer,
+    ))
 }

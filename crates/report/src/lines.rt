@@ -2,11 +2,12 @@
 // most 54 bytes, an output's 15, and the first two lines 107.
 ghost use mathlib.Core.Path.{_≡_};
 ghost use mathlib.Core.List.{_++_};
-ghost use Prim.Native.Nat.{_+_, _*_, _≤_};
-ghost use lib.ListN.{length};
+ghost use Prim.Native.Nat.{ℕ, _+_, _*_, _≤_, _<_};
+ghost use lib.ListN.{length, getD};
 ghost use lib.Seq.{sets};
-ghost use Rattle.graph.specs.Graph.{graphOf};
+ghost use Rattle.graph.specs.Admission.{Admitted};
 ghost use Rattle.graph.specs.Answer.{numberOf};
+ghost use Rattle.graph.specs.Literals.{graphIn, held, literals};
 ghost use Rattle.tagged_file.specs.Write.{inOrder};
 ghost use Rattle.report.specs.Text.{refusedText, line1};
 ghost use Rattle.report.specs.Report.{sizesLine, countsLine, nodeLine, outputLine, nodeLineAt, outputLineAt, settledText};
@@ -38,10 +39,14 @@ pub fn put_nodes(
     inputs: u32,
     nodes: u32,
     node_table: &[u32],
+    node_bits: &[u64],
 ) -> usize
-    requires { ⌜ (inputs ≤ 4096) × (nodes ≤ 100000) × (3 * nodes ≤ length (now «node_table»)) ⌝ }
+    requires { let ns = literals (now «node_table») (now «node_bits») in
+        ⌜ (inputs ≤ 4096) × (nodes ≤ 100000) × (3 * nodes ≤ held ns) × ((j : ℕ) → j < 3 * nodes → getD ns j 0 < 4294967296) ⌝ }
     requires { ⌜ start + 54 * nodes ≤ length (now buffer) ⌝ }
-    ensures { λ r. ⌜ (r ≡ start + length (inOrder (nodeLineAt inputs (now («node_table» .entry))) 0 nodes)) × (r ≤ start + 54 * nodes) × (now (buffer .exit) ≡ sets (now (buffer .entry)) start (inOrder (nodeLineAt inputs (now («node_table» .entry))) 0 nodes)) ⌝ }
+    ensures { λ r.
+        let ns = literals (now («node_table» .entry)) (now («node_bits» .entry)) in
+        ⌜ (r ≡ start + length (inOrder (nodeLineAt inputs ns) 0 nodes)) × (r ≤ start + 54 * nodes) × (now (buffer .exit) ≡ sets (now (buffer .entry)) start (inOrder (nodeLineAt inputs ns) 0 nodes)) ⌝ }
 {
     let mut at = start;
     let mut index = inputs + 1;
@@ -53,9 +58,9 @@ pub fn put_nodes(
             buffer,
             at,
             index,
-            word_at(node_table, word),
-            word_at(node_table, word + 1),
-            word_at(node_table, word + 2),
+            word_at(node_table, node_bits, word),
+            word_at(node_table, node_bits, word + 1),
+            word_at(node_table, node_bits, word + 2),
         );
         index += 1;
         v += 1;
@@ -64,16 +69,25 @@ pub fn put_nodes(
     at
 }
 
-pub fn put_outputs(buffer: &mut [u8], start: usize, outputs: u32, output_table: &[u32]) -> usize
-    requires { ⌜ outputs ≤ length (now «output_table») ⌝ }
+pub fn put_outputs(
+    buffer: &mut [u8],
+    start: usize,
+    outputs: u32,
+    output_table: &[u32],
+    output_bits: &[u64],
+) -> usize
+    requires { let os = literals (now «output_table») (now «output_bits») in
+        ⌜ (outputs ≤ held os) × ((j : ℕ) → j < outputs → getD os j 0 < 4294967296) ⌝ }
     requires { ⌜ start + 15 * outputs ≤ length (now buffer) ⌝ }
-    ensures { λ r. ⌜ (r ≡ start + length (inOrder (outputLineAt (now («output_table» .entry))) 0 outputs)) × (r ≤ start + 15 * outputs) × (now (buffer .exit) ≡ sets (now (buffer .entry)) start (inOrder (outputLineAt (now («output_table» .entry))) 0 outputs)) ⌝ }
+    ensures { λ r.
+        let os = literals (now («output_table» .entry)) (now («output_bits» .entry)) in
+        ⌜ (r ≡ start + length (inOrder (outputLineAt os) 0 outputs)) × (r ≤ start + 15 * outputs) × (now (buffer .exit) ≡ sets (now (buffer .entry)) start (inOrder (outputLineAt os) 0 outputs)) ⌝ }
 {
     let mut at = start;
     let mut v = 0;
     let mut left = outputs;
     while 0 < left {
-        at = put_output(buffer, at, word_at(output_table, v));
+        at = put_output(buffer, at, word_at(output_table, output_bits, v));
         v += 1;
         left -= 1;
     }
@@ -121,19 +135,23 @@ pub fn put_settled(
     nodes: u32,
     outputs: u32,
     node_table: &[u32],
+    node_bits: &[u64],
     output_table: &[u32],
+    output_bits: &[u64],
     rounds: u32,
     before: u32,
     after: u32,
     buffer: &mut [u8],
 ) -> usize
-    requires { ⌜ (inputs ≤ 4096) × (nodes ≤ 100000) × (3 * nodes ≤ length (now «node_table»)) × (outputs ≤ length (now «output_table»)) ⌝ }
-    requires { ⌜ 128 + 18 * (length (now «node_table») + length (now «output_table»)) ≤ length (now buffer) ⌝ }
-    ensures { λ r. ⌜ (r ≡ length (settledText rounds before after (graphOf inputs nodes outputs (now («node_table» .entry)) (now («output_table» .entry))))) × (r ≤ length (now (buffer .entry))) × (now (buffer .exit) ≡ sets (now (buffer .entry)) 0 (settledText rounds before after (graphOf inputs nodes outputs (now («node_table» .entry)) (now («output_table» .entry))))) ⌝ }
+    requires { ⌜ Admitted (graphIn inputs nodes outputs (now «node_table») (now «node_bits») (now «output_table») (now «output_bits»)) ⌝ }
+    requires { ⌜ 128 + 18 * (held (literals (now «node_table») (now «node_bits»)) + held (literals (now «output_table») (now «output_bits»))) ≤ length (now buffer) ⌝ }
+    ensures { λ r.
+        let g = graphIn inputs nodes outputs (now («node_table» .entry)) (now («node_bits» .entry)) (now («output_table» .entry)) (now («output_bits» .entry)) in
+        ⌜ (r ≡ length (settledText rounds before after g)) × (r ≤ length (now (buffer .entry))) × (now (buffer .exit) ≡ sets (now (buffer .entry)) 0 (settledText rounds before after g)) ⌝ }
 {
     let first = put_head(buffer, inputs, nodes, outputs, rounds, before, after);
-    let middle = put_nodes(buffer, first, inputs, nodes, node_table);
-    put_outputs(buffer, middle, outputs, output_table)
+    let middle = put_nodes(buffer, first, inputs, nodes, node_table, node_bits);
+    put_outputs(buffer, middle, outputs, output_table, output_bits)
 }
 
 // The one line of a refusal.

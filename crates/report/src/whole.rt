@@ -3,8 +3,8 @@ ghost use mathlib.Core.Path.{_≡_};
 ghost use mathlib.Core.List.{[], _∷_};
 ghost use Prim.Native.Nat.{_+_, _*_, _≤_};
 ghost use lib.ListN.{length};
-ghost use Rattle.graph.specs.Graph.{graphOf};
 ghost use Rattle.graph.specs.Answer.{accepted, ScratchKept};
+ghost use Rattle.graph.specs.Literals.{graphIn, held, literals};
 ghost use Rattle.tagged_file.specs.Load.{loadCall};
 ghost use Rattle.report.specs.Report.{reportOutcome, printed, settledWith, settledFile};
 use crate::lines;
@@ -14,21 +14,27 @@ pub fn put_settling(
     inputs: u32,
     nodes: u32,
     outputs: u32,
-    node_table: &mut [u32],
-    output_table: &mut [u32],
+    node_table: &[u32],
+    node_bits: &mut [u64],
+    output_table: &[u32],
+    output_bits: &mut [u64],
     locks: &[u8],
     scratch: &mut [u32],
     buffer: &mut [u8],
 ) -> usize
-    requires { ⌜ 128 + 18 * (length (now «node_table») + length (now «output_table»)) ≤ length (now buffer) ⌝ }
-    ensures { λ r. ⌜ reportOutcome (accepted (r ∷ [])) (now («node_table» .exit)) (now («output_table» .exit)) (now (locks .entry)) (now (buffer .exit)) ≡ printed (settledWith (graphOf inputs nodes outputs (now («node_table» .entry)) (now («output_table» .entry))) (now (locks .entry)) (length (now (scratch .entry)))) (now (buffer .entry)) ⌝ }
+    requires { ⌜ 128 + 18 * (held (literals (now «node_table») (now «node_bits»)) + held (literals (now «output_table») (now «output_bits»))) ≤ length (now buffer) ⌝ }
+    ensures { λ r.
+        let g = graphIn inputs nodes outputs (now («node_table» .entry)) (now («node_bits» .entry)) (now («output_table» .entry)) (now («output_bits» .entry)) in
+        ⌜ reportOutcome (accepted (r ∷ [])) (literals (now («node_table» .entry)) (now («node_bits» .exit))) (literals (now («output_table» .entry)) (now («output_bits» .exit))) (now (locks .entry)) (now (buffer .exit)) ≡ printed (settledWith g (now (locks .entry)) (length (now (scratch .entry)))) (now (buffer .entry)) ⌝ }
 {
     match settling::settle(
         inputs,
         nodes,
         outputs,
         node_table,
+        node_bits,
         output_table,
+        output_bits,
         locks,
         scratch,
     ) {
@@ -42,7 +48,9 @@ pub fn put_settling(
             nodes,
             outputs,
             node_table,
+            node_bits,
             output_table,
+            output_bits,
             rounds,
             before,
             after,
@@ -56,16 +64,31 @@ pub fn put_settling(
 pub fn put_report(
     file: &[u8],
     node_table: &mut [u32],
+    node_bits: &mut [u64],
     output_table: &mut [u32],
+    output_bits: &mut [u64],
     locks: &mut [u8],
     scratch: &mut [u32],
     buffer: &mut [u8],
 ) -> usize
-    requires { ⌜ 128 + 18 * (length (now «node_table») + length (now «output_table»)) ≤ length (now buffer) ⌝ }
-    ensures { λ r. ⌜ reportOutcome (accepted (r ∷ [])) (now («node_table» .exit)) (now («output_table» .exit)) (now (locks .exit)) (now (buffer .exit)) ≡ printed (settledFile (now (file .entry)) (now («node_table» .entry)) (now («output_table» .entry)) (now (locks .entry)) (length (now (scratch .entry)))) (now (buffer .entry)) ⌝ }
-    ensures { λ r. ⌜ ScratchKept (loadCall (now (file .entry)) (now («node_table» .entry)) (now («output_table» .entry)) (now (locks .entry)) .answer) (now (scratch .entry)) (now (scratch .exit)) ⌝ }
+    requires { ⌜ 128 + 18 * (held (literals (now «node_table») (now «node_bits»)) + held (literals (now «output_table») (now «output_bits»))) ≤ length (now buffer) ⌝ }
+    ensures { λ r.
+        let ns = literals (now («node_table» .entry)) (now («node_bits» .entry)) in
+        let os = literals (now («output_table» .entry)) (now («output_bits» .entry)) in
+        ⌜ reportOutcome (accepted (r ∷ [])) (literals (now («node_table» .exit)) (now («node_bits» .exit))) (literals (now («output_table» .exit)) (now («output_bits» .exit))) (now (locks .exit)) (now (buffer .exit)) ≡ printed (settledFile (now (file .entry)) ns os (now (locks .entry)) (length (now (scratch .entry)))) (now (buffer .entry)) ⌝ }
+    ensures { λ r.
+        let ns = literals (now («node_table» .entry)) (now («node_bits» .entry)) in
+        let os = literals (now («output_table» .entry)) (now («output_bits» .entry)) in
+        ⌜ ScratchKept (loadCall (now (file .entry)) ns os (now (locks .entry)) .answer) (now (scratch .entry)) (now (scratch .exit)) ⌝ }
 {
-    match tagged_file::load(file, node_table, output_table, locks) {
+    match tagged_file::load(
+        file,
+        node_table,
+        node_bits,
+        output_table,
+        output_bits,
+        locks,
+    ) {
         tagged_file::Loaded::Graph {
             inputs,
             nodes,
@@ -75,7 +98,9 @@ pub fn put_report(
             nodes,
             outputs,
             node_table,
+            node_bits,
             output_table,
+            output_bits,
             locks,
             scratch,
             buffer,

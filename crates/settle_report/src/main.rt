@@ -10,14 +10,18 @@ fn main() {
 // graph needs, and the buffer has room for any report of it.
 fn print_report(file: &[u8]) {
     let mut node_table = [0u32; 6000];
+    let mut node_bits = [0u64; 94];
     let mut output_table = [0u32; 4096];
+    let mut output_bits = [0u64; 64];
     let mut locks = [0u8; 2000];
     let mut scratch = [0u32; 16000];
     let mut buffer = [0u8; 181856];
     let reported = report::report(
         file,
         &mut node_table,
+        &mut node_bits,
         &mut output_table,
+        &mut output_bits,
         &mut locks,
         &mut scratch,
         &mut buffer,

@@ -4,7 +4,14 @@ use crate::print;
 use crate::read;
 use replay::Replayed;
 
-pub fn list(file: &[u8], node_table: &mut [u32], output_table: &mut [u32], locks: &mut [u8]) {
+pub fn list(
+    file: &[u8],
+    node_table: &mut [u32],
+    node_bits: &mut [u64],
+    output_table: &mut [u32],
+    output_bits: &mut [u64],
+    locks: &mut [u8],
+) {
     let mut calls = [0u32; 128];
     let mut list = [0u32; 128];
     let mut moves = [0u8; 128];
@@ -14,7 +21,9 @@ pub fn list(file: &[u8], node_table: &mut [u32], output_table: &mut [u32], locks
     lend(
         file,
         node_table,
+        node_bits,
         output_table,
+        output_bits,
         locks,
         &calls,
         &list,
@@ -33,7 +42,9 @@ fn fill(calls: &mut [u32], list: &mut [u32], moves: &mut [u8]) {
 fn lend(
     file: &[u8],
     node_table: &mut [u32],
+    node_bits: &mut [u64],
     output_table: &mut [u32],
+    output_bits: &mut [u64],
     locks: &mut [u8],
     calls: &[u32],
     list: &[u32],
@@ -49,7 +60,9 @@ fn lend(
     run(
         file,
         node_table,
+        node_bits,
         output_table,
+        output_bits,
         locks,
         &calls[..calls_end],
         &list[..list_end],
@@ -62,7 +75,9 @@ fn lend(
 fn run(
     file: &[u8],
     node_table: &mut [u32],
+    node_bits: &mut [u64],
     output_table: &mut [u32],
+    output_bits: &mut [u64],
     locks: &mut [u8],
     calls: &[u32],
     list: &[u32],
@@ -74,7 +89,9 @@ fn run(
         file,
         calls,
         node_table,
+        node_bits,
         output_table,
+        output_bits,
         locks,
         list,
         moves,

@@ -29,6 +29,14 @@ fn mix_byte(sum: u64, byte: u8) -> u64 {
     mix(sum, byte as u32)
 }
 
+// The upper half first.
+fn mix_long(sum: u64, long: u64) -> u64 {
+    mix(
+        mix(sum, (long / 4294967296) as u32),
+        (long % 4294967296) as u32,
+    )
+}
+
 pub fn bytes(bytes: &[u8]) {
     put(bytes.len() as u64);
     let mut sum: u64 = 0;
@@ -46,6 +54,17 @@ pub fn words(words: &[u32]) {
     let mut i = 0;
     while i < words.len() {
         sum = mix(sum, words[i]);
+        i += 1;
+    }
+    put(sum);
+}
+
+pub fn longs(longs: &[u64]) {
+    put(longs.len() as u64);
+    let mut sum: u64 = 0;
+    let mut i = 0;
+    while i < longs.len() {
+        sum = mix_long(sum, longs[i]);
         i += 1;
     }
     put(sum);

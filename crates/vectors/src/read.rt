@@ -3,7 +3,6 @@ ghost use mathlib.Core.Path.{_≡_};
 ghost use Prim.Native.Nat.{_≤_, _<_};
 ghost use lib.ListN.{length, take};
 ghost use Rattle.io.specs.Counts.{Counts};
-use graph::table::set_word;
 
 fn wide(x: u8) -> u32
     ensures { λ r. ⌜ r < 256 ⌝ }
@@ -15,6 +14,12 @@ pub fn word() -> u32 {
     let mut four = [0u8; 4];
     io::read_full(0, &mut four);
     ((wide(four[0]) * 256 + wide(four[1])) * 256 + wide(four[2])) * 256 + wide(four[3])
+}
+
+// A word of 64 bits, from two numbers.
+fn long() -> u64 {
+    let high = word() as u64;
+    high * 4294967296 + word() as u64
 }
 
 pub fn size() -> usize {
@@ -41,6 +46,12 @@ pub fn room_words(wanted: usize, space: &[u32]) -> usize
     least(wanted, space.len())
 }
 
+pub fn room_longs(wanted: usize, space: &[u64]) -> usize
+    ensures { λ r. ⌜ Counts r (now (space .entry)) ⌝ }
+{
+    least(wanted, space.len())
+}
+
 pub fn room_signed(wanted: usize, space: &[i64]) -> usize
     ensures { λ r. ⌜ (r ≤ length (now (space .entry))) × (r ≡ length (take r (now (space .entry)))) ⌝ }
 {
@@ -53,11 +64,20 @@ pub fn fill_bytes(space: &mut [u8]) {
     io::read_full(0, &mut space[..end]);
 }
 
-pub fn fill_words(table: &mut [u32]) {
-    let end = least(size(), table.len());
+pub fn fill_words(space: &mut [u32]) {
+    let end = least(size(), space.len());
     let mut i = 0;
     while i < end {
-        set_word(table, i, word());
+        space[i] = word();
+        i += 1;
+    }
+}
+
+pub fn fill_longs(space: &mut [u64]) {
+    let end = least(size(), space.len());
+    let mut i = 0;
+    while i < end {
+        space[i] = long();
         i += 1;
     }
 }

@@ -9,7 +9,7 @@ use Rattle.reducer.proofs.reducer_load.Tie as tie
 
 returns : tie.Need-returns
 returns c =
-    let l = c .before .before .before .before .before .before .before .before .before .load in
+    let l = c .before .before .before .before .before .before .before .before .before .before .before .before .before .load in
     let e = l .ensures in (
       c .loaded-number .ensures ∙ ap (λ (o : LockedOutcome). o .answer .number) e,
       (
@@ -28,6 +28,8 @@ reducer-load-spec =
     (λ c κs. search needs)
     (λ c κs. search needs)
     (λ c κs. search needs)
+    (λ c. search needs)
+    (λ c. search needs)
     (λ c. search needs)
     (λ c. search needs)
     (λ c. search needs)

@@ -9,7 +9,7 @@ use Rattle.reducer.proofs.reducer_replay.Tie as tie
 
 returns : tie.Need-returns
 returns c =
-    let p = c .before .before .before .before .before .before .before .before .before .before .before .before .replay in
+    let p = c .before .before .before .before .before .before .before .before .before .before .before .before .before .before .before .before .replay in
     let e = p .ensures .0 in
     let s = ap (λ (o : LockedOutcome). o .answer) e in
     let t = c .before .replayed-told .ensures in (
@@ -42,6 +42,8 @@ reducer-replay-spec =
     (λ c κs. search needs)
     (λ c κs. search needs)
     (λ c κs. search needs)
+    (λ c. search needs)
+    (λ c. search needs)
     (λ c. search needs)
     (λ c. search needs)
     (λ c. search needs)

@@ -31,8 +31,8 @@ returns-4 c =
 
 returns-5 : tie.Need-returns-5
 returns-5 c =
-    let l = c .before .before .before .before .before .before .before .before .before in
-    let t = l .before .before .before .before in
+    let l = c .before .before .before .before .before .before .before .before .before .before .before .before .before in
+    let t = l .before .before .before .before .before .before in
     let u = t .before in
     let e = u .before in
     let n = e .before .before in
@@ -40,21 +40,21 @@ returns-5 c =
 
 make-calls-requires : tie.Need-make-calls-requires
 make-calls-requires c κs =
-    let l = c .before .before .before .before .before .before .before .before .before .before .before .before .before .before in
-    let t = l .before .before .before .before in
+    let l = c .before .before .before .before .before .before .before .before .before .before .before .before .before .before .before .before .before .before .before .before in
+    let t = l .before .before .before .before .before .before in
     let u = t .before in
-    let b = lesser-le (length (u .before .before .before .before .before .before .before .before .before .before .before .before .before .args .answers .now)) 1152921504606846976 in
+    let b = lesser-le (length (u .before .before .before .before .before .before .before .before .before .before .before .before .before .before .before .args .answers .now)) 1152921504606846976 in
     (omega (arith, t .if4 .left, u .lesser .ensures, b), omega (arith, t .if4 .left, u .lesser .ensures, b))
 
 returns-6 : tie.Need-returns-6
 returns-6 c =
     let m = c .before .before .before .before .before .before .before in
-    let l = m .before .before .before .before .before .before .before .before .before .before .before .before .before .before .before in
-    let t = l .before .before .before .before in
+    let l = m .before .before .before .before .before .before .before .before .before .before .before .before .before .before .before .before .before .before .before .before .before in
+    let t = l .before .before .before .before .before .before in
     let u = t .before in
     let e = u .before in
     let n = e .before .before in
-    replays _ _ _ _ _ _ _ _ _ _ _ _ _ _ _ _ (code-none _ _ _ (n .before .if1 .left) (sym (n .words-number .ensures) ∙ e .if3 .left) (omega (arith, t .if4 .left, u .lesser .ensures))) (at-case _ _ _ _ _ _ (m .before .before .before .before .before .before .before .answer2 .given .1) (l .load .ensures)) (m .make-calls .ensures .0) (m .make-calls .ensures .1)
+    replays _ _ _ _ _ _ _ _ _ _ _ _ _ _ _ _ (code-none _ _ _ (n .before .if1 .left) (sym (n .words-number .ensures) ∙ e .if3 .left) (omega (arith, t .if4 .left, u .lesser .ensures))) (at-case _ _ _ _ _ _ (m .before .before .before .before .before .before .before .before .before .answer2 .given .1) (l .load .ensures)) (m .make-calls .ensures .0) (m .make-calls .ensures .1)
 
 pub replay-spec : {M : Type 1} → statement M
 replay-spec =
@@ -73,7 +73,11 @@ replay-spec =
     (λ c. search needs)
     (λ c. search needs)
     (λ c. search needs)
+    (λ c. search needs)
+    (λ c. search needs)
     returns-5
+    (λ c. search needs)
+    (λ c. search needs)
     (λ c. search needs)
     (λ c. search needs)
     (λ c. search needs)

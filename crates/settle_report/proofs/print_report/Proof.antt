@@ -7,15 +7,17 @@ use Rattle.settle_report.proofs.print_report.Statement.{statement}
 use Rattle.settle_report.proofs.print_report.Tie as tie
 
 array-share-prefix-buffer : tie.Need-array-share-prefix-buffer
-array-share-prefix-buffer c = within _ _ _ _ _ _ _ _ _ _ _ _ (c .before .reported .given .1) (c .before .before .before .before .before .before .before .before .report .ensures .0)
+array-share-prefix-buffer c = within _ _ _ _ _ _ _ _ _ _ _ _ (c .before .reported .given .1) (c .before .before .before .before .before .before .before .before .before .before .report .ensures .0)
 
 slice-aggregate-write-all : tie.Need-slice-aggregate-write-all
-slice-aggregate-write-all c = sym (length-take-le _ _ (within _ _ _ _ _ _ _ _ _ _ _ _ (c .before .before .reported .given .1) (c .before .before .before .before .before .before .before .before .before .report .ensures .0)))
+slice-aggregate-write-all c = sym (length-take-le _ _ (within _ _ _ _ _ _ _ _ _ _ _ _ (c .before .before .reported .given .1) (c .before .before .before .before .before .before .before .before .before .before .before .report .ensures .0)))
 
 pub print-report-spec : {M : Type 1} → statement M
 print-report-spec =
     tie.close
     (tie.spec
+    (λ c. search needs)
+    (λ c. search needs)
     (λ c. search needs)
     (λ c. search needs)
     (λ c. search needs)

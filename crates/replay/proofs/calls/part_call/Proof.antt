@@ -10,11 +10,11 @@ use Rattle.replay.proofs.calls.part_call.Statement.{statement}
 use Rattle.replay.proofs.calls.part_call.Tie as tie
 
 -- both places are in their slices
-start-in : (c : tie.After-lesser) → let a = c .before .before .before .before .before .before .args in c .lesser .result ≤ length (a .list .now)
-start-in c = let a = c .before .before .before .before .before .before .args in omega (arith, c .lesser .ensures, lesser-le (a .start) (length (a .list .now)))
+start-in : (c : tie.After-lesser) → let a = c .before .before .before .before .before .before .before .before .args in c .lesser .result ≤ length (a .list .now)
+start-in c = let a = c .before .before .before .before .before .before .before .before .args in omega (arith, c .lesser .ensures, lesser-le (a .start) (length (a .list .now)))
 
-moves-in : (c : tie.After-lesser2) → let a = c .before .before .before .before .before .before .before .before .args in c .lesser2 .result ≤ length (a .bytes .now)
-moves-in c = let a = c .before .before .before .before .before .before .before .before .args in omega (arith, c .lesser2 .ensures, lesser-le (a .start) (length (a .bytes .now)))
+moves-in : (c : tie.After-lesser2) → let a = c .before .before .before .before .before .before .before .before .before .before .args in c .lesser2 .result ≤ length (a .bytes .now)
+moves-in c = let a = c .before .before .before .before .before .before .before .before .before .before .args in omega (arith, c .lesser2 .ensures, lesser-le (a .start) (length (a .bytes .now)))
 
 returns : tie.Need-returns
 returns c =
@@ -23,7 +23,7 @@ returns c =
     let three = four .before .before in
     let two = three .before .before .before .before in
     let one = two .before .before in
-    let a = one .before .before .before .before .before .before .args in
+    let a = one .before .before .before .before .before .before .before .before .args in
     told-many _ _ _ _ _ _ _ (gainAnswer (m .many .result)) _ (m .many .ensures)
     (part-by (a .start) (a .count) (a .list .now) _ _ (one .lesser .ensures) (three .lesser3 .ensures))
     (part-by (a .start) (a .count) (a .bytes .now) _ _ (two .lesser2 .ensures) (four .lesser4 .ensures))

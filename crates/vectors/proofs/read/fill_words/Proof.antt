@@ -1,20 +1,16 @@
--- Safe and ending: the place rises to an end within the table, and no store changes the length.
+-- Safe and ending: the place rises to an end within the slice, and no store changes the length.
 use Prim.Native.Nat.{_≤_, _-_}
-use mathlib.Core.Path.{_≡_, _∙_}
-use native.Mathlib.Omega.{arith}
+use mathlib.Core.Path.{_≡_}
 use borrow.Author.Needs.{needs}
 use lib.ListN.{length}
 use Rattle.vectors.proofs.read.fill_words.Statement.{statement}
 use Rattle.vectors.proofs.read.fill_words.Tie as tie
 
 abbrev Inv-loop : tie.InvT-loop
-Inv-loop table₀ end i₀ table i = (i ≤ end) × (end ≤ length table₀) × (length table ≡ length table₀)
+Inv-loop space₀ end i₀ space i = (i ≤ end) × (end ≤ length space₀) × (length space ≡ length space₀)
 
 abbrev μ-loop : tie.MeasureT-loop
-μ-loop table₀ end i₀ table i = end - i
-
-loop-again : tie.Need-loop-again Inv-loop μ-loop
-loop-again c = (omega arith, omega arith, c .before .before .set-word .kept .0 ∙ c .before .before .before .before .before .before .loop .inv .2)
+μ-loop space₀ end i₀ space i = end - i
 
 pub fill-words-spec : {M : Type 1} → statement M
 fill-words-spec =
@@ -26,9 +22,10 @@ fill-words-spec =
     (λ c κs. search needs)
     (λ c. search needs)
     (λ c κs. search needs)
-    (λ c κs. search needs)
     (λ c. search needs)
     (λ c. search needs)
-    loop-again
+    (λ c. search needs)
+    (λ c. search needs)
+    (λ c. search needs)
     (λ c. search needs)
     (λ c. search needs))
