@@ -1,0 +1,13 @@
+pub mod Slices
+pub mod Choosing
+pub mod Trimmed
+pub mod Admitting
+pub mod Calls
+pub mod Settling
+pub mod Reading
+pub mod Old
+pub mod Packing
+pub mod Corresponds
+pub mod Fills
+pub mod File
+pub mod Worked

@@ -1,0 +1,6 @@
+pub mod Slices
+pub mod Old
+pub mod Corresponds
+pub mod Fills
+pub mod File
+pub mod Worked
