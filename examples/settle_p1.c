@@ -12,19 +12,26 @@
 
 int main(void)
 {
-    uint32_t nodes[3] = {3, 5, 7};
-    uint32_t outputs[1] = {9};
+    uint32_t node_table[3] = {1, 2, 3}; /* the indices of the three inputs */
+    uint64_t node_bits[REDUCER_BIT_WORDS(3)] = {7}; /* all three complemented */
+    uint32_t output_table[1] = {4};
+    uint64_t output_bits[REDUCER_BIT_WORDS(1)] = {1};
     uint8_t locks[1] = {0}; /* the node is free */
     uint32_t scratch[REDUCER_SETTLE_SCRATCH(1)];
     uint32_t figures[3];
     int64_t savings[2];
-    uint32_t number = reducer_settle(3, 1, 1, nodes, 3, outputs, 1, locks, 1, scratch, REDUCER_SETTLE_SCRATCH(1), figures, savings);
+    uint32_t number = reducer_settle(3, 1, 1, node_table, 3, node_bits, REDUCER_BIT_WORDS(3), output_table, 1, output_bits,
+                                     REDUCER_BIT_WORDS(1), locks, 1, scratch, REDUCER_SETTLE_SCRATCH(1), figures, savings);
     if (number != REDUCER_OK) {
         fprintf(stderr, "refused %" PRIu32 "\n", number);
         return 1;
     }
     printf("before %" PRIu32 " after %" PRIu32 " rounds %" PRIu32 "\n", figures[1], figures[2], figures[0]);
     printf("own %" PRId64 " others %" PRId64 "\n", savings[0], savings[1]);
-    printf("node %" PRIu32 " %" PRIu32 " %" PRIu32 " out %" PRIu32 "\n", nodes[0], nodes[1], nodes[2], outputs[0]);
+    printf("node");
+    for (size_t place = 0; place < 3; place++) {
+        printf(" %" PRIu32, reducer_literal(node_table, node_bits, place));
+    }
+    printf(" out %" PRIu32 "\n", reducer_literal(output_table, output_bits, 0));
     return 0;
 }

@@ -3,36 +3,47 @@
  *
  * Link the static library that `rt staticlib reducer` writes, target/staticlib/libreducer.a. It needs no other library,
  * keeps no state, allocates nothing and may be called from several threads on tables of their own. Proved, for all bytes, words
- * and numbers, is what is said here of answers: the number returned, and what then stands in the tables, locks, results, moves,
- * buffer and answers, at the last pointer or pointers and, after a refusal, in scratch. The rest of this page is not part of the
- * proof.
+ * and numbers, is what is said here of answers: the number returned, and what then stands in the tables, bits, locks, results,
+ * moves, buffer and answers, at the last pointer or pointers and, after a refusal, in scratch. The rest of this page is not part of
+ * the proof.
  *
  * The graph
  *
- *   I inputs, N nodes and O outputs. Index 0 is the constant false, 1 to I are inputs, I + 1 to I + N are nodes. A literal is
- *   2 * index, plus 1 if complemented. The node table has three words a node in index order, the output table one literal an
- *   output. A node whose third word is REDUCER_MARK is an XOR of the first two; any other is a majority of the three. A node's
+ *   I inputs, N nodes and O outputs. Index 0 is the constant false, 1 to I are inputs, I + 1 to I + N are nodes. A literal is an
+ *   index and a complement bit: 1 if complemented, else 0. The node table has three literals a node in index order, its words 1 to
+ *   3, at places 3 * v to 3 * v + 2 for node I + 1 + v; the output table has one literal an output. Places count from 0. A node's
  *   literals name indices below its own; an output may name any.
+ *
+ *   A table is two slices. The first has a word of 32 bits a place: the literal's index. The second has the complement bits in
+ *   words of 64: that of place j is bit j mod 64, bit 0 being the lowest, of word j div 64. So n literals have
+ *   REDUCER_BIT_WORDS(n) words of bits. A node whose third index is REDUCER_MARK is an XOR of the first two literals; any other is
+ *   a majority of the three. The mark is no literal, and the bit at its place is 0. Bits past the last literal, in the word that
+ *   it is in, are 0 too.
+ *
+ *   Written as one number, as in files, a literal is 2 * index + bit. reducer_literal and reducer_set_literal, below, read and
+ *   set one so.
  *
  *   The locks are a byte a node in index order, byte v for node I + 1 + v: 1 for a locked node, which must not turn, and 0 for a
  *   free one. Every function that takes a graph takes its locks after its tables and tests them, also where nothing turns. A
  *   locked node has only move 0 in every call, and the best moves are the best of those that leave locked nodes at move 0; its
  *   own words may still turn, by moves of the nodes that they name. A call may name a locked node, and a tree call a locked root;
- *   reducer_many refuses a move other than 0 at one. Only reducer_load, reducer_import and reducer_replay change locks: they fill
- *   them.
+ *   reducer_many refuses a move other than 0 at one.
  *
- *   Tables and locks may be longer than the graph: only the first 3 * N words of the node table, the first O of the output table
- *   and the first N locks are looked at or changed.
+ *   Moves turn bits alone. Only reducer_load, reducer_import and reducer_replay change indices and locks: they fill them.
+ *
+ *   Tables, bits and locks may be longer than the graph. Only the first 3 * N indices and REDUCER_BIT_WORDS(3 * N) words of bits
+ *   of the node table, the first O indices and REDUCER_BIT_WORDS(O) words of bits of the output table, and the first N locks are
+ *   looked at or changed.
  *
  * What a call answers
  *
  *   Every function returns 0 or the number of a refusal, below. What it answers beside that goes through its last pointer, and
- *   settling's figures and savings through its last two. A refused call has changed nothing: tables, locks, scratch, results,
- *   moves, buffer, answers and that last number or those arrays are as they were. The first fault is returned, in the order of
- *   the numbers 3, 4, 5, 13, 7, 8, 9, all literals being tested before any lock; loading meets its file from front to back,
- *   importing its text line by line, each line being tested for 10, 11, 12, 3, 4, 5 in that order, many moves their list entry by
- *   entry, after 3, 4, 5 and 13, each entry being tested for 7, 14, 15, 16 in that order, and a replay its calls and answers
- *   before its file.
+ *   settling's figures and savings through its last two. A refused call has changed nothing: tables, bits, locks, scratch,
+ *   results, moves, buffer, answers and that last number or those arrays are as they were. The first fault is returned, in the
+ *   order of the numbers 3, 4, 5, 13, 7, 8, 9, all literals and bits being tested before any lock; loading meets its file from
+ *   front to back, importing its text line by line, each line being tested for 10, 11, 12, 3, 4, 5 in that order, many moves their
+ *   list entry by entry, after 3, 4, 5 and 13, each entry being tested for 7, 14, 15, 16 in that order, and a replay its calls and
+ *   answers before its file.
  *   Scratch holds nothing of use before or after a call.
  *
  *   A saving is two numbers, of which either may be below 0: how many complemented edges fewer there are, first among the words
@@ -58,8 +69,11 @@
 extern "C" {
 #endif
 
-/* The third word of an XOR. */
+/* The third index of an XOR. */
 #define REDUCER_MARK UINT32_C(4294967295)
+
+/* Words of complement bits that n literals have. */
+#define REDUCER_BIT_WORDS(n) (((size_t)(n) + 63) / 64)
 
 /* Limits: more is refused by REDUCER_OVER_LIMIT. */
 #define REDUCER_MOST_INPUTS 4096
@@ -103,9 +117,9 @@ enum reducer_number {
     REDUCER_WRONG_FIELD = 2,
     /* I, N or O above its limit */
     REDUCER_OVER_LIMIT = 3,
-    /* a lent table, slice of locks, input or result slice too short; fewer moves than nodes (preview, many moves) */
+    /* a lent table, its bits, slice of locks, input or result slice too short; fewer moves than nodes (preview, many moves) */
     REDUCER_SHORT_SLICE = 4,
-    /* a literal naming an index not allowed there */
+    /* a literal naming an index not allowed there; a set bit at a mark, or past the last literal in the word that it is in */
     REDUCER_BAD_LITERAL = 5,
     /* bytes after the end field */
     REDUCER_EXTRA_BYTES = 6,
@@ -138,18 +152,39 @@ enum reducer_number {
 };
 
 /*
+ * The literal at a place of a table, as one number, or REDUCER_MARK. The table must have this place, and a graph in it that a call
+ * has accepted: else the number may be none.
+ */
+static inline uint32_t reducer_literal(const uint32_t *table, const uint64_t *bits, size_t place)
+{
+    uint32_t bit = (uint32_t)(bits[place / 64] >> (place % 64) & 1);
+    return table[place] == REDUCER_MARK ? REDUCER_MARK : 2 * table[place] + bit;
+}
+
+/* Sets a place of a table to a literal, given as one number, or to REDUCER_MARK. The table must have this place. */
+static inline void reducer_set_literal(uint32_t *table, uint64_t *bits, size_t place, uint32_t literal)
+{
+    uint64_t bit = literal == REDUCER_MARK ? 0 : literal % 2;
+    table[place] = literal == REDUCER_MARK ? REDUCER_MARK : literal / 2;
+    bits[place / 64] = (bits[place / 64] & ~(UINT64_C(1) << (place % 64))) | bit << (place % 64);
+}
+
+/*
  * The field at the front of the bytes: payload[0] is where its payload starts in them, payload[1] the payload's length.
  * Refusals: 1, 2.
  */
 uint32_t reducer_field(const uint8_t *bytes, size_t bytes_length, size_t payload[2]);
 
 /*
- * Loads a tagged file: fills the first 3 * N words of the node table, the first O of the output table and the first N locks, with
- * 1 for each node that a field 06 names and 0 for every other. numbers are I, N and O. Refusals: 1, 2, 3, 4, 5, 6, 13.
+ * Loads a tagged file: fills the first 3 * N indices of the node table and the first O of the output table, the words of bits that
+ * these have, bits past the last literal becoming 0, and the first N locks, with 1 for each node that a field 06 names and 0 for
+ * every other. numbers are I, N and O. Refusals: 1, 2, 3, 4, 5, 6, 13.
  */
 uint32_t reducer_load(const uint8_t *file, size_t file_length,
                       uint32_t *node_table, size_t node_table_length,
+                      uint64_t *node_bits, size_t node_bits_length,
                       uint32_t *output_table, size_t output_table_length,
+                      uint64_t *output_bits, size_t output_bits_length,
                       uint8_t *locks, size_t locks_length,
                       uint32_t numbers[3]);
 
@@ -159,13 +194,15 @@ uint32_t reducer_load(const uint8_t *file, size_t file_length,
  */
 uint32_t reducer_write(uint32_t inputs, uint32_t nodes, uint32_t outputs,
                        const uint32_t *node_table, size_t node_table_length,
+                       const uint64_t *node_bits, size_t node_bits_length,
                        const uint32_t *output_table, size_t output_table_length,
+                       const uint64_t *output_bits, size_t output_bits_length,
                        const uint8_t *locks, size_t locks_length,
                        uint8_t *buffer, size_t buffer_length,
                        size_t *length);
 
 /*
- * Imports an ASCII AIGER text: fills tables and locks as reducer_load does, every node being free. numbers are I, N and O, N
+ * Imports an ASCII AIGER text: fills tables, bits and locks as reducer_load does, every node being free. numbers are I, N and O, N
  * being the header's A. The text is a header "aag M I L O A", a line an input with its literal, a line an output with its own,
  * and a line a gate with the gate's literal and two that name lower indices. Numbers are decimal, below 2 to the 32nd, without
  * leading zeros; one space parts them and a newline ends each line. An AND becomes a majority with word 1 equal to 0 and words 2
@@ -173,7 +210,9 @@ uint32_t reducer_write(uint32_t inputs, uint32_t nodes, uint32_t outputs,
  */
 uint32_t reducer_import(const uint8_t *text, size_t text_length,
                         uint32_t *node_table, size_t node_table_length,
+                        uint64_t *node_bits, size_t node_bits_length,
                         uint32_t *output_table, size_t output_table_length,
+                        uint64_t *output_bits, size_t output_bits_length,
                         uint8_t *locks, size_t locks_length,
                         uint32_t numbers[3]);
 
@@ -185,7 +224,9 @@ uint32_t reducer_import(const uint8_t *text, size_t text_length,
  */
 uint32_t reducer_export(uint32_t inputs, uint32_t nodes, uint32_t outputs,
                         const uint32_t *node_table, size_t node_table_length,
+                        const uint64_t *node_bits, size_t node_bits_length,
                         const uint32_t *output_table, size_t output_table_length,
+                        const uint64_t *output_bits, size_t output_bits_length,
                         const uint8_t *locks, size_t locks_length,
                         uint32_t *scratch, size_t scratch_length,
                         uint8_t *buffer, size_t buffer_length,
@@ -197,23 +238,32 @@ uint32_t reducer_export(uint32_t inputs, uint32_t nodes, uint32_t outputs,
  */
 uint32_t reducer_evaluate(uint32_t inputs, uint32_t nodes, uint32_t outputs,
                           const uint32_t *node_table, size_t node_table_length,
+                          const uint64_t *node_bits, size_t node_bits_length,
                           const uint32_t *output_table, size_t output_table_length,
+                          const uint64_t *output_bits, size_t output_bits_length,
                           const uint8_t *locks, size_t locks_length,
                           const uint64_t *input_words, size_t input_words_length,
                           uint64_t *scratch, size_t scratch_length,
                           uint64_t *results, size_t results_length);
 
-/* How many edges are complemented, those from the constant among them. Refusals: 3, 4, 5, 13. */
+/*
+ * How many edges are complemented, those from the constant among them: the number of ones in the words of bits of both tables.
+ * Refusals: 3, 4, 5, 13.
+ */
 uint32_t reducer_count(uint32_t inputs, uint32_t nodes, uint32_t outputs,
                        const uint32_t *node_table, size_t node_table_length,
+                       const uint64_t *node_bits, size_t node_bits_length,
                        const uint32_t *output_table, size_t output_table_length,
+                       const uint64_t *output_bits, size_t output_bits_length,
                        const uint8_t *locks, size_t locks_length,
                        uint32_t *count);
 
 /* Makes the best move of one node, given by its index. Refusals: 3, 4, 5, 13, 7. */
 uint32_t reducer_node(uint32_t inputs, uint32_t nodes, uint32_t outputs,
-                      uint32_t *node_table, size_t node_table_length,
-                      uint32_t *output_table, size_t output_table_length,
+                      const uint32_t *node_table, size_t node_table_length,
+                      uint64_t *node_bits, size_t node_bits_length,
+                      const uint32_t *output_table, size_t output_table_length,
+                      uint64_t *output_bits, size_t output_bits_length,
                       const uint8_t *locks, size_t locks_length,
                       uint32_t node,
                       int64_t saving[2]);
@@ -223,8 +273,10 @@ uint32_t reducer_node(uint32_t inputs, uint32_t nodes, uint32_t outputs,
  * saves nothing. Refusals: 3, 4, 5, 13, 7.
  */
 uint32_t reducer_pair(uint32_t inputs, uint32_t nodes, uint32_t outputs,
-                      uint32_t *node_table, size_t node_table_length,
-                      uint32_t *output_table, size_t output_table_length,
+                      const uint32_t *node_table, size_t node_table_length,
+                      uint64_t *node_bits, size_t node_bits_length,
+                      const uint32_t *output_table, size_t output_table_length,
+                      uint64_t *output_bits, size_t output_bits_length,
                       const uint8_t *locks, size_t locks_length,
                       uint32_t node, uint32_t word,
                       int64_t saving[2]);
@@ -236,7 +288,9 @@ uint32_t reducer_pair(uint32_t inputs, uint32_t nodes, uint32_t outputs,
  */
 uint32_t reducer_trial(uint32_t inputs, uint32_t nodes, uint32_t outputs,
                        const uint32_t *node_table, size_t node_table_length,
+                       const uint64_t *node_bits, size_t node_bits_length,
                        const uint32_t *output_table, size_t output_table_length,
+                       const uint64_t *output_bits, size_t output_bits_length,
                        const uint8_t *locks, size_t locks_length,
                        uint32_t node, uint32_t word,
                        uint32_t named_move, uint32_t node_move,
@@ -247,8 +301,10 @@ uint32_t reducer_trial(uint32_t inputs, uint32_t nodes, uint32_t outputs,
  * 4, 5, 13, 7, 8.
  */
 uint32_t reducer_tree(uint32_t inputs, uint32_t nodes, uint32_t outputs,
-                      uint32_t *node_table, size_t node_table_length,
-                      uint32_t *output_table, size_t output_table_length,
+                      const uint32_t *node_table, size_t node_table_length,
+                      uint64_t *node_bits, size_t node_bits_length,
+                      const uint32_t *output_table, size_t output_table_length,
+                      uint64_t *output_bits, size_t output_bits_length,
                       const uint8_t *locks, size_t locks_length,
                       uint32_t root,
                       uint32_t *scratch, size_t scratch_length,
@@ -262,7 +318,9 @@ uint32_t reducer_tree(uint32_t inputs, uint32_t nodes, uint32_t outputs,
  */
 uint32_t reducer_preview(uint32_t inputs, uint32_t nodes, uint32_t outputs,
                          const uint32_t *node_table, size_t node_table_length,
+                         const uint64_t *node_bits, size_t node_bits_length,
                          const uint32_t *output_table, size_t output_table_length,
+                         const uint64_t *output_bits, size_t output_bits_length,
                          const uint8_t *locks, size_t locks_length,
                          uint32_t root,
                          uint8_t *moves, size_t moves_length,
@@ -275,8 +333,10 @@ uint32_t reducer_preview(uint32_t inputs, uint32_t nodes, uint32_t outputs,
  * words of the nodes that it names, and of what it saved among all other edges. Refusals: 3, 4, 5, 13, 8.
  */
 uint32_t reducer_settle(uint32_t inputs, uint32_t nodes, uint32_t outputs,
-                        uint32_t *node_table, size_t node_table_length,
-                        uint32_t *output_table, size_t output_table_length,
+                        const uint32_t *node_table, size_t node_table_length,
+                        uint64_t *node_bits, size_t node_bits_length,
+                        const uint32_t *output_table, size_t output_table_length,
+                        uint64_t *output_bits, size_t output_bits_length,
                         const uint8_t *locks, size_t locks_length,
                         uint32_t *scratch, size_t scratch_length,
                         uint32_t figures[3],
@@ -292,8 +352,10 @@ uint32_t reducer_settle(uint32_t inputs, uint32_t nodes, uint32_t outputs,
  * Refusals: 3, 4 (tables, locks, or fewer moves than entries of the list), 5, 13, then entry by entry 7, 14, 15, 16.
  */
 uint32_t reducer_many(uint32_t inputs, uint32_t nodes, uint32_t outputs,
-                      uint32_t *node_table, size_t node_table_length,
-                      uint32_t *output_table, size_t output_table_length,
+                      const uint32_t *node_table, size_t node_table_length,
+                      uint64_t *node_bits, size_t node_bits_length,
+                      const uint32_t *output_table, size_t output_table_length,
+                      uint64_t *output_bits, size_t output_bits_length,
                       const uint8_t *locks, size_t locks_length,
                       const uint32_t *list, size_t list_length,
                       const uint8_t *moves, size_t moves_length,
@@ -313,7 +375,9 @@ uint32_t reducer_many(uint32_t inputs, uint32_t nodes, uint32_t outputs,
 uint32_t reducer_replay(const uint8_t *file, size_t file_length,
                         const uint32_t *calls, size_t calls_length,
                         uint32_t *node_table, size_t node_table_length,
+                        uint64_t *node_bits, size_t node_bits_length,
                         uint32_t *output_table, size_t output_table_length,
+                        uint64_t *output_bits, size_t output_bits_length,
                         uint8_t *locks, size_t locks_length,
                         const uint32_t *list, size_t list_length,
                         const uint8_t *moves, size_t moves_length,

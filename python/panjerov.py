@@ -13,6 +13,9 @@ Every call is one of the proved library's. A call that cannot be made raises: Re
 the library refuses it; TypeError or ValueError where an argument is not of the kind that the library takes. Either way
 nothing has changed.
 
+A graph keeps its tables as the library takes them, and Graph.nodes and Graph.outputs show them as lists of literals (Literals), so
+that no call copies a table. While a call is made, no other thread of the program runs.
+
 The library is linked, at the first import, from target/staticlib/libreducer.a, which `rt staticlib reducer` writes.
 """
 
@@ -22,15 +25,17 @@ import ctypes
 import operator
 import os
 import subprocess
+from array import array
+from collections.abc import MutableSequence
 from pathlib import Path
-from typing import Iterable, List, NamedTuple, Sequence, Tuple, Type, Union
+from typing import Iterable, Iterator, List, NamedTuple, Sequence, Tuple, Type, Union
 
 __all__ = [
-    "Graph", "Preview", "Refused", "Saving", "Settled", "Told", "load", "import_aiger", "field", "replay",
+    "Graph", "Literals", "Preview", "Refused", "Saving", "Settled", "Told", "load", "import_aiger", "field", "replay",
     "NODE", "PAIR", "TREE", "SETTLE", "MANY", "MARK", "MOST_INPUTS", "MOST_NODES", "MOST_OUTPUTS",
 ]
 
-#: The third word of an XOR node.
+#: The third literal of an XOR node, and its third index.
 MARK = 4294967295
 #: The kinds of calls in a list.
 NODE, PAIR, TREE, SETTLE, MANY = range(5)
@@ -131,14 +136,16 @@ def _link() -> Path:
     return _SHARED
 
 
-_library = ctypes.CDLL(str(_link()))
+# By PyDLL no other thread runs during a call: what a call has tested in a table must stay so until it is done.
+_library = ctypes.PyDLL(str(_link()))
 
 _U32 = ctypes.c_uint32
 _U64 = ctypes.c_uint64
 _I64 = ctypes.c_int64
 _SIZE = ctypes.c_size_t
 _WORDS = [ctypes.c_void_p, _SIZE]
-_GRAPH = [_U32, _U32, _U32] + _WORDS * 3
+_TABLES = _WORDS * 5
+_GRAPH = [_U32, _U32, _U32] + _TABLES
 
 
 def _function(name: str, arguments: list):
@@ -149,9 +156,9 @@ def _function(name: str, arguments: list):
 
 
 _field = _function("reducer_field", _WORDS + [ctypes.c_void_p])
-_load = _function("reducer_load", _WORDS * 4 + [ctypes.c_void_p])
+_load = _function("reducer_load", _WORDS + _TABLES + [ctypes.c_void_p])
 _write = _function("reducer_write", _GRAPH + _WORDS + [ctypes.c_void_p])
-_import = _function("reducer_import", _WORDS * 4 + [ctypes.c_void_p])
+_import = _function("reducer_import", _WORDS + _TABLES + [ctypes.c_void_p])
 _export = _function("reducer_export", _GRAPH + _WORDS * 2 + [ctypes.c_void_p])
 _evaluate = _function("reducer_evaluate", _GRAPH + _WORDS * 3)
 _count = _function("reducer_count", _GRAPH + [ctypes.c_void_p])
@@ -162,7 +169,7 @@ _tree = _function("reducer_tree", _GRAPH + [_U32] + _WORDS + [ctypes.c_void_p])
 _preview = _function("reducer_preview", _GRAPH + [_U32] + _WORDS * 2 + [ctypes.c_void_p])
 _settle = _function("reducer_settle", _GRAPH + _WORDS + [ctypes.c_void_p] * 2)
 _many = _function("reducer_many", _GRAPH + _WORDS * 2 + [ctypes.c_void_p])
-_replay = _function("reducer_replay", _WORDS * 9 + [ctypes.c_void_p])
+_replay = _function("reducer_replay", _WORDS * 2 + _TABLES + _WORDS * 4 + [ctypes.c_void_p])
 
 
 def _number(value: int, bits: int, what: str) -> int:
@@ -189,31 +196,197 @@ def _numbers(values: Iterable[int], kind: Type, what: str):
     if isinstance(values, (str, bytes, bytearray)):
         raise TypeError(f"{what} must be a sequence of ints, and is a {type(values).__name__}")
     checked = [_number(value, bits, f"each of {what}") for value in values]
-    array = _array(kind, len(checked))
-    array[: len(checked)] = checked
-    return array, len(checked)
+    words = _array(kind, len(checked))
+    words[: len(checked)] = checked
+    return words, len(checked)
 
 
-def _bytes(value: bytes, what: str):
-    """The bytes as an array, and how many they are."""
+def _bytes(value: bytes, what: str) -> Tuple[bytes, int]:
+    """The bytes, and how many they are."""
     if not isinstance(value, (bytes, bytearray, memoryview)):
         raise TypeError(f"{what} must be bytes, and is a {type(value).__name__}")
     value = bytes(value)
-    array = _array(ctypes.c_uint8, len(value))
-    ctypes.memmove(array, value, len(value))
-    return array, len(value)
+    return value, len(value)
 
 
 def _moves(values: Union[bytes, Iterable[int]]):
-    """Moves, as bytes or as numbers of a byte each, as an array, and how many they are."""
+    """Moves, given as bytes or as numbers of a byte each, and how many they are."""
     if isinstance(values, (bytes, bytearray, memoryview)):
         return _bytes(values, "moves")
     return _numbers(values, ctypes.c_uint8, "moves")
 
 
-def _accept(number: int) -> None:
+# What an empty array is lent as, since it has no address.
+_NOWHERE = _array(_U64, 1)
+
+
+def _lend(words: array) -> list:
+    """Where the words stand, and how many they are. As long as this is there, the array stays where it is: it cannot grow."""
+    return [ctypes.byref(ctypes.c_char.from_buffer(words)), len(words)] if words else [_NOWHERE, 0]
+
+
+def _call(function, *arguments) -> None:
+    """Makes a call of the library. Each array among the arguments is lent as it is. Whatever a caller gave has been looked at before,
+    so that nothing of the caller's runs while arrays are lent."""
+    lent = []
+    for argument in arguments:
+        lent += _lend(argument) if isinstance(argument, array) else [argument]
+    number = function(*lent)
+    # A traceback would keep them.
+    lent.clear()
     if number != 0:
         raise Refused(number)
+
+
+class Literals(MutableSequence):
+    """Literals, as a list of ints that the library takes as it is kept.
+
+    A literal is 2 * index, plus 1 if it is complemented; MARK stands for itself. `indices` is an array with a word of 32 bits a
+    literal, its index or MARK, and `bits` one with the complement bits in words of 64: that of place j at bit j % 64 of word j // 64,
+    0 at a mark and past the last. Both may be changed, but a call on what is no graph is refused; reading a literal then raises
+    Refused too, by 4 where there is no word for its bit, by 5 where there is no such literal.
+    """
+
+    __slots__ = ("_indices", "_bits", "_what")
+
+    def __init__(self, values: Iterable[int] = (), what: str = "literals") -> None:
+        self._what = what
+        if isinstance(values, Literals):
+            self._indices, self._bits = values._indices[:], values._bits[:]
+        else:
+            self._fill(self._checked(values))
+
+    @classmethod
+    def _blank(cls, length: int, what: str) -> "Literals":
+        """So many literals of the constant."""
+        blank = cls((), what)
+        blank._indices, blank._bits = array("I", bytes(4 * length)), array("Q", bytes(8 * ((length + 63) // 64)))
+        return blank
+
+    @property
+    def indices(self) -> array:
+        """The indices, as they are lent."""
+        return self._indices
+
+    @property
+    def bits(self) -> array:
+        """The words of complement bits, as they are lent."""
+        return self._bits
+
+    def _words(self) -> int:
+        """How many words the bits have."""
+        return (len(self._indices) + 63) // 64
+
+    def _checked(self, values: Iterable[int]) -> List[int]:
+        what = f"each of {self._what}"
+        return [_number(value, 32, what) for value in values]
+
+    def _fill(self, literals: List[int]) -> None:
+        indices = array("I", [literal if literal == MARK else literal >> 1 for literal in literals])
+        bits = array("Q", bytes(8 * ((len(literals) + 63) // 64)))
+        for place, literal in enumerate(literals):
+            if literal & 1 and literal != MARK:
+                bits[place >> 6] |= 1 << (place & 63)
+        self._indices, self._bits = indices, bits
+
+    def _at(self, place: int) -> int:
+        index, word = self._indices[place], place >> 6
+        if word >= len(self._bits):
+            raise Refused(4)
+        bit = self._bits[word] >> (place & 63) & 1
+        if index == MARK and not bit:
+            return MARK
+        if index >= MARK // 2:
+            raise Refused(5)
+        return 2 * index + bit
+
+    def _read(self, places: Iterable[int]) -> List[int]:
+        indices, bits = self._indices, self._bits
+        if len(bits) < self._words():
+            return [self._at(place) for place in places]
+        # What is an edge is read here, since there may be many.
+        return [
+            2 * indices[place] + (bits[place >> 6] >> (place & 63) & 1) if indices[place] < MARK // 2 else self._at(place)
+            for place in places
+        ]
+
+    def _set(self, place: int, literal: int) -> None:
+        word, bit = place >> 6, 1 << (place & 63)
+        if word >= len(self._bits):
+            raise Refused(4)
+        odd = literal & 1 and literal != MARK
+        self._indices[place] = literal if literal == MARK else literal >> 1
+        self._bits[word] = self._bits[word] | bit if odd else self._bits[word] & ~bit
+
+    def _place(self, at: int) -> int:
+        """The place of this number, which counts from the end where it is below 0."""
+        number = operator.index(at)
+        place = number + len(self) if number < 0 else number
+        if not 0 <= place < len(self):
+            raise IndexError(f"there are {len(self)} {self._what}, and none at {number}")
+        return place
+
+    def __len__(self) -> int:
+        return len(self._indices)
+
+    def __iter__(self) -> Iterator[int]:
+        return iter(self._read(range(len(self))))
+
+    def __getitem__(self, at):
+        if isinstance(at, slice):
+            return self._read(range(*at.indices(len(self))))
+        return self._at(self._place(at))
+
+    def __setitem__(self, at, value) -> None:
+        if isinstance(at, slice):
+            given, literals = self._checked(value), list(self)
+            literals[at] = given
+            self._fill(literals)
+        else:
+            (literal,) = self._checked([value])
+            self._set(self._place(at), literal)
+
+    def __delitem__(self, at) -> None:
+        literals = list(self)
+        del literals[at]
+        self._fill(literals)
+
+    def insert(self, at: int, value: int) -> None:
+        """Puts a literal before the place of this number."""
+        (literal,), end = self._checked([value]), len(self)
+        if operator.index(at) < end:
+            literals = list(self)
+            literals.insert(at, literal)
+            self._fill(literals)
+            return
+        if len(self._bits) < self._words():
+            raise Refused(4)
+        if end % 64 == 0:
+            self._bits[end // 64 : end // 64 + 1] = array("Q", [0])
+        self._indices.append(0)
+        self._set(end, literal)
+
+    def clear(self) -> None:
+        """Leaves no literal."""
+        self._fill([])
+
+    def __add__(self, other: Iterable[int]) -> List[int]:
+        return list(self) + list(other)
+
+    def __radd__(self, other: Iterable[int]) -> List[int]:
+        return list(other) + list(self)
+
+    def __eq__(self, other: object) -> bool:
+        if isinstance(other, Literals):
+            words = self._words()
+            return self._indices == other._indices and self._bits[:words] == other._bits[:words]
+        return list(self) == other if isinstance(other, list) else NotImplemented
+
+    def __repr__(self) -> str:
+        try:
+            return repr(list(self))
+        except Refused:
+            return f"<no literals: indices {list(self._indices)}, bits {list(self._bits)}>"
 
 
 def _said(file: bytes, at: int) -> int:
@@ -221,26 +394,37 @@ def _said(file: bytes, at: int) -> int:
     return int.from_bytes(file[at : at + 4], "big") if len(file) >= at + 4 else 0
 
 
-def _tables(nodes: int, outputs: int) -> list:
-    """Tables and locks with room for so many nodes and outputs, at most the limits, each before its length."""
-    count, output_words = min(nodes, MOST_NODES), min(outputs, MOST_OUTPUTS)
-    tables = [_array(_U32, 3 * count), 3 * count, _array(_U32, output_words), output_words]
-    return tables + [_array(ctypes.c_uint8, count), count]
+class _Tables(NamedTuple):
+    """A graph but for its numbers."""
+
+    nodes: Literals
+    outputs: Literals
+    locks: array
+
+    def arrays(self) -> list:
+        """What is lent of it, in that order."""
+        return [self.nodes.indices, self.nodes.bits, self.outputs.indices, self.outputs.bits, self.locks]
 
 
-def _graph(inputs: int, tables: list) -> "Graph":
+def _tables(nodes: int, outputs: int) -> _Tables:
+    """Tables and locks with room for so many nodes and outputs, at most the limits."""
+    count, ends = min(nodes, MOST_NODES), min(outputs, MOST_OUTPUTS)
+    return _Tables(Literals._blank(3 * count, "nodes"), Literals._blank(ends, "outputs"), array("B", bytes(count)))
+
+
+def _graph(inputs: int, tables: _Tables) -> "Graph":
     """The graph that an accepted call has left in tables and locks."""
-    nodes, node_words, outputs, output_words, locks, count = tables
-    locked = [inputs + 1 + at for at, byte in enumerate(locks[:count]) if byte]
-    return Graph(inputs, nodes[:node_words], outputs[:output_words], locked)
+    graph = Graph(inputs, (), ())
+    graph._nodes, graph._outputs, graph._locks = tables
+    return graph
 
 
-def _room(file: bytes) -> list:
+def _room(file: bytes) -> _Tables:
     """Tables and locks with room for what the head says."""
     return _tables(_said(file, 7), _said(file, 11))
 
 
-def _text_room(text: bytes) -> list:
+def _text_room(text: bytes) -> _Tables:
     """Tables and locks with room for what the header says. A line that is longer is no header that is accepted."""
     words = text[:64].split(b"\n")[0].split(b" ")
     said = [int(word) if word.isdigit() else 0 for word in words]
@@ -249,25 +433,25 @@ def _text_room(text: bytes) -> list:
 
 def field(data: bytes) -> bytes:
     """The payload of the field at the front of the bytes."""
-    array, length = _bytes(data, "data")
+    data, length = _bytes(data, "data")
     payload = (_SIZE * 2)()
-    _accept(_field(array, length, payload))
-    return bytes(array[payload[0] : payload[0] + payload[1]])
+    _call(_field, data, length, payload)
+    return data[payload[0] : payload[0] + payload[1]]
 
 
 def load(file: bytes) -> "Graph":
     """The graph that a tagged file holds, with its locks."""
-    array, length = _bytes(file, "file")
-    tables, numbers = _room(bytes(file)), (_U32 * 3)()
-    _accept(_load(array, length, *tables, numbers))
+    file, length = _bytes(file, "file")
+    tables, numbers = _room(file), (_U32 * 3)()
+    _call(_load, file, length, *tables.arrays(), numbers)
     return _graph(numbers[0], tables)
 
 
 def import_aiger(text: bytes) -> "Graph":
     """The graph that an ASCII AIGER text says: a majority of the constant and two literals for each AND, every node free."""
-    array, length = _bytes(text, "text")
-    tables, numbers = _text_room(bytes(text)), (_U32 * 3)()
-    _accept(_import(array, length, *tables, numbers))
+    text, length = _bytes(text, "text")
+    tables, numbers = _text_room(text), (_U32 * 3)()
+    _call(_import, text, length, *tables.arrays(), numbers)
     return _graph(numbers[0], tables)
 
 
@@ -280,16 +464,17 @@ def replay(
     kind MANY it is the kind, a start and a count: that part of indices and of moves is made, as Graph.many does. A call that is
     refused changes nothing, and the list goes on.
     """
-    array, length = _bytes(file, "file")
+    file, length = _bytes(file, "file")
     listed = [tuple(call) for call in calls]
     if any(len(call) != 3 for call in listed):
         raise ValueError("each of calls must be a kind, a node and a word")
     words, count = _numbers([word for call in listed for word in call], _U32, "calls")
     many = [*_numbers(indices, _U32, "indices"), *_moves(moves)]
-    tables = _room(bytes(file))
-    scratch_words, answer_words = 8 * tables[5], 3 * len(listed)
+    tables = _room(file)
+    scratch_words, answer_words = 8 * len(tables.locks), 3 * len(listed)
     scratch, answers, numbers = _array(_U32, scratch_words), _array(_I64, answer_words), (_U32 * 3)()
-    _accept(_replay(array, length, words, count, *tables, *many, scratch, scratch_words, answers, answer_words, numbers))
+    room = [scratch, scratch_words, answers, answer_words]
+    _call(_replay, file, length, words, count, *tables.arrays(), *many, *room, numbers)
     told = [Told(answers[at], Saving(answers[at + 1], answers[at + 2])) for at in range(0, answer_words, 3)]
     return _graph(numbers[0], tables), told
 
@@ -297,36 +482,60 @@ def replay(
 class Graph:
     """A graph of majorities and XORs.
 
-    `nodes` has three words a node, a third word MARK making it an XOR; `outputs` has one literal an output. A literal is
+    `nodes` has three literals a node, a third MARK making it an XOR; `outputs` has one literal an output. A literal is
     2 * index, plus 1 if complemented; index 0 is the constant false, inputs follow, then nodes. `locked` are the indices of nodes
     that no call may turn; the others are free.
     """
 
     inputs: int
-    nodes: List[int]
-    outputs: List[int]
 
-    def __init__(self, inputs: int, nodes: Sequence[int], outputs: Sequence[int], locked: Iterable[int] = ()) -> None:
+    def __init__(self, inputs: int, nodes: Iterable[int], outputs: Iterable[int], locked: Iterable[int] = ()) -> None:
         self.inputs = _number(inputs, 32, "inputs")
-        self.nodes = [_number(word, 32, "each of nodes") for word in nodes]
-        self.outputs = [_number(word, 32, "each of outputs") for word in outputs]
-        if len(self.nodes) % 3 != 0:
+        self._nodes, self._outputs = Literals(nodes, "nodes"), Literals(outputs, "outputs")
+        if len(self._nodes) % 3 != 0:
             raise ValueError("nodes must have three words a node")
-        self._locked = {self._node(index) for index in locked}
+        # A byte a node, as it is lent. Nodes that are put there later have none until a call or a lock asks for it.
+        self._locks = array("B", bytes(len(self._nodes) // 3))
+        for index in locked:
+            self._locks[self._node(index) - self.inputs - 1] = 1
+
+    @property
+    def nodes(self) -> Literals:
+        """The literals of the nodes. They are shown as they are, so that a call changes what this has given before."""
+        return self._nodes
+
+    @nodes.setter
+    def nodes(self, literals: Iterable[int]) -> None:
+        if literals is not self._nodes:
+            self._nodes = Literals(literals, "nodes")
+
+    @property
+    def outputs(self) -> Literals:
+        """The literals of the outputs, shown as those of the nodes are."""
+        return self._outputs
+
+    @outputs.setter
+    def outputs(self, literals: Iterable[int]) -> None:
+        if literals is not self._outputs:
+            self._outputs = Literals(literals, "outputs")
 
     def __repr__(self) -> str:
-        locked = f", {self.locked}" if self._locked else ""
+        locked = f", {self.locked}" if any(self._locks) else ""
         return f"Graph({self.inputs}, {self.nodes}, {self.outputs}{locked})"
 
     def __eq__(self, other: object) -> bool:
         if not isinstance(other, Graph):
             return NotImplemented
-        mine = (self.inputs, self.nodes, self.outputs, self._locked)
-        return mine == (other.inputs, other.nodes, other.outputs, other._locked)
+        same = (self.inputs, self._nodes, self._outputs) == (other.inputs, other._nodes, other._outputs)
+        return same and self.locked == other.locked
+
+    def __copy__(self) -> "Graph":
+        # Tables of its own: calls change them in place.
+        return _graph(self.inputs, _Tables(Literals(self._nodes, "nodes"), Literals(self._outputs, "outputs"), self._locks[:]))
 
     def _has(self, index: int) -> bool:
         """Whether this is the index of a node."""
-        return self.inputs < index <= self.inputs + len(self.nodes) // 3
+        return self.inputs < index <= self.inputs + len(self._nodes) // 3
 
     def _node(self, index: int) -> int:
         """The index as an int, if it is that of a node."""
@@ -335,61 +544,59 @@ class Graph:
             raise ValueError(f"each of locked must be the index of a node, and is {number}")
         return number
 
-    def _locks(self) -> list:
-        """The locks as bytes, and how many there are."""
-        count = len(self.nodes) // 3
-        locks = _array(ctypes.c_uint8, count)
-        for index in self._locked:
-            locks[self._node(index) - self.inputs - 1] = 1
-        return [locks, count]
+    def _fit_locks(self, nodes: int) -> None:
+        """Makes the locks as many as the nodes."""
+        if len(self._locks) < nodes:
+            self._locks.frombytes(bytes(nodes - len(self._locks)))
+        elif len(self._locks) > nodes:
+            for index in self.locked:
+                self._node(index)
+            del self._locks[nodes:]
 
     def _lent(self) -> list:
-        """I, N, O, both tables and the locks, as every call takes them. What was set since is checked again."""
-        nodes, node_words = _numbers(self.nodes, _U32, "nodes")
-        outputs, output_words = _numbers(self.outputs, _U32, "outputs")
-        if node_words % 3 != 0:
+        """I, N, O, both tables with their bits and the locks, as every call takes them."""
+        count, left = divmod(len(self._nodes), 3)
+        if left != 0:
             raise ValueError("nodes must have three words a node")
-        inputs = _number(self.inputs, 32, "inputs")
-        count = _number(node_words // 3, 32, "the number of nodes")
-        sizes = [inputs, count, _number(output_words, 32, "the number of outputs")]
-        return sizes + [nodes, node_words, outputs, output_words] + self._locks()
+        self._fit_locks(count)
+        sizes = [("inputs", self.inputs), ("the number of nodes", count), ("the number of outputs", len(self._outputs))]
+        numbers = [_number(value, 32, what) for what, value in sizes]
+        return numbers + _Tables(self._nodes, self._outputs, self._locks).arrays()
 
-    def _take(self, lent: list) -> None:
-        """Keeps the tables as an accepted call left them."""
-        nodes, node_words, outputs, output_words = lent[3:7]
-        self.nodes, self.outputs = nodes[:node_words], outputs[:output_words]
-
-    def _named(self, index: int) -> int:
-        """The index as an int; what is no node's is refused as a node call refuses it."""
+    def _lock_place(self, index: int) -> int:
+        """Where the lock of the node of this index stands; what is no node's is refused as a node call refuses it."""
         number = _number(index, 32, "index")
         if not self._has(number):
             raise Refused(7)
-        return number
+        place = number - self.inputs - 1
+        if place >= len(self._locks):
+            self._fit_locks(place + 1)
+        return place
 
     @property
     def locked(self) -> List[int]:
         """The indices of the locked nodes, rising."""
-        return sorted(self._locked)
+        return [self.inputs + 1 + at for at, byte in enumerate(self._locks) if byte]
 
     def lock(self, index: int) -> None:
         """Locks the node of this index, locked or not: no call turns it from then on."""
-        self._locked.add(self._named(index))
+        self._locks[self._lock_place(index)] = 1
 
     def unlock(self, index: int) -> None:
         """Frees the node of this index, locked or not."""
-        self._locked.discard(self._named(index))
+        self._locks[self._lock_place(index)] = 0
 
     def is_locked(self, index: int) -> bool:
         """Whether the node of this index is locked."""
-        return self._named(index) in self._locked
+        return self._locks[self._lock_place(index)] == 1
 
     def write(self) -> bytes:
         """The graph's tagged file, which has its locks."""
         lent = self._lent()
-        room = 18 + 22 * lent[1] + 7 * lent[6]
+        room = 18 + 22 * lent[1] + 7 * lent[2]
         buffer, length = _array(ctypes.c_uint8, room), _SIZE()
-        _accept(_write(*lent, buffer, room, ctypes.byref(length)))
-        return bytes(buffer[: length.value])
+        _call(_write, *lent, buffer, room, ctypes.byref(length))
+        return ctypes.string_at(buffer, length.value)
 
     def export_aiger(self) -> bytes:
         """The graph's ASCII AIGER text: four ANDs for each majority, three for each XOR. It says nothing of locks."""
@@ -399,73 +606,69 @@ class Graph:
         inputs, nodes, outputs = lent[:3]
         room = 30 + 5 * inputs + 84 * nodes + 7 * outputs
         scratch, buffer, length = _array(_U32, nodes), _array(ctypes.c_uint8, room), _SIZE()
-        _accept(_export(*lent, scratch, nodes, buffer, room, ctypes.byref(length)))
+        _call(_export, *lent, scratch, nodes, buffer, room, ctypes.byref(length))
         return ctypes.string_at(buffer, length.value)
 
     def evaluate(self, input_words: Sequence[int]) -> List[int]:
         """The outputs' words of 64 bits for one such word an input: each bit place is an assignment of its own."""
-        lent = self._lent()
         words, count = _numbers(input_words, _U64, "input_words")
+        lent = self._lent()
         scratch, results = _array(_U64, lent[1]), _array(_U64, lent[2])
-        _accept(_evaluate(*lent, words, count, scratch, lent[1], results, lent[2]))
+        _call(_evaluate, *lent, words, count, scratch, lent[1], results, lent[2])
         return results[: lent[2]]
 
     def complemented_edges(self) -> int:
         """How many edges are complemented, those from the constant among them."""
         count = _U32()
-        _accept(_count(*self._lent(), ctypes.byref(count)))
+        _call(_count, *self._lent(), ctypes.byref(count))
         return count.value
 
     def node_call(self, node: int) -> Saving:
         """Makes the best move of one node, given by its index; what it saves."""
-        lent, saving = self._lent(), (_I64 * 2)()
-        _accept(_node(*lent, _number(node, 32, "node"), saving))
-        self._take(lent)
+        number, saving = _number(node, 32, "node"), (_I64 * 2)()
+        _call(_node, *self._lent(), number, saving)
         return Saving(*saving)
 
     def pair_call(self, node: int, word: int) -> Saving:
         """Makes the best moves of a node and of the one that its word (1 to 3) names; what they save."""
-        lent, saving = self._lent(), (_I64 * 2)()
-        _accept(_pair(*lent, _number(node, 32, "node"), _number(word, 32, "word"), saving))
-        self._take(lent)
+        numbers, saving = [_number(node, 32, "node"), _number(word, 32, "word")], (_I64 * 2)()
+        _call(_pair, *self._lent(), *numbers, saving)
         return Saving(*saving)
 
     def trial(self, node: int, word: int, named_move: int, node_move: int) -> int:
         """What a move at the node that a word (1 to 3) names and one at the node would save; less than 0 where they lose. A move that a
         node's kind lacks, or any at a locked node, turns nothing."""
-        numbers = [("node", node), ("word", word), ("named_move", named_move), ("node_move", node_move)]
-        gain = _I64()
-        _accept(_trial(*self._lent(), *(_number(value, 32, what) for what, value in numbers), ctypes.byref(gain)))
+        given = [("node", node), ("word", word), ("named_move", named_move), ("node_move", node_move)]
+        numbers, gain = [_number(value, 32, what) for what, value in given], _I64()
+        _call(_trial, *self._lent(), *numbers, ctypes.byref(gain))
         return gain.value
 
     def tree_call(self, root: int) -> Saving:
         """Makes the best moves of the tree of a root; what they save."""
-        lent, saving = self._lent(), (_I64 * 2)()
+        number, saving = _number(root, 32, "root"), (_I64 * 2)()
+        lent = self._lent()
         room = 8 * lent[1]
-        _accept(_tree(*lent, _number(root, 32, "root"), _array(_U32, room), room, saving))
-        self._take(lent)
+        _call(_tree, *lent, number, _array(_U32, room), room, saving)
         return Saving(*saving)
 
     def preview(self, root: int) -> Preview:
         """What tree_call would save and which moves it would make; the graph stays as it is."""
-        lent, saving = self._lent(), (_I64 * 2)()
+        number, saving = _number(root, 32, "root"), (_I64 * 2)()
+        lent = self._lent()
         moves, room = _array(ctypes.c_uint8, lent[1]), 8 * lent[1]
-        number = _number(root, 32, "root")
-        _accept(_preview(*lent, number, moves, lent[1], _array(_U32, room), room, saving))
-        return Preview(Saving(*saving), bytes(moves[: lent[1]]))
+        _call(_preview, *lent, number, moves, lent[1], _array(_U32, room), room, saving)
+        return Preview(Saving(*saving), ctypes.string_at(moves, lent[1]))
 
     def many(self, indices: Iterable[int], moves: Union[bytes, Iterable[int]]) -> int:
         """Makes many moves, all of them or none: at each node of indices, which rise, the move at the same place. What they save, less
         than 0 where they lose. The moves of a Preview are made by the indices of all nodes."""
-        lent, saving = self._lent(), _I64()
-        _accept(_many(*lent, *_numbers(indices, _U32, "indices"), *_moves(moves), ctypes.byref(saving)))
-        self._take(lent)
+        listed, saving = [*_numbers(indices, _U32, "indices"), *_moves(moves)], _I64()
+        _call(_many, *self._lent(), *listed, ctypes.byref(saving))
         return saving.value
 
     def settle(self) -> Settled:
         """Makes rounds of tree, node and pair calls until one saves nothing."""
         lent, figures, savings = self._lent(), (_U32 * 3)(), (_I64 * 2)()
         room = 8 * lent[1]
-        _accept(_settle(*lent, _array(_U32, room), room, figures, savings))
-        self._take(lent)
+        _call(_settle, *lent, _array(_U32, room), room, figures, savings)
         return Settled(*figures, *savings)

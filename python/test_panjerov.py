@@ -1,16 +1,23 @@
-"""What the module does with good input and with bad: it answers or raises, and changes nothing where it raises.
+"""What the module does with good input and with bad: it answers or raises, and changes nothing where it raises. Beside it, what the
+header gives a caller in C.
 
 In the repository's root: python3 python/test_panjerov.py
 """
 
+import copy
+import pickle
 import random
+import subprocess
+import tempfile
+import threading
 import unittest
 from pathlib import Path
 
 import panjerov
-from panjerov import MARK, Graph, Refused
+from panjerov import MARK, Graph, Literals, Refused
 
-EXAMPLES = Path(__file__).resolve().parent.parent / "examples"
+ROOT = Path(__file__).resolve().parent.parent
+EXAMPLES = ROOT / "examples"
 MAJORITY = b"aag 7 3 0 1 4\n2\n4\n6\n15\n8 5 7\n10 2 9\n12 4 6\n14 11 13\n"
 XOR = b"aag 5 2 0 1 3\n2\n4\n11\n6 2 5\n8 3 4\n10 7 9\n"
 
@@ -704,9 +711,310 @@ class Bad(unittest.TestCase):
         graph.nodes.append(1)
         with self.assertRaises(ValueError):
             graph.settle()
-        graph.nodes[3:] = ["x", 1, 2]
+        for error, value in [(TypeError, ["x", 1, 2]), (TypeError, [True]), (ValueError, [2**32]), (ValueError, [3, -1])]:
+            with self.assertRaises(error):
+                graph.nodes[3:] = value
+            with self.assertRaises(error):
+                graph.nodes = value
+            with self.assertRaises(error):
+                graph.outputs += value[-1:] if error is ValueError else value
+        for error, call in [
+            (TypeError, lambda: graph.nodes.append("x")),
+            (TypeError, lambda: graph.nodes.insert(0, 1.0)),
+            (ValueError, lambda: graph.nodes.insert(4, -1)),
+            (IndexError, lambda: graph.nodes[4]),
+            (IndexError, lambda: graph.nodes[-5]),
+            (TypeError, lambda: graph.nodes["0"]),
+            (TypeError, lambda: graph.nodes + 1),
+        ]:
+            with self.assertRaises(error):
+                call()
+        self.assertEqual((graph.nodes, graph.outputs), ([3, 5, 7, 1], [9]))
+        graph.inputs = "3"
+        del graph.nodes[3]
         with self.assertRaises(TypeError):
             graph.settle()
+
+
+def chain(nodes: int, outputs: int) -> Graph:
+    """So many nodes, every third an XOR, and so many outputs: bits of all kinds, over several words."""
+    words = []
+    for at in range(nodes):
+        words += [2 * at + 4 + at % 2, 2 + at // 2 % 4, MARK if at % 3 == 2 else at // 3 % 6]
+    return Graph(2, words, [2 * (at % (nodes + 3)) + at % 2 for at in range(outputs)])
+
+
+def kept(graph: Graph) -> tuple:
+    """All that a call is lent of a graph, copied."""
+    return tuple(array[:] for table in (graph.nodes, graph.outputs) for array in (table.indices, table.bits)) + (graph.locked,)
+
+
+def every_call(graph: Graph) -> list:
+    """Each call, to be made. The node that is named is the last, a root."""
+    last = graph.inputs + len(graph.nodes) // 3
+    return [
+        graph.complemented_edges,
+        graph.write,
+        graph.export_aiger,
+        graph.settle,
+        lambda: graph.evaluate([0] * graph.inputs),
+        lambda: graph.node_call(last),
+        lambda: graph.pair_call(last, 1),
+        lambda: graph.trial(last, 1, 1, 1),
+        lambda: graph.tree_call(last),
+        lambda: graph.preview(last),
+        lambda: graph.many([last], [1]),
+    ]
+
+
+class Packed(unittest.TestCase):
+    """Tables as they are lent: indices, and complement bits in words of 64."""
+
+    def all_refused(self, number: int, graph: Graph, what: str = "") -> None:
+        before = kept(graph)
+        for call in every_call(graph):
+            with self.assertRaises(Refused, msg=what) as caught:
+                call()
+            self.assertEqual(caught.exception.number, number, what)
+            self.assertEqual(kept(graph), before, what)
+
+    def test_literals(self) -> None:
+        graph = Graph(5, [3, 5, 6, 13, 8, 11], [14])
+        self.assertEqual((list(graph.nodes.indices), list(graph.nodes.bits)), ([1, 2, 3, 6, 4, 5], [0b101011]))
+        self.assertEqual((list(graph.outputs.indices), list(graph.outputs.bits)), ([7], [0]))
+        xor = Graph(2, [3, 4, MARK], [7])
+        self.assertEqual((list(xor.nodes.indices), list(xor.nodes.bits)), ([1, 2, MARK], [1]))
+        self.assertEqual((xor.nodes[2], xor.nodes[-1], xor.nodes[:], repr(xor.nodes)), (MARK, MARK, [3, 4, MARK], "[3, 4, 4294967295]"))
+        self.assertEqual((list(Literals().indices), list(Literals().bits)), ([], []))
+        self.assertEqual(list(Literals([1] * 65).bits), [2**64 - 1, 1])
+
+    def test_as_a_list(self) -> None:
+        """Whatever is done to literals, they are what a list would be, and no bit is left elsewhere."""
+        generator = random.Random(11)
+        for _ in range(60):
+            due = [generator.choice([MARK, generator.randrange(2**32 - 2)]) for _ in range(generator.randrange(200))]
+            mine = Literals(due)
+            for _ in range(30):
+                some = [generator.choice([MARK, generator.randrange(2**32 - 2)]) for _ in range(generator.randrange(5))]
+                at, to = sorted(generator.randrange(-3, len(due) + 3) for _ in range(2))
+                change = generator.choice([
+                    lambda words: words.append(7),
+                    lambda words: words.extend(some),
+                    lambda words: words.insert(at, 9),
+                    lambda words: words.__setitem__(slice(at, to), some),
+                    lambda words: words.__delitem__(slice(at, to, 2)),
+                    lambda words: words.__setitem__(at, 11) if -len(words) <= at < len(words) else words.reverse(),
+                    lambda words: words.pop() if len(words) else words.clear(),
+                    lambda words: words.remove(words[0]) if len(words) else words.__iadd__(some),
+                ])
+                change(due)
+                change(mine)
+                fresh = Literals(due)
+                self.assertEqual((mine, list(mine), mine[at:to], len(mine)), (fresh, due, due[at:to], len(due)))
+                self.assertEqual((mine.indices, mine.bits), (fresh.indices, fresh.bits))
+            self.assertEqual((mine + some, some + mine, mine.count(MARK)), (due + some, some + due, due.count(MARK)))
+            mine.clear()
+            self.assertEqual((mine, len(mine.bits)), ([], 0))
+
+    def test_same(self) -> None:
+        mine = Literals([3, MARK])
+        self.assertTrue(mine == [3, MARK] and [3, MARK] == mine and mine == Literals([3, MARK]))
+        self.assertTrue(mine != [2, MARK] and mine != Literals([2, MARK]) and mine != Literals([3]) and mine != (3, MARK))
+        graph = chain(30, 3)
+        graph.lock(9)
+        for other in [copy.copy(graph), copy.deepcopy(graph), pickle.loads(pickle.dumps(graph)), eval(repr(graph))]:
+            self.assertEqual(other, graph)
+            other.settle()
+            other.lock(8)
+            other.nodes.append(0)
+            self.assertEqual((graph.nodes, graph.locked), (chain(30, 3).nodes, [9]))
+
+    def test_shown_as_it_is(self) -> None:
+        graph = p1()
+        nodes, outputs = graph.nodes, graph.outputs
+        graph.settle()
+        self.assertEqual((nodes, outputs), ([2, 4, 6], [8]))
+        nodes[0], outputs[0] = 3, 9
+        self.assertEqual((graph, graph.complemented_edges()), (Graph(3, [3, 4, 6], [9]), 2))
+        graph.nodes = nodes[:]
+        nodes[0] = 2
+        self.assertEqual(graph.nodes, [3, 4, 6])
+
+    def test_stray_bits(self) -> None:
+        for graph in [Graph(5, [3, 5, 6, 13, 8, 11], [14]), chain(22, 65), chain(43, 1)]:
+            for table in (graph.nodes, graph.outputs):
+                for place in range(len(table), 64 * len(table.bits)):
+                    table.bits[place // 64] |= 1 << place % 64
+                    self.all_refused(5, graph, f"bit {place}")
+                    table.bits[place // 64] ^= 1 << place % 64
+            self.assertEqual(graph.complemented_edges(), sum(bin(word).count("1") for word in graph.nodes.bits + graph.outputs.bits))
+
+    def test_bits_at_marks(self) -> None:
+        graph = chain(43, 3)
+        for place in range(8, 129, 9):
+            self.assertEqual(graph.nodes[place], MARK)
+            graph.nodes.bits[place // 64] |= 1 << place % 64
+            self.all_refused(5, graph, f"the mark at {place}")
+            with self.assertRaises(Refused):
+                graph.nodes[place]
+            graph.nodes.bits[place // 64] ^= 1 << place % 64
+        self.assertEqual(graph, chain(43, 3))
+
+    def test_indices_too_large(self) -> None:
+        """Refused with either bit, also where twice the index would wrap to one that is allowed."""
+        for index in [2**31 - 2, 2**31 - 1, 2**31, 2**31 + 1, MARK - 1, MARK]:
+            for which, place, bit in [(w, p, b) for w, many in [(0, 66), (1, 2)] for p in range(many) for b in (0, 1)]:
+                graph = chain(22, 2)
+                table = (graph.nodes, graph.outputs)[which]
+                table.indices[place] = index
+                table.bits[place // 64] = table.bits[place // 64] & ~(1 << place % 64) | bit << place % 64
+                if (index, bit, which, place % 3) != (MARK, 0, 0, 2):
+                    self.all_refused(5, graph, f"index {index} with bit {bit} at place {place}")
+                else:
+                    self.assertGreater(graph.complemented_edges(), 0)
+                if MARK > index >= 2**31 - 1 or (index, bit) == (MARK, 1):
+                    with self.assertRaises(Refused):
+                        table[place]
+                    self.assertIn(str(index), repr(graph))
+
+    def test_too_few_words(self) -> None:
+        for graph in [Graph(5, [3, 5, 6, 13, 8, 11], [14]), chain(22, 65), chain(64, 64)]:
+            for table in (graph.nodes, graph.outputs):
+                last = table.bits.pop()
+                self.all_refused(4, graph)
+                for call in [lambda: list(table), lambda: table[-1], lambda: table.append(2), lambda: table.__setitem__(-1, 2)]:
+                    before = kept(graph)
+                    with self.assertRaises(Refused) as caught:
+                        call()
+                    self.assertEqual((caught.exception.number, kept(graph)), (4, before))
+                # Bits that are no graph's are told later, limits before.
+                if graph.nodes.bits:
+                    graph.nodes.bits[0] = 2**64 - 1
+                self.all_refused(4, graph)
+                graph.inputs += 4097
+                self.all_refused(3, graph)
+                graph.inputs -= 4097
+                table.bits.append(last)
+
+    def test_words_past_the_last(self) -> None:
+        """They change no answer and stay, as long as no literal needs them."""
+        for make in [lambda: chain(22, 65), lambda: chain(64, 64), lambda: Graph(2, [], [])]:
+            for at in range(11):
+                short, long = make(), make()
+                long.nodes.bits.extend([2**64 - 1, 5])
+                long.outputs.bits.append(7)
+                told = []
+                for graph in (short, long):
+                    try:
+                        told.append(every_call(graph)[at]())
+                    except Refused as refused:
+                        told.append(refused.number)
+                self.assertEqual((told[0], short), (told[1], long))
+                self.assertEqual((list(long.nodes.bits[-2:]), long.outputs.bits[-1]), ([2**64 - 1, 5], 7))
+            long.nodes.append(3)
+            # A word that is needed now has no bit but the literal's.
+            self.assertEqual(long.nodes, Literals(short.nodes + [3]))
+
+    def test_locks_and_nodes(self) -> None:
+        """Locks are found again where nodes have come or gone."""
+        graph = p1()
+        graph.nodes += [3, 5, 8]
+        self.assertEqual((graph.is_locked(5), graph.locked), (False, []))
+        graph.lock(5)
+        graph.nodes += [3, 5, MARK]
+        self.assertEqual((graph.locked, graph.complemented_edges()), ([5], 8))
+        self.assertEqual(panjerov.load(graph.write()), Graph(3, [3, 5, 7, 3, 5, 8, 3, 5, MARK], [9], [5]))
+        del graph.nodes[6:]
+        self.assertEqual((graph.node_call(5), graph.locked), ((0, 0), [5]))
+        del graph.nodes[3:]
+        with self.assertRaises(ValueError):
+            graph.settle()
+        self.assertEqual(graph.nodes, [3, 5, 7])
+
+    def test_changed_while_given(self) -> None:
+        """What a caller gives is looked at before the graph, and may change it; a refusal leaves a graph that may be changed."""
+        graph = p1()
+
+        def indices():
+            graph.nodes.extend([3, 5, 8] * 50)
+            yield 4
+
+        # Four edges are plain then, and fifty readers complemented.
+        self.assertEqual((graph.many(indices(), [1]), len(graph.nodes)), (-46, 153))
+        self.assertEqual(graph, Graph(3, [2, 4, 6] + [3, 5, 9] * 50, [8]))
+        try:
+            graph.node_call(3)
+        except Refused:
+            graph.nodes.append(2)
+            graph.outputs.append(2)
+            graph.lock(4)
+        self.assertEqual((len(graph.nodes), len(graph.outputs)), (154, 2))
+
+    def test_threads(self) -> None:
+        """One thread changes indices and lengths while another makes calls: each call is made or raises."""
+        graph, done = chain(2000, 9), threading.Event()
+
+        def changes() -> None:
+            while not done.is_set():
+                graph.nodes.indices[3000] = MARK - 1
+                graph.nodes.indices[3000] = 0
+                try:
+                    graph.nodes.extend([0] * 300)
+                except BufferError:
+                    pass  # a call is about to be made
+                graph.nodes = graph.nodes[:6000]
+
+        thread = threading.Thread(target=changes)
+        thread.start()
+        told = set()
+        for _ in range(300):
+            try:
+                graph.settle()
+                told.add(0)
+            except (Refused, ValueError) as error:
+                told.add(getattr(error, "number", ValueError))
+        done.set()
+        thread.join()
+        self.assertTrue(told <= {0, 4, 5, ValueError} and 0 in told, told)
+
+
+class Header(unittest.TestCase):
+    """What include/reducer.h gives a caller in C."""
+
+    def run_c(self, source: Path) -> str:
+        with tempfile.TemporaryDirectory() as folder:
+            program, library = Path(folder) / "program", ROOT / "target" / "staticlib" / "libreducer.a"
+            words = ["gcc", "-std=c99", "-Wall", "-Wextra", "-pedantic", "-Werror", f"-I{ROOT / 'include'}"]
+            subprocess.run([*words, str(source), str(library), "-o", str(program)], check=True)
+            return subprocess.run([str(program)], check=True, capture_output=True, text=True).stdout
+
+    def test_example(self) -> None:
+        told = "before 4 after 0 rounds 2\nown 3 others 1\nnode 2 4 6 out 8\n"
+        self.assertEqual(self.run_c(EXAMPLES / "settle_p1.c"), told)
+
+    def test_literals(self) -> None:
+        """Set and read at places of two words, over bits that were set before."""
+        lines = [
+            "#include <stdio.h>",
+            '#include "reducer.h"',
+            "int main(void) {",
+            "    uint32_t table[66] = {0};",
+            "    uint64_t bits[REDUCER_BIT_WORDS(66)] = {UINT64_MAX, 0};",
+            "    const uint32_t set[6][2] = {{0, 8}, {1, REDUCER_MARK}, {2, 4294967293u}, {63, 6}, {64, 5}, {65, REDUCER_MARK}};",
+            "    for (int k = 0; k < 6; k++) reducer_set_literal(table, bits, set[k][0], set[k][1]);",
+            '    for (int k = 0; k < 6; k++) printf("%u ", (unsigned)reducer_literal(table, bits, set[k][0]));',
+            '    printf("%u %u %u ", (unsigned)table[1], (unsigned)table[2], (unsigned)table[64]);',
+            '    printf("%llx %llx ", (unsigned long long)bits[0], (unsigned long long)bits[1]);',
+            '    printf("%d %d %d", (int)REDUCER_BIT_WORDS(0), (int)REDUCER_BIT_WORDS(64), (int)REDUCER_BIT_WORDS(300000));',
+            "    return 0;",
+            "}",
+        ]
+        with tempfile.TemporaryDirectory() as folder:
+            source = Path(folder) / "literals.c"
+            source.write_text("\n".join(lines) + "\n")
+            told = self.run_c(source)
+        literals = f"8 {MARK} 4294967293 6 5 {MARK}"
+        self.assertEqual(told, f"{literals} {MARK} 2147483646 2 7ffffffffffffffc 1 0 1 4688")
 
 
 if __name__ == "__main__":

@@ -10,7 +10,7 @@ fn main() -> Result<(), Refusal> {
     let settled = graph.settle()?;
     println!("before {} after {} rounds {}", settled.before, settled.after, settled.rounds);
     println!("own {} others {}", settled.own, settled.others);
-    println!("node {:?} out {:?}", graph.node_table, graph.output_table);
+    println!("node {:?} out {:?}", graph.node_literals()?, graph.output_literals()?);
     assert_eq!(graph.evaluate(&[0xF0, 0xCC, 0xAA])?, before);
     Ok(())
 }

@@ -1,8 +1,18 @@
-//! The calls on slices that the caller lends. Only the graph's part of the tables and of the locks is looked at; what stands after
-//! it is left, and a refused call leaves everything. The locks have a byte a node: 1 for locked, 0 for free.
+//! The calls on slices that the caller lends.
+//!
+//! A table is lent as two slices: the indices of its literals, or [`MARK`], and [`crate::bit_words`] words with their complement bits.
+//! That of place j, from 0, is bit j % 64 of word j / 64. The node table has three places a node by rising index, the output table one
+//! an output. At a mark, and past the last literal in the word that it is in, a bit is 0. Moves turn bits alone: indices are written
+//! only by what fills tables. The locks have a byte a node: 1 for locked, 0 for free.
+//!
+//! Only the graph's part of tables, bits and locks is looked at; what stands after it is left, and a refused call leaves everything.
+//! [`literal`] and [`set_literal`] read and set one place.
+
+// What the functions of the C interface take is what these take.
+#![allow(clippy::too_many_arguments)]
 
 use crate::raw;
-use crate::{Refusal, ReplayRefusal, Saving, Settled, Size};
+use crate::{Refusal, ReplayRefusal, Saving, Settled, Size, MARK};
 
 /// The value where the number is 0, else its refusal.
 pub(crate) fn answer<T>(number: u32, value: T) -> Result<T, Refusal> {
@@ -12,8 +22,44 @@ pub(crate) fn answer<T>(number: u32, value: T) -> Result<T, Refusal> {
     }
 }
 
+fn size_of([inputs, nodes, outputs]: [u32; 3]) -> Size {
+    Size { inputs, nodes, outputs }
+}
+
 fn parted([own, others]: [i64; 2]) -> Saving {
     Saving { own, others }
+}
+
+fn replay_answer(number: u32, size: Size) -> Result<Size, ReplayRefusal> {
+    match number {
+        101 => Err(ReplayRefusal::LeftOver),
+        102 => Err(ReplayRefusal::UnknownKind),
+        105 => Err(ReplayRefusal::PartOutside),
+        _ => answer(number, size).map_err(ReplayRefusal::Refused),
+    }
+}
+
+/// The literal at a place of a table, 2 * index + complement bit, or [`MARK`]. A place that the table or its bits lack is refused, and so
+/// is what no literal says: a mark with its bit set, and an index that is too large.
+pub fn literal(table: &[u32], bits: &[u64], place: usize) -> Result<u32, Refusal> {
+    let index = *table.get(place).ok_or(Refusal::ShortSlice)?;
+    let word = *bits.get(place / 64).ok_or(Refusal::ShortSlice)?;
+    match (index, (word >> (place % 64) & 1) as u32) {
+        (MARK, 0) => Ok(MARK),
+        (index, bit) if index < MARK / 2 => Ok(2 * index + bit),
+        _ => Err(Refusal::BadLiteral),
+    }
+}
+
+/// Sets a place of a table to a literal, 2 * index + complement bit, or to [`MARK`]. Where the table or its bits lack the place, nothing
+/// has changed.
+pub fn set_literal(table: &mut [u32], bits: &mut [u64], place: usize, literal: u32) -> Result<(), Refusal> {
+    let index = table.get_mut(place).ok_or(Refusal::ShortSlice)?;
+    let word = bits.get_mut(place / 64).ok_or(Refusal::ShortSlice)?;
+    let (stored, bit) = if literal == MARK { (MARK, 0) } else { (literal / 2, u64::from(literal % 2)) };
+    *index = stored;
+    *word = *word & !(1 << (place % 64)) | bit << (place % 64);
+    Ok(())
 }
 
 /// The payload of the field at the front of the bytes.
@@ -24,8 +70,15 @@ pub fn field(bytes: &[u8]) -> Result<&[u8], Refusal> {
     Ok(&bytes[payload[0]..payload[0] + payload[1]])
 }
 
-/// Fills the front of both tables and of the locks from a tagged file.
-pub fn load(file: &[u8], node_table: &mut [u32], output_table: &mut [u32], locks: &mut [u8]) -> Result<Size, Refusal> {
+/// Fills the front of both tables, of their bits and of the locks from a tagged file.
+pub fn load(
+    file: &[u8],
+    node_table: &mut [u32],
+    node_bits: &mut [u64],
+    output_table: &mut [u32],
+    output_bits: &mut [u64],
+    locks: &mut [u8],
+) -> Result<Size, Refusal> {
     let mut numbers = [0u32; 3];
     let number = unsafe {
         raw::reducer_load(
@@ -33,21 +86,27 @@ pub fn load(file: &[u8], node_table: &mut [u32], output_table: &mut [u32], locks
             file.len(),
             node_table.as_mut_ptr(),
             node_table.len(),
+            node_bits.as_mut_ptr(),
+            node_bits.len(),
             output_table.as_mut_ptr(),
             output_table.len(),
+            output_bits.as_mut_ptr(),
+            output_bits.len(),
             locks.as_mut_ptr(),
             locks.len(),
             &mut numbers,
         )
     };
-    answer(number, Size { inputs: numbers[0], nodes: numbers[1], outputs: numbers[2] })
+    answer(number, size_of(numbers))
 }
 
 /// Fills the front of the buffer with the graph's file; the file's length.
 pub fn write(
     size: Size,
     node_table: &[u32],
+    node_bits: &[u64],
     output_table: &[u32],
+    output_bits: &[u64],
     locks: &[u8],
     buffer: &mut [u8],
 ) -> Result<usize, Refusal> {
@@ -59,8 +118,12 @@ pub fn write(
             size.outputs,
             node_table.as_ptr(),
             node_table.len(),
+            node_bits.as_ptr(),
+            node_bits.len(),
             output_table.as_ptr(),
             output_table.len(),
+            output_bits.as_ptr(),
+            output_bits.len(),
             locks.as_ptr(),
             locks.len(),
             buffer.as_mut_ptr(),
@@ -71,11 +134,13 @@ pub fn write(
     answer(number, length)
 }
 
-/// Fills the front of both tables and of the locks from an ASCII AIGER text: every node is free.
+/// Fills the front of both tables, of their bits and of the locks from an ASCII AIGER text: every node is free.
 pub fn import(
     text: &[u8],
     node_table: &mut [u32],
+    node_bits: &mut [u64],
     output_table: &mut [u32],
+    output_bits: &mut [u64],
     locks: &mut [u8],
 ) -> Result<Size, Refusal> {
     let mut numbers = [0u32; 3];
@@ -85,21 +150,27 @@ pub fn import(
             text.len(),
             node_table.as_mut_ptr(),
             node_table.len(),
+            node_bits.as_mut_ptr(),
+            node_bits.len(),
             output_table.as_mut_ptr(),
             output_table.len(),
+            output_bits.as_mut_ptr(),
+            output_bits.len(),
             locks.as_mut_ptr(),
             locks.len(),
             &mut numbers,
         )
     };
-    answer(number, Size { inputs: numbers[0], nodes: numbers[1], outputs: numbers[2] })
+    answer(number, size_of(numbers))
 }
 
 /// Fills the front of the buffer with the graph's ASCII AIGER text; the text's length. Scratch is one word a node.
 pub fn export(
     size: Size,
     node_table: &[u32],
+    node_bits: &[u64],
     output_table: &[u32],
+    output_bits: &[u64],
     locks: &[u8],
     scratch: &mut [u32],
     buffer: &mut [u8],
@@ -112,8 +183,12 @@ pub fn export(
             size.outputs,
             node_table.as_ptr(),
             node_table.len(),
+            node_bits.as_ptr(),
+            node_bits.len(),
             output_table.as_ptr(),
             output_table.len(),
+            output_bits.as_ptr(),
+            output_bits.len(),
             locks.as_ptr(),
             locks.len(),
             scratch.as_mut_ptr(),
@@ -130,7 +205,9 @@ pub fn export(
 pub fn evaluate(
     size: Size,
     node_table: &[u32],
+    node_bits: &[u64],
     output_table: &[u32],
+    output_bits: &[u64],
     locks: &[u8],
     input_words: &[u64],
     scratch: &mut [u64],
@@ -143,8 +220,12 @@ pub fn evaluate(
             size.outputs,
             node_table.as_ptr(),
             node_table.len(),
+            node_bits.as_ptr(),
+            node_bits.len(),
             output_table.as_ptr(),
             output_table.len(),
+            output_bits.as_ptr(),
+            output_bits.len(),
             locks.as_ptr(),
             locks.len(),
             input_words.as_ptr(),
@@ -159,7 +240,14 @@ pub fn evaluate(
 }
 
 /// How many edges are complemented.
-pub fn complemented_edges(size: Size, node_table: &[u32], output_table: &[u32], locks: &[u8]) -> Result<u32, Refusal> {
+pub fn complemented_edges(
+    size: Size,
+    node_table: &[u32],
+    node_bits: &[u64],
+    output_table: &[u32],
+    output_bits: &[u64],
+    locks: &[u8],
+) -> Result<u32, Refusal> {
     let mut count = 0u32;
     let number = unsafe {
         raw::reducer_count(
@@ -168,8 +256,12 @@ pub fn complemented_edges(size: Size, node_table: &[u32], output_table: &[u32], 
             size.outputs,
             node_table.as_ptr(),
             node_table.len(),
+            node_bits.as_ptr(),
+            node_bits.len(),
             output_table.as_ptr(),
             output_table.len(),
+            output_bits.as_ptr(),
+            output_bits.len(),
             locks.as_ptr(),
             locks.len(),
             &mut count,
@@ -181,8 +273,10 @@ pub fn complemented_edges(size: Size, node_table: &[u32], output_table: &[u32], 
 /// The best move of one node; what it saves.
 pub fn node_call(
     size: Size,
-    node_table: &mut [u32],
-    output_table: &mut [u32],
+    node_table: &[u32],
+    node_bits: &mut [u64],
+    output_table: &[u32],
+    output_bits: &mut [u64],
     locks: &[u8],
     node: u32,
 ) -> Result<Saving, Refusal> {
@@ -192,10 +286,14 @@ pub fn node_call(
             size.inputs,
             size.nodes,
             size.outputs,
-            node_table.as_mut_ptr(),
+            node_table.as_ptr(),
             node_table.len(),
-            output_table.as_mut_ptr(),
+            node_bits.as_mut_ptr(),
+            node_bits.len(),
+            output_table.as_ptr(),
             output_table.len(),
+            output_bits.as_mut_ptr(),
+            output_bits.len(),
             locks.as_ptr(),
             locks.len(),
             node,
@@ -208,8 +306,10 @@ pub fn node_call(
 /// The best moves of a node and of the one that its word (1 to 3) names; what they save.
 pub fn pair_call(
     size: Size,
-    node_table: &mut [u32],
-    output_table: &mut [u32],
+    node_table: &[u32],
+    node_bits: &mut [u64],
+    output_table: &[u32],
+    output_bits: &mut [u64],
     locks: &[u8],
     node: u32,
     word: u32,
@@ -220,10 +320,14 @@ pub fn pair_call(
             size.inputs,
             size.nodes,
             size.outputs,
-            node_table.as_mut_ptr(),
+            node_table.as_ptr(),
             node_table.len(),
-            output_table.as_mut_ptr(),
+            node_bits.as_mut_ptr(),
+            node_bits.len(),
+            output_table.as_ptr(),
             output_table.len(),
+            output_bits.as_mut_ptr(),
+            output_bits.len(),
             locks.as_ptr(),
             locks.len(),
             node,
@@ -239,7 +343,9 @@ pub fn pair_call(
 pub fn trial(
     size: Size,
     node_table: &[u32],
+    node_bits: &[u64],
     output_table: &[u32],
+    output_bits: &[u64],
     locks: &[u8],
     pair: (u32, u32),
     moves: (u32, u32),
@@ -252,8 +358,12 @@ pub fn trial(
             size.outputs,
             node_table.as_ptr(),
             node_table.len(),
+            node_bits.as_ptr(),
+            node_bits.len(),
             output_table.as_ptr(),
             output_table.len(),
+            output_bits.as_ptr(),
+            output_bits.len(),
             locks.as_ptr(),
             locks.len(),
             pair.0,
@@ -269,8 +379,10 @@ pub fn trial(
 /// The best moves of the tree of a root; what they save. Scratch is [`crate::scratch_words`] long.
 pub fn tree_call(
     size: Size,
-    node_table: &mut [u32],
-    output_table: &mut [u32],
+    node_table: &[u32],
+    node_bits: &mut [u64],
+    output_table: &[u32],
+    output_bits: &mut [u64],
     locks: &[u8],
     root: u32,
     scratch: &mut [u32],
@@ -281,10 +393,14 @@ pub fn tree_call(
             size.inputs,
             size.nodes,
             size.outputs,
-            node_table.as_mut_ptr(),
+            node_table.as_ptr(),
             node_table.len(),
-            output_table.as_mut_ptr(),
+            node_bits.as_mut_ptr(),
+            node_bits.len(),
+            output_table.as_ptr(),
             output_table.len(),
+            output_bits.as_mut_ptr(),
+            output_bits.len(),
             locks.as_ptr(),
             locks.len(),
             root,
@@ -301,7 +417,9 @@ pub fn tree_call(
 pub fn preview(
     size: Size,
     node_table: &[u32],
+    node_bits: &[u64],
     output_table: &[u32],
+    output_bits: &[u64],
     locks: &[u8],
     root: u32,
     moves: &mut [u8],
@@ -315,8 +433,12 @@ pub fn preview(
             size.outputs,
             node_table.as_ptr(),
             node_table.len(),
+            node_bits.as_ptr(),
+            node_bits.len(),
             output_table.as_ptr(),
             output_table.len(),
+            output_bits.as_ptr(),
+            output_bits.len(),
             locks.as_ptr(),
             locks.len(),
             root,
@@ -333,8 +455,10 @@ pub fn preview(
 /// Rounds of tree, node and pair calls until one saves nothing. Scratch is [`crate::scratch_words`] long.
 pub fn settle(
     size: Size,
-    node_table: &mut [u32],
-    output_table: &mut [u32],
+    node_table: &[u32],
+    node_bits: &mut [u64],
+    output_table: &[u32],
+    output_bits: &mut [u64],
     locks: &[u8],
     scratch: &mut [u32],
 ) -> Result<Settled, Refusal> {
@@ -344,10 +468,14 @@ pub fn settle(
             size.inputs,
             size.nodes,
             size.outputs,
-            node_table.as_mut_ptr(),
+            node_table.as_ptr(),
             node_table.len(),
-            output_table.as_mut_ptr(),
+            node_bits.as_mut_ptr(),
+            node_bits.len(),
+            output_table.as_ptr(),
             output_table.len(),
+            output_bits.as_mut_ptr(),
+            output_bits.len(),
             locks.as_ptr(),
             locks.len(),
             scratch.as_mut_ptr(),
@@ -365,8 +493,10 @@ pub fn settle(
 /// they lose. Moves past the list's end are not read.
 pub fn many(
     size: Size,
-    node_table: &mut [u32],
-    output_table: &mut [u32],
+    node_table: &[u32],
+    node_bits: &mut [u64],
+    output_table: &[u32],
+    output_bits: &mut [u64],
     locks: &[u8],
     list: &[u32],
     moves: &[u8],
@@ -377,10 +507,14 @@ pub fn many(
             size.inputs,
             size.nodes,
             size.outputs,
-            node_table.as_mut_ptr(),
+            node_table.as_ptr(),
             node_table.len(),
-            output_table.as_mut_ptr(),
+            node_bits.as_mut_ptr(),
+            node_bits.len(),
+            output_table.as_ptr(),
             output_table.len(),
+            output_bits.as_mut_ptr(),
+            output_bits.len(),
             locks.as_ptr(),
             locks.len(),
             list.as_ptr(),
@@ -396,12 +530,13 @@ pub fn many(
 /// Loads a file and makes a list of calls, three words each ([`crate::Call::words`]), on the loaded graph and locks; many calls take
 /// parts of `list` and `moves`. The answers are three words a call: the refusal's number, or 0, and what the call saves, own and
 /// others; many moves save one number, and 0 after it.
-#[allow(clippy::too_many_arguments)]
 pub fn replay(
     file: &[u8],
     calls: &[u32],
     node_table: &mut [u32],
+    node_bits: &mut [u64],
     output_table: &mut [u32],
+    output_bits: &mut [u64],
     locks: &mut [u8],
     list: &[u32],
     moves: &[u8],
@@ -417,8 +552,12 @@ pub fn replay(
             calls.len(),
             node_table.as_mut_ptr(),
             node_table.len(),
+            node_bits.as_mut_ptr(),
+            node_bits.len(),
             output_table.as_mut_ptr(),
             output_table.len(),
+            output_bits.as_mut_ptr(),
+            output_bits.len(),
             locks.as_mut_ptr(),
             locks.len(),
             list.as_ptr(),
@@ -432,11 +571,5 @@ pub fn replay(
             &mut numbers,
         )
     };
-    match number {
-        101 => Err(ReplayRefusal::LeftOver),
-        102 => Err(ReplayRefusal::UnknownKind),
-        105 => Err(ReplayRefusal::PartOutside),
-        _ => answer(number, Size { inputs: numbers[0], nodes: numbers[1], outputs: numbers[2] })
-            .map_err(ReplayRefusal::Refused),
-    }
+    replay_answer(number, size_of(numbers))
 }

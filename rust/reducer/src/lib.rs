@@ -20,6 +20,9 @@
 //!
 //! [`Graph::many`] makes moves that the caller has chosen, all of them or none.
 //!
+//! A literal, as a file has it, is twice an index, and one more if it is complemented: [`Graph::new`] takes a graph so, and
+//! [`Graph::node`] and [`Graph::output`] give it so. Its tables are kept as they are lent, indices and complement bits apart.
+//!
 //! The module [`lent`] has the same calls on slices that the caller lends, without a heap.
 
 use std::fmt;
@@ -27,7 +30,7 @@ use std::fmt;
 pub mod lent;
 pub mod raw;
 
-/// The third word of an XOR node.
+/// What stands in the node table as the third index of an XOR, and in lists of literals as its third literal.
 pub const MARK: u32 = 4_294_967_295;
 /// The most inputs that a graph may have.
 pub const MOST_INPUTS: u32 = 4_096;
@@ -46,9 +49,9 @@ pub enum Refusal {
     WrongField = 2,
     /// There are too many inputs, nodes or outputs.
     OverLimit = 3,
-    /// A lent table, slice of locks, input or result slice is too short, or there are fewer moves than nodes.
+    /// A lent table, its words of bits, slice of locks, input or result slice is too short, or there are fewer moves than nodes.
     ShortSlice = 4,
-    /// A literal names an index that is not allowed there.
+    /// A literal names an index that is not allowed there, or a bit is set at a mark or past the last literal in the word that it is in.
     BadLiteral = 5,
     /// There are bytes after the end field.
     ExtraBytes = 6,
@@ -154,6 +157,23 @@ impl Saving {
     }
 }
 
+/// A node's kind, with its literals.
+#[derive(Clone, Copy, Debug, PartialEq, Eq, Hash)]
+pub enum Node {
+    Majority([u32; 3]),
+    Xor([u32; 2]),
+}
+
+impl Node {
+    /// Three of a majority, two of an XOR.
+    pub fn literals(&self) -> &[u32] {
+        match self {
+            Node::Majority(literals) => literals,
+            Node::Xor(literals) => literals,
+        }
+    }
+}
+
 /// What settling answers.
 #[derive(Clone, Copy, Debug, PartialEq, Eq, Hash)]
 pub struct Settled {
@@ -224,6 +244,11 @@ pub enum ReplayRefusal {
     Refused(Refusal),
 }
 
+/// How many words of complement bits so many literals have.
+pub fn bit_words(literals: usize) -> usize {
+    literals.div_ceil(64)
+}
+
 /// How many words of scratch the tree call, its preview and settling need for so many nodes.
 pub fn scratch_words(nodes: u32) -> usize {
     8 * nodes as usize
@@ -239,16 +264,20 @@ pub fn text_bytes(size: Size) -> usize {
     30 + 5 * size.inputs as usize + 84 * size.nodes as usize + 7 * size.outputs as usize
 }
 
-/// A graph that owns its tables and locks.
+/// A graph that owns its tables and locks, in the form in which the module [`lent`] takes them.
 ///
 /// The fields may be set to anything: a call on what is no graph is refused.
 #[derive(Clone, Debug, Default, PartialEq, Eq)]
 pub struct Graph {
     pub size: Size,
-    /// Three words a node.
+    /// Three indices a node, the third of an XOR being [`MARK`].
     pub node_table: Vec<u32>,
-    /// One literal an output.
+    /// Their complement bits: that of place j at bit j % 64 of word j / 64.
+    pub node_bits: Vec<u64>,
+    /// One index an output.
     pub output_table: Vec<u32>,
+    /// Their complement bits.
+    pub output_bits: Vec<u64>,
     /// A byte a node: 1 for locked, 0 for free. No call changes them but [`Graph::lock`] and [`Graph::unlock`].
     pub locks: Vec<u8>,
 }
@@ -269,20 +298,89 @@ fn header_number(text: &[u8], at: usize, most: u32) -> usize {
     number.min(most) as usize
 }
 
+/// Makes a table of literals one of indices, and gives its complement bits.
+fn packed(table: &mut [u32]) -> Vec<u64> {
+    let mut bits = vec![0; bit_words(table.len())];
+    for (place, word) in table.iter_mut().enumerate().filter(|(_, word)| **word != MARK) {
+        bits[place / 64] |= u64::from(*word % 2) << (place % 64);
+        *word /= 2;
+    }
+    bits
+}
+
+/// The first so many literals of a table.
+fn literals(table: &[u32], bits: &[u64], many: usize) -> Result<Vec<u32>, Refusal> {
+    (0..many).map(|place| lent::literal(table, bits, place)).collect()
+}
+
 impl Graph {
-    /// The graph of these tables, every node free.
-    pub fn new(inputs: u32, node_table: Vec<u32>, output_table: Vec<u32>) -> Graph {
-        let nodes = node_table.len() / 3;
+    /// The graph of these literals, three a node and one an output, every node free. The third literal of an XOR is [`MARK`]; what is
+    /// left over of less than three makes no node.
+    pub fn new(inputs: u32, mut node_literals: Vec<u32>, mut output_literals: Vec<u32>) -> Graph {
+        let nodes = node_literals.len() / 3;
+        node_literals.truncate(3 * nodes);
         // More than a number can say is over the limit all the same.
         let count = |many: usize| u32::try_from(many).unwrap_or(u32::MAX);
-        let size = Size { inputs, nodes: count(nodes), outputs: count(output_table.len()) };
-        Graph { size, node_table, output_table, locks: vec![0; nodes] }
+        let size = Size { inputs, nodes: count(nodes), outputs: count(output_literals.len()) };
+        let (node_bits, output_bits) = (packed(&mut node_literals), packed(&mut output_literals));
+        let (node_table, output_table) = (node_literals, output_literals);
+        Graph { size, node_table, node_bits, output_table, output_bits, locks: vec![0; nodes] }
+    }
+
+    /// A graph with room for so many nodes and outputs, all of it 0.
+    fn with_room(nodes: usize, outputs: usize) -> Graph {
+        Graph {
+            size: Size::default(),
+            node_table: vec![0; 3 * nodes],
+            node_bits: vec![0; bit_words(3 * nodes)],
+            output_table: vec![0; outputs],
+            output_bits: vec![0; bit_words(outputs)],
+            locks: vec![0; nodes],
+        }
+    }
+
+    /// Which node, from 0, has this index.
+    fn place_of(&self, index: u32) -> Result<usize, Refusal> {
+        let place = index.checked_sub(self.size.inputs).and_then(|above| above.checked_sub(1));
+        place.filter(|&place| place < self.size.nodes).map(|place| place as usize).ok_or(Refusal::NoSuchNode)
+    }
+
+    /// The kind and the literals of the node of this index. Refused are an index that is no node's, tables that are too short for it,
+    /// and what no literal says.
+    pub fn node(&self, index: u32) -> Result<Node, Refusal> {
+        let first = 3 * self.place_of(index)?;
+        let at = |place| lent::literal(&self.node_table, &self.node_bits, place);
+        match [at(first)?, at(first + 1)?, at(first + 2)?] {
+            [MARK, ..] | [_, MARK, _] => Err(Refusal::BadLiteral),
+            [x, y, MARK] => Ok(Node::Xor([x, y])),
+            three => Ok(Node::Majority(three)),
+        }
+    }
+
+    /// The literal of the output at this place, from 0, as [`Graph::evaluate`] has its words.
+    pub fn output(&self, place: usize) -> Result<u32, Refusal> {
+        if place >= self.size.outputs as usize {
+            return Err(Refusal::NoSuchNode);
+        }
+        match lent::literal(&self.output_table, &self.output_bits, place)? {
+            MARK => Err(Refusal::BadLiteral),
+            literal => Ok(literal),
+        }
+    }
+
+    /// The literals of all nodes, as [`Graph::new`] takes them.
+    pub fn node_literals(&self) -> Result<Vec<u32>, Refusal> {
+        literals(&self.node_table, &self.node_bits, 3 * self.size.nodes as usize)
+    }
+
+    /// The literals of all outputs, as [`Graph::new`] takes them.
+    pub fn output_literals(&self) -> Result<Vec<u32>, Refusal> {
+        literals(&self.output_table, &self.output_bits, self.size.outputs as usize)
     }
 
     /// Where the lock of the node of this index stands.
     fn lock_place(&self, index: u32) -> Result<usize, Refusal> {
-        let place = index.checked_sub(self.size.inputs).and_then(|above| above.checked_sub(1));
-        let place = place.filter(|&place| place < self.size.nodes).ok_or(Refusal::NoSuchNode)? as usize;
+        let place = self.place_of(index)?;
         // The field can have been set to fewer bytes.
         (place < self.locks.len()).then_some(place).ok_or(Refusal::ShortSlice)
     }
@@ -319,11 +417,10 @@ impl Graph {
     /// The graph that a tagged file holds.
     pub fn load(file: &[u8]) -> Result<Graph, Refusal> {
         // Room for what the head says. A head that says more than the limits is refused before room is looked at.
-        let mut node_table = vec![0; 3 * head_number(file, 7, MOST_NODES)];
-        let mut output_table = vec![0; head_number(file, 11, MOST_OUTPUTS)];
-        let mut locks = vec![0; node_table.len() / 3];
-        let size = lent::load(file, &mut node_table, &mut output_table, &mut locks)?;
-        Ok(Graph { size, node_table, output_table, locks })
+        let mut graph = Graph::with_room(head_number(file, 7, MOST_NODES), head_number(file, 11, MOST_OUTPUTS));
+        let Graph { node_table, node_bits, output_table, output_bits, locks, .. } = &mut graph;
+        graph.size = lent::load(file, node_table, node_bits, output_table, output_bits, locks)?;
+        Ok(graph)
     }
 
     /// The graph that a tagged file holds after a list of calls, with what each call saved or was refused by. Many calls take parts of
@@ -331,17 +428,17 @@ impl Graph {
     pub fn replay(file: &[u8], calls: &[Call], list: &[u32], moves: &[u8]) -> Result<Replayed, ReplayRefusal> {
         let words: Vec<u32> = calls.iter().flat_map(|call| call.words()).collect();
         let nodes = head_number(file, 7, MOST_NODES);
-        let mut node_table = vec![0; 3 * nodes];
-        let mut output_table = vec![0; head_number(file, 11, MOST_OUTPUTS)];
-        let mut locks = vec![0; nodes];
+        let mut graph = Graph::with_room(nodes, head_number(file, 11, MOST_OUTPUTS));
         let mut scratch = vec![0; scratch_words(nodes as u32)];
         let mut answers = vec![0; 3 * calls.len()];
-        let size = lent::replay(
+        graph.size = lent::replay(
             file,
             &words,
-            &mut node_table,
-            &mut output_table,
-            &mut locks,
+            &mut graph.node_table,
+            &mut graph.node_bits,
+            &mut graph.output_table,
+            &mut graph.output_bits,
+            &mut graph.locks,
             list,
             moves,
             &mut scratch,
@@ -349,7 +446,7 @@ impl Graph {
         )?;
         let told = |three: &[i64]| lent::answer(three[0] as u32, Saving { own: three[1], others: three[2] });
         let told = answers.chunks_exact(3).map(told).collect();
-        Ok((Graph { size, node_table, output_table, locks }, told))
+        Ok((graph, told))
     }
 
     /// The graph's tagged file.
@@ -357,7 +454,15 @@ impl Graph {
         // A graph over the limits is refused before room is looked at, and gets none.
         self.complemented_edges()?;
         let mut file = vec![0; file_bytes(self.size)];
-        let length = lent::write(self.size, &self.node_table, &self.output_table, &self.locks, &mut file)?;
+        let length = lent::write(
+            self.size,
+            &self.node_table,
+            &self.node_bits,
+            &self.output_table,
+            &self.output_bits,
+            &self.locks,
+            &mut file,
+        )?;
         file.truncate(length);
         Ok(file)
     }
@@ -365,11 +470,10 @@ impl Graph {
     /// The graph that an ASCII AIGER text says: a majority of the constant and two literals for each AND, every node free.
     pub fn import(text: &[u8]) -> Result<Graph, Refusal> {
         // As for loading, room for what the header says.
-        let mut node_table = vec![0; 3 * header_number(text, 4, MOST_NODES)];
-        let mut output_table = vec![0; header_number(text, 3, MOST_OUTPUTS)];
-        let mut locks = vec![0; node_table.len() / 3];
-        let size = lent::import(text, &mut node_table, &mut output_table, &mut locks)?;
-        Ok(Graph { size, node_table, output_table, locks })
+        let mut graph = Graph::with_room(header_number(text, 4, MOST_NODES), header_number(text, 3, MOST_OUTPUTS));
+        let Graph { node_table, node_bits, output_table, output_bits, locks, .. } = &mut graph;
+        graph.size = lent::import(text, node_table, node_bits, output_table, output_bits, locks)?;
+        Ok(graph)
     }
 
     /// The graph's ASCII AIGER text: four ANDs for each majority, three for each XOR. It says nothing of locks.
@@ -377,8 +481,16 @@ impl Graph {
         self.complemented_edges()?;
         let mut scratch = vec![0; self.size.nodes as usize];
         let mut text = vec![0; text_bytes(self.size)];
-        let length =
-            lent::export(self.size, &self.node_table, &self.output_table, &self.locks, &mut scratch, &mut text)?;
+        let length = lent::export(
+            self.size,
+            &self.node_table,
+            &self.node_bits,
+            &self.output_table,
+            &self.output_bits,
+            &self.locks,
+            &mut scratch,
+            &mut text,
+        )?;
         text.truncate(length);
         Ok(text)
     }
@@ -390,7 +502,9 @@ impl Graph {
         lent::evaluate(
             self.size,
             &self.node_table,
+            &self.node_bits,
             &self.output_table,
+            &self.output_bits,
             &self.locks,
             input_words,
             &mut scratch,
@@ -401,30 +515,72 @@ impl Graph {
 
     /// How many edges are complemented, those from the constant among them.
     pub fn complemented_edges(&self) -> Result<u32, Refusal> {
-        lent::complemented_edges(self.size, &self.node_table, &self.output_table, &self.locks)
+        lent::complemented_edges(
+            self.size,
+            &self.node_table,
+            &self.node_bits,
+            &self.output_table,
+            &self.output_bits,
+            &self.locks,
+        )
     }
 
     /// Makes the best move of one node; what it saves.
     pub fn node_call(&mut self, node: u32) -> Result<Saving, Refusal> {
-        lent::node_call(self.size, &mut self.node_table, &mut self.output_table, &self.locks, node)
+        lent::node_call(
+            self.size,
+            &self.node_table,
+            &mut self.node_bits,
+            &self.output_table,
+            &mut self.output_bits,
+            &self.locks,
+            node,
+        )
     }
 
     /// Makes the best moves of a node and of the one that its word (1 to 3) names; what they save.
     pub fn pair_call(&mut self, node: u32, word: u32) -> Result<Saving, Refusal> {
-        lent::pair_call(self.size, &mut self.node_table, &mut self.output_table, &self.locks, node, word)
+        lent::pair_call(
+            self.size,
+            &self.node_table,
+            &mut self.node_bits,
+            &self.output_table,
+            &mut self.output_bits,
+            &self.locks,
+            node,
+            word,
+        )
     }
 
     /// What `named_move` at the node that a word (1 to 3) of a node names and `node_move` at the node would save: below 0 where
     /// they lose, 0 where the word names no node. A move that a node's kind lacks, or any at a locked node, turns nothing. Nothing is
     /// changed.
     pub fn trial(&self, node: u32, word: u32, named_move: u32, node_move: u32) -> Result<i64, Refusal> {
-        lent::trial(self.size, &self.node_table, &self.output_table, &self.locks, (node, word), (named_move, node_move))
+        lent::trial(
+            self.size,
+            &self.node_table,
+            &self.node_bits,
+            &self.output_table,
+            &self.output_bits,
+            &self.locks,
+            (node, word),
+            (named_move, node_move),
+        )
     }
 
     /// Makes the best moves of the tree of a root; what they save.
     pub fn tree_call(&mut self, root: u32) -> Result<Saving, Refusal> {
         let mut scratch = self.scratch();
-        lent::tree_call(self.size, &mut self.node_table, &mut self.output_table, &self.locks, root, &mut scratch)
+        lent::tree_call(
+            self.size,
+            &self.node_table,
+            &mut self.node_bits,
+            &self.output_table,
+            &mut self.output_bits,
+            &self.locks,
+            root,
+            &mut scratch,
+        )
     }
 
     /// Tells what [`Graph::tree_call`] would save and which moves it would make.
@@ -434,7 +590,9 @@ impl Graph {
         let saving = lent::preview(
             self.size,
             &self.node_table,
+            &self.node_bits,
             &self.output_table,
+            &self.output_bits,
             &self.locks,
             root,
             &mut moves,
@@ -446,13 +604,30 @@ impl Graph {
     /// Makes many moves, all of them or none: at each node of a list of rising indices the move at the same place. What they save,
     /// below 0 where they lose. The moves of a [`Preview`] are made by the list of all nodes.
     pub fn many(&mut self, list: &[u32], moves: &[u8]) -> Result<i64, Refusal> {
-        lent::many(self.size, &mut self.node_table, &mut self.output_table, &self.locks, list, moves)
+        lent::many(
+            self.size,
+            &self.node_table,
+            &mut self.node_bits,
+            &self.output_table,
+            &mut self.output_bits,
+            &self.locks,
+            list,
+            moves,
+        )
     }
 
     /// Makes rounds of tree, node and pair calls until one saves nothing.
     pub fn settle(&mut self) -> Result<Settled, Refusal> {
         let mut scratch = self.scratch();
-        lent::settle(self.size, &mut self.node_table, &mut self.output_table, &self.locks, &mut scratch)
+        lent::settle(
+            self.size,
+            &self.node_table,
+            &mut self.node_bits,
+            &self.output_table,
+            &mut self.output_bits,
+            &self.locks,
+            &mut scratch,
+        )
     }
 
     fn scratch(&self) -> Vec<u32> {

@@ -106,24 +106,34 @@ fn files_with_locks() {
 /// No old byte stays, later ones do, and a refused file leaves all.
 #[test]
 fn loading_into_lent_locks() {
-    let (mut node_table, mut output_table, mut locks) = ([77; 6], [77; 1], [77; 3]);
+    let (mut node_table, mut node_bits, mut output_table, mut output_bits) = ([77; 6], [77; 1], [77; 1], [77; 1]);
+    let mut load = |file: &[u8], locks: &mut [u8]| {
+        let told = lent::load(file, &mut node_table, &mut node_bits, &mut output_table, &mut output_bits, locks);
+        (told, (node_table, node_bits, output_table, output_bits))
+    };
+    let mut locks = [77; 3];
     for (file, bytes, due) in [
         (with(&[&lock(8)]), 3, Refusal::BadLock),
         (with(&[&lock(6)]), 1, Refusal::ShortSlice),
         (with(&[]), 0, Refusal::ShortSlice),
     ] {
-        assert_eq!(lent::load(&file, &mut node_table, &mut output_table, &mut locks[..bytes]), Err(due));
-        assert_eq!((node_table, output_table, locks), ([77; 6], [77; 1], [77; 3]));
+        assert_eq!(load(&file, &mut locks[..bytes]), (Err(due), ([77; 6], [77], [77], [77])));
+        assert_eq!(locks, [77; 3]);
     }
     let size = Size { inputs: 5, nodes: 2, outputs: 1 };
-    assert_eq!(lent::load(&with(&[&lock(7)]), &mut node_table, &mut output_table, &mut locks), Ok(size));
-    assert_eq!((node_table, output_table, locks), ([3, 5, 6, 13, 8, 11], [14], [0, 1, 77]));
-    assert_eq!(lent::load(&with(&[]), &mut node_table, &mut output_table, &mut locks), Ok(size));
+    let tables = ([1, 2, 3, 6, 4, 5], [0b101011], [7], [0]);
+    assert_eq!(load(&with(&[&lock(7)]), &mut locks), (Ok(size), tables));
+    assert_eq!(locks, [0, 1, 77]);
+    assert_eq!(load(&with(&[]), &mut locks), (Ok(size), tables));
     assert_eq!(locks, [0, 0, 77]);
     let mut buffer = [77; 71];
-    assert_eq!(lent::write(size, &node_table, &output_table, &[1, 1, 2], &mut buffer[..68]), Err(Refusal::ShortBuffer));
-    assert_eq!(lent::write(size, &node_table, &output_table, &[1, 1, 2], &mut buffer), Ok(69));
-    assert_eq!((&buffer[..69], &buffer[69..]), (&with(&[&lock(6), &lock(7)])[..], &[77, 77][..]));
+    let mut write = |room: usize| {
+        let (node_table, node_bits, output_table, output_bits) = &tables;
+        let buffer = &mut buffer[..room];
+        (lent::write(size, node_table, node_bits, output_table, output_bits, &[1, 1, 2], buffer), buffer.to_vec())
+    };
+    assert_eq!(write(68), (Err(Refusal::ShortBuffer), vec![77; 68]));
+    assert_eq!(write(71), (Ok(69), [&with(&[&lock(6), &lock(7)])[..], &[77, 77]].concat()));
 }
 
 /// An import is free, and an export is the same with locks and without.

@@ -107,13 +107,17 @@ fn entries_refused() {
 #[test]
 fn lent_slices() {
     let size = Size { inputs: 3, nodes: 1, outputs: 1 };
-    let (mut nodes, mut outputs, locks) = ([2, 4, 6, 8, 9, MARK], [8, 8, 9], [0, 7]);
-    assert_eq!(lent::many(size, &mut nodes, &mut outputs, &locks, &[4], &[1, 9]), Ok(-4));
-    assert_eq!((nodes, outputs), ([3, 5, 7, 8, 9, MARK], [9, 8, 9]));
-    assert_eq!(lent::many(size, &mut nodes, &mut [], &locks, &[4], &[1]), Err(Refusal::ShortSlice));
-    assert_eq!(lent::many(size, &mut nodes[..2], &mut outputs, &locks, &[4], &[1]), Err(Refusal::ShortSlice));
-    assert_eq!(lent::many(size, &mut nodes, &mut outputs, &[], &[4], &[1]), Err(Refusal::ShortSlice));
-    assert_eq!((nodes, outputs), ([3, 5, 7, 8, 9, MARK], [9, 8, 9]));
+    let (nodes, outputs, locks) = ([1, 2, 3, 4, 9, MARK], [4, 8, MARK], [0, 7]);
+    let (mut node_bits, mut output_bits) = ([0, 77], [0, 99]);
+    let made = lent::many(size, &nodes, &mut node_bits, &outputs, &mut output_bits, &locks, &[4], &[1, 9]);
+    assert_eq!((made, node_bits, output_bits), (Ok(-4), [7, 77], [1, 99]));
+    for short in 0..5 {
+        let cut = |which: usize, enough: usize| if which == short { enough - 1 } else { enough };
+        let tables = (&nodes[..cut(0, 3)], &outputs[..cut(1, 1)]);
+        let bits = (&mut node_bits[..cut(2, 1)], &mut output_bits[..cut(3, 1)]);
+        let made = lent::many(size, tables.0, bits.0, tables.1, bits.1, &locks[..cut(4, 1)], &[4], &[1]);
+        assert_eq!((made, node_bits, output_bits), (Err(Refusal::ShortSlice), [7, 77], [1, 99]), "{short}");
+    }
 }
 
 #[test]

@@ -252,7 +252,7 @@ fn previewed_moves_are_the_tree_call_s() {
     let mut several = 0;
     for root in roots {
         let output = run(&["preview", "-", root, "--moves"], given);
-        let mut moved = graph.clone();
+        let (mut nodes, mut outputs) = (graph.node_literals().unwrap(), graph.output_literals().unwrap());
         let index = |word: &u32| word / 2;
         for line in text(&output.stdout).lines() {
             let (node, number) = line.split_once(' ').unwrap();
@@ -260,13 +260,13 @@ fn previewed_moves_are_the_tree_call_s() {
             // An AIGER text gives majorities alone.
             let turn = u32::from(number.parse::<u32>().unwrap() == 1);
             let own = 3 * (node - graph.size.inputs - 1) as usize;
-            moved.node_table[own..own + 3].iter_mut().for_each(|word| *word ^= turn);
-            let readers = moved.node_table.iter_mut().chain(&mut moved.output_table);
+            nodes[own..own + 3].iter_mut().for_each(|word| *word ^= turn);
+            let readers = nodes.iter_mut().chain(&mut outputs);
             readers.filter(|word| index(word) == node).for_each(|word| *word ^= turn);
         }
         let mut called = graph.clone();
         let saved = called.tree_call(root.parse().unwrap()).unwrap();
-        assert_eq!(moved, called);
+        assert_eq!(reducer::Graph::new(graph.size.inputs, nodes, outputs), called);
         let told = format!(" saving {} own {} others {}\n", saved.total(), saved.own, saved.others);
         assert!(said(&output).ends_with(&told), "{told}");
         several += u32::from(saved.total() > 0);

@@ -204,33 +204,51 @@ fn previews() {
     assert_eq!(graph(0, &vec![0; 300_003], &[]).preview(1), Err(Refusal::OverLimit));
 }
 
+/// A preview of a graph of so many outputs that is lent so many bytes and words of scratch: what it tells, the bytes after it, and
+/// whether scratch has stayed.
+fn lent_preview(
+    g: &Graph,
+    outputs: u32,
+    root: u32,
+    bytes: usize,
+    words: usize,
+) -> (Result<Saving, Refusal>, [u8; 4], bool) {
+    let Graph { size, node_table, node_bits, output_table, output_bits, locks } = g;
+    let (mut moves, mut scratch) = ([77; 4], [77; 17]);
+    let (size, lent_moves, lent_scratch) = (Size { outputs, ..*size }, &mut moves[..bytes], &mut scratch[..words]);
+    let told =
+        lent::preview(size, node_table, node_bits, output_table, output_bits, locks, root, lent_moves, lent_scratch);
+    (told, moves, scratch == [77; 17])
+}
+
 /// Each fault is put right in turn, and the next is told; bytes and scratch stay until none is left.
 #[test]
 fn previews_of_lent_slices() {
-    let (mut node_table, mut output_table, mut locks) = (vec![3, 5, 12, 13, 8, 11, 77], vec![14], vec![2]);
-    let size = |outputs: u32| Size { inputs: 5, nodes: 2, outputs };
-    let (mut moves, mut scratch) = ([77; 4], [77; 17]);
-    let mut told = |tables: (&[u32], &[u32], &[u8]), size, root, bytes: usize, words: usize| {
-        let (nodes, outputs, locks) = tables;
-        let saving = lent::preview(size, nodes, outputs, locks, root, &mut moves[..bytes], &mut scratch[..words]);
-        (saving, moves, scratch == [77; 17])
-    };
+    // P2 with an index that is not below its node's, a stray bit, no word of bits for the output, and a lock that is none.
+    let mut g = graph(5, &[3, 5, 12, 13, 8, 11], &[14]);
+    g.node_table.push(77);
+    g.node_bits[0] |= 1 << 6;
+    (g.output_bits, g.locks) = (vec![], vec![2]);
     let kept = |refusal| (Err(refusal), [77; 4], true);
-    assert_eq!(told((&node_table, &output_table, &locks), size(4_097), 6, 1, 15), kept(Refusal::OverLimit));
-    assert_eq!(told((&node_table, &output_table, &locks), size(2), 6, 2, 15), kept(Refusal::ShortSlice));
-    output_table.push(88);
-    assert_eq!(told((&node_table, &output_table, &locks), size(1), 6, 2, 15), kept(Refusal::ShortSlice));
-    locks.extend([1, 99]);
-    assert_eq!(told((&node_table, &output_table, &locks), size(1), 6, 1, 15), kept(Refusal::ShortSlice));
-    assert_eq!(told((&node_table, &output_table, &locks), size(1), 6, 2, 15), kept(Refusal::BadLiteral));
-    node_table[2] = 6;
-    assert_eq!(told((&node_table, &output_table, &locks), size(1), 6, 2, 15), kept(Refusal::BadLock));
-    locks[0] = 0;
-    assert_eq!(told((&node_table, &output_table, &locks), size(1), 5, 2, 15), kept(Refusal::NoSuchNode));
-    assert_eq!(told((&node_table, &output_table, &locks), size(1), 6, 2, 15), kept(Refusal::NoSuchNode));
-    assert_eq!(told((&node_table, &output_table, &locks), size(1), 7, 2, 15), kept(Refusal::ShortScratch));
-    assert_eq!(told((&node_table, &output_table, &locks), size(1), 7, 4, 16).1, [1, 0, 77, 77]);
-    assert_eq!(told((&node_table, &output_table, &locks), size(1), 7, 2, 17).0, Ok(saving(2, 0)));
+    assert_eq!(lent_preview(&g, 4_097, 6, 1, 15), kept(Refusal::OverLimit));
+    assert_eq!(lent_preview(&g, 2, 6, 2, 15), kept(Refusal::ShortSlice));
+    g.output_table.push(88);
+    assert_eq!(lent_preview(&g, 1, 6, 2, 15), kept(Refusal::ShortSlice));
+    g.output_bits.extend([0, 99]);
+    assert_eq!(lent_preview(&g, 1, 6, 2, 15), kept(Refusal::ShortSlice));
+    g.locks.extend([1, 99]);
+    assert_eq!(lent_preview(&g, 1, 6, 1, 15), kept(Refusal::ShortSlice));
+    assert_eq!(lent_preview(&g, 1, 6, 2, 15), kept(Refusal::BadLiteral));
+    g.node_table[2] = 3;
+    assert_eq!(lent_preview(&g, 1, 6, 2, 15), kept(Refusal::BadLiteral));
+    g.node_bits[0] ^= 1 << 6;
+    assert_eq!(lent_preview(&g, 1, 6, 2, 15), kept(Refusal::BadLock));
+    g.locks[0] = 0;
+    assert_eq!(lent_preview(&g, 1, 5, 2, 15), kept(Refusal::NoSuchNode));
+    assert_eq!(lent_preview(&g, 1, 6, 2, 15), kept(Refusal::NoSuchNode));
+    assert_eq!(lent_preview(&g, 1, 7, 2, 15), kept(Refusal::ShortScratch));
+    assert_eq!(lent_preview(&g, 1, 7, 4, 16).1, [1, 0, 77, 77]);
+    assert_eq!(lent_preview(&g, 1, 7, 2, 17).0, Ok(saving(2, 0)));
 }
 
 #[test]
@@ -272,14 +290,26 @@ fn replaying_savings_below_0() {
 fn replays_refused() {
     let p1 = graph(3, &[3, 5, 7], &[9]).write().unwrap();
     let refused = |words: &[u32], room: usize, due: ReplayRefusal| {
-        let (mut node_table, mut output_table, mut locks) = ([77; 3], [77; 1], [77; 1]);
-        let (mut scratch, mut answers) = ([77; 8], vec![77; room]);
-        let (list, moves) = ([4, 4], [1, 1]);
-        let tables = (&mut node_table, &mut output_table, &mut locks);
-        let got = lent::replay(&p1, words, tables.0, tables.1, tables.2, &list, &moves, &mut scratch, &mut answers);
+        let (mut nodes, mut node_bits, mut outputs, mut output_bits) = ([77; 3], [77; 1], [77; 1], [77; 1]);
+        let (mut locks, mut scratch, mut answers) = ([77; 1], [77; 8], vec![77; room]);
+        let (tables, bits) = ((&mut nodes, &mut outputs), (&mut node_bits, &mut output_bits));
+        let (list, moves, scratch_part) = ([4, 4], [1, 1], &mut scratch[..]);
+        let got = lent::replay(
+            &p1,
+            words,
+            tables.0,
+            bits.0,
+            tables.1,
+            bits.1,
+            &mut locks,
+            &list,
+            &moves,
+            scratch_part,
+            &mut answers,
+        );
         assert_eq!(got, Err(due));
-        assert_eq!((node_table, output_table, locks), ([77; 3], [77; 1], [77; 1]));
-        assert_eq!((scratch, answers), ([77; 8], vec![77; room]));
+        assert_eq!((nodes, node_bits, outputs, output_bits), ([77; 3], [77; 1], [77; 1], [77; 1]));
+        assert_eq!((locks, scratch, answers), ([77; 1], [77; 8], vec![77; room]));
     };
     refused(&[0, 4], 9, ReplayRefusal::LeftOver);
     refused(&[5, 4, 0, 9], 0, ReplayRefusal::LeftOver);
@@ -331,22 +361,27 @@ fn texts_refused() {
 
 #[test]
 fn lent_texts() {
-    let (mut node_table, mut output_table, mut locks) = ([77; 13], [77; 2], [77; 5]);
+    let (mut nodes, mut outputs, mut locks) = ([77; 13], [77; 2], [77; 5]);
+    let (mut node_bits, mut output_bits) = ([u64::MAX; 2], [u64::MAX; 2]);
     let size = Size { inputs: 3, nodes: 4, outputs: 1 };
-    for (node_words, output_words, lock_bytes) in [(11, 1, 4), (12, 0, 4), (12, 1, 3)] {
-        let (nodes, outputs) = (&mut node_table[..node_words], &mut output_table[..output_words]);
-        assert_eq!(lent::import(MAJORITY, nodes, outputs, &mut locks[..lock_bytes]), Err(Refusal::ShortSlice));
-        assert_eq!((node_table, output_table, locks), ([77; 13], [77; 2], [77; 5]));
+    for room in [(11, 1, 1, 1, 4), (12, 0, 1, 1, 4), (12, 1, 0, 1, 4), (12, 1, 1, 0, 4), (12, 1, 1, 1, 3)] {
+        let tables = (&mut nodes[..room.0], &mut outputs[..room.1]);
+        let bits = (&mut node_bits[..room.2], &mut output_bits[..room.3]);
+        let told = lent::import(MAJORITY, tables.0, bits.0, tables.1, bits.1, &mut locks[..room.4]);
+        assert_eq!(told, Err(Refusal::ShortSlice), "{room:?}");
+        assert_eq!((nodes, outputs, locks), ([77; 13], [77; 2], [77; 5]));
+        assert_eq!((node_bits, output_bits), ([u64::MAX; 2], [u64::MAX; 2]));
     }
-    assert_eq!(lent::import(MAJORITY, &mut node_table, &mut output_table, &mut locks), Ok(size));
-    assert_eq!(node_table, [0, 5, 7, 0, 2, 9, 0, 4, 6, 0, 11, 13, 77]);
-    assert_eq!((output_table, locks), ([15, 77], [0, 0, 0, 0, 77]));
+    let told = lent::import(MAJORITY, &mut nodes, &mut node_bits, &mut outputs, &mut output_bits, &mut locks);
+    assert_eq!(told, Ok(size));
+    assert_eq!((nodes, node_bits), ([0, 2, 3, 0, 1, 4, 0, 2, 3, 0, 5, 6, 77], [0b110_000_100_110, u64::MAX]));
+    assert_eq!((outputs, output_bits, locks), ([7, 77], [1, u64::MAX], [0, 0, 0, 0, 77]));
     let one = Size { nodes: 1, ..size };
     for (words, room, due) in
         [(0, 52, Err(Refusal::ShortScratch)), (1, 51, Err(Refusal::ShortBuffer)), (1, 52, Ok(52)), (2, 54, Ok(52))]
     {
         let (mut scratch, mut buffer) = (vec![77; words], vec![77; room]);
-        assert_eq!(lent::export(one, &[2, 4, 6], &[8], &[1], &mut scratch, &mut buffer), due);
+        assert_eq!(lent::export(one, &[1, 2, 3], &[0], &[4], &[0], &[1], &mut scratch, &mut buffer), due);
         let filled = due.unwrap_or(0);
         assert_eq!(buffer[..filled], MAJORITY[..filled]);
         assert!(buffer[filled..].iter().all(|&byte| byte == 77));

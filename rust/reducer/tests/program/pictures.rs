@@ -138,9 +138,10 @@ pub fn edges_due(graph: &Graph, before: &str) -> Vec<(String, String, bool)> {
         let kind = if literal / 2 <= inputs { "i" } else { "n" };
         (format!("{before}{kind}{}", literal / 2), format!("{before}{to}"), literal % 2 == 1)
     };
-    let nodes = graph.node_table.iter().enumerate().filter(|(_, &word)| word != reducer::MARK);
-    let nodes = nodes.map(|(at, &word)| due(word, format!("n{}:w{}", inputs + 1 + at as u32 / 3, 1 + at % 3)));
-    let outputs = graph.output_table.iter().enumerate().map(|(at, &word)| due(word, format!("o{}:w1", at + 1)));
+    let (nodes, outputs) = (graph.node_literals().unwrap(), graph.output_literals().unwrap());
+    let nodes = nodes.into_iter().enumerate().filter(|&(_, word)| word != reducer::MARK);
+    let nodes = nodes.map(|(at, word)| due(word, format!("n{}:w{}", inputs + 1 + at as u32 / 3, 1 + at % 3)));
+    let outputs = outputs.into_iter().enumerate().map(|(at, word)| due(word, format!("o{}:w1", at + 1)));
     let named = |edge: &(String, String, bool)| edge.0 != format!("{before}i0");
     nodes.chain(outputs).filter(named).collect()
 }
@@ -536,7 +537,7 @@ fn compared_circuit(test: &str, given: &[u8]) {
     assert_eq!(told(before), edges_due(&graph, "before_"));
     assert_eq!(told(after), edges_due(&moved, "after_"));
     // All words, the constant's among them.
-    let words = |graph: &Graph| [&graph.node_table[..], &graph.output_table].concat();
+    let words = |graph: &Graph| [graph.node_literals().unwrap(), graph.output_literals().unwrap()].concat();
     let turned: Vec<bool> = words(&graph).iter().zip(words(&moved)).map(|(x, y)| *x != y).collect();
     let coloured = |side| -> Vec<bool> { edges_of(side).iter().map(|edge| edge.2.contains("#d55e00")).collect() };
     assert_eq!((coloured(before), coloured(after)), (turned.clone(), turned.clone()));

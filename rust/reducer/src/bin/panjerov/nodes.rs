@@ -1,18 +1,25 @@
-//! A node's words and kind, of a graph that the library has admitted.
+//! The words and the kind of a node, and the word of an output, of a graph that the library has admitted.
 
-use reducer::{Graph, MARK};
+use reducer::{Graph, Node};
 
-/// The literals of a node: three of a majority, two of an XOR.
-pub fn words_of(graph: &Graph, node: u32) -> &[u32] {
-    let at = 3 * (node - graph.size.inputs - 1) as usize;
-    let words = &graph.node_table[at..at + 3];
-    if words[2] == MARK {
-        &words[..2]
-    } else {
-        words
-    }
+fn node(graph: &Graph, index: u32) -> Node {
+    graph.node(index).expect("an admitted graph has this node")
 }
 
-pub fn is_xor(graph: &Graph, node: u32) -> bool {
-    words_of(graph, node).len() == 2
+/// The literals of a node: three of a majority, two of an XOR.
+pub fn words_of(graph: &Graph, index: u32) -> impl Iterator<Item = u32> {
+    let (words, many) = match node(graph, index) {
+        Node::Majority(words) => (words, 3),
+        Node::Xor([x, y]) => ([x, y, 0], 2),
+    };
+    words.into_iter().take(many)
+}
+
+pub fn is_xor(graph: &Graph, index: u32) -> bool {
+    matches!(node(graph, index), Node::Xor(_))
+}
+
+/// The literal of an output; outputs count from 1.
+pub fn output_of(graph: &Graph, output: u32) -> u32 {
+    graph.output(output as usize - 1).expect("an admitted graph has this output")
 }

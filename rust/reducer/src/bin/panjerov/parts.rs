@@ -1,6 +1,6 @@
 //! Which part of a graph is drawn.
 
-use crate::nodes::words_of;
+use crate::nodes::{output_of, words_of};
 use crate::trees::Trees;
 use reducer::{Graph, Size};
 
@@ -44,7 +44,7 @@ fn nearest(graph: &Graph, from: u32, inside: impl Fn(u32) -> bool) -> Vec<u32> {
                 continue;
             }
             found.push(index);
-            below.extend(words_of(graph, index).iter().map(|literal| literal / 2));
+            below.extend(words_of(graph, index).map(|literal| literal / 2));
         }
         next = below;
     }
@@ -54,8 +54,8 @@ fn nearest(graph: &Graph, from: u32, inside: impl Fn(u32) -> bool) -> Vec<u32> {
 /// The part that has these nodes and outputs, with the inputs and the further nodes that they read.
 fn with_sources(graph: &Graph, mut nodes: Vec<u32>, outputs: Vec<u32>, told: String) -> Part {
     nodes.sort_unstable();
-    let ends = outputs.iter().map(|&output| graph.output_table[output as usize - 1]);
-    let words = nodes.iter().flat_map(|&node| words_of(graph, node)).copied();
+    let ends = outputs.iter().map(|&output| output_of(graph, output));
+    let words = nodes.iter().flat_map(|&node| words_of(graph, node));
     let mut read: Vec<u32> = words.chain(ends).map(|literal| literal / 2).filter(|&index| index != 0).collect();
     read.sort_unstable();
     read.dedup();
@@ -87,8 +87,7 @@ fn cut(nodes: &mut Vec<u32>) -> String {
 
 fn cone(graph: &Graph, output: u32) -> Result<Part, String> {
     let outputs = graph.size.outputs;
-    let Some(&literal) = output.checked_sub(1).and_then(|at| graph.output_table[..outputs as usize].get(at as usize))
-    else {
+    let Some(literal) = output.checked_sub(1).and_then(|at| graph.output(at as usize).ok()) else {
         return Err(match outputs {
             0 => format!("there is no output {output}: there are none"),
             _ => format!("there is no output {output}: outputs are 1 to {outputs}"),
@@ -161,17 +160,16 @@ impl Part {
     /// Whether edges lead from every box to every other, up or down. The constant leads nowhere, as each reader has its own.
     pub fn connected(&self, graph: &Graph) -> bool {
         let past = 1 + graph.size.inputs + graph.size.nodes;
-        let outputs = self.outputs.iter().map(|&at| (past + at, &graph.output_table[at as usize - 1..at as usize]));
-        let readers = self.nodes.iter().map(|&node| (node, words_of(graph, node))).chain(outputs);
+        let words = |&node: &u32| words_of(graph, node).map(move |literal| (node, literal));
+        let outputs = self.outputs.iter().map(|&at| (past + at, output_of(graph, at)));
+        let edges = self.nodes.iter().flat_map(words).chain(outputs);
         // By index, and outputs past them: a box that it hangs together with, or itself.
         let mut with: Vec<u32> = (0..=past + graph.size.outputs).collect();
         let mut pieces = self.inputs.len() + self.nodes.len() + self.beyond.len() + self.outputs.len();
-        for (reader, words) in readers {
-            for index in words.iter().map(|literal| literal / 2).filter(|&index| index != 0) {
-                let (x, y) = (end_of(&mut with, reader), end_of(&mut with, index));
-                with[x as usize] = y;
-                pieces -= usize::from(x != y);
-            }
+        for (reader, index) in edges.map(|(reader, literal)| (reader, literal / 2)).filter(|&(_, index)| index != 0) {
+            let (x, y) = (end_of(&mut with, reader), end_of(&mut with, index));
+            with[x as usize] = y;
+            pieces -= usize::from(x != y);
         }
         pieces <= 1
     }

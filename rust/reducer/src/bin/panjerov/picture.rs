@@ -1,7 +1,7 @@
 //! Pictures as DOT text, which Graphviz draws: inputs below, outputs above, a dot on each complemented edge.
 
 use crate::locks::is_locked;
-use crate::nodes::{is_xor, words_of};
+use crate::nodes::{is_xor, output_of, words_of};
 use crate::parts::{count, Part};
 use reducer::Graph;
 
@@ -43,32 +43,32 @@ struct Side<'a> {
 }
 
 /// The edges into a box: its words, and the same words of the graph that is compared.
-struct Edges<'a> {
+struct Edges {
     reader: String,
-    words: &'a [u32],
-    others: Option<&'a [u32]>,
+    words: Vec<u32>,
+    others: Option<Vec<u32>>,
 }
 
-impl Edges<'_> {
+impl Edges {
     fn turned(&self) -> impl Iterator<Item = bool> + '_ {
-        self.words.iter().enumerate().map(|(at, literal)| self.others.is_some_and(|others| others[at] != *literal))
+        let others = self.others.as_ref();
+        self.words.iter().enumerate().map(move |(at, literal)| others.is_some_and(|others| others[at] != *literal))
     }
 }
 
-impl<'a> Side<'a> {
-    fn node_edges(&self, node: u32) -> Edges<'a> {
-        let others = self.other.map(|other| words_of(other, node));
-        Edges { reader: format!("{}n{node}", self.prefix), words: words_of(self.graph, node), others }
+impl Side<'_> {
+    fn node_edges(&self, node: u32) -> Edges {
+        let words = |graph: &Graph| words_of(graph, node).collect();
+        Edges { reader: format!("{}n{node}", self.prefix), words: words(self.graph), others: self.other.map(words) }
     }
 
-    fn output_edges(&self, output: u32) -> Edges<'a> {
-        let at = output as usize - 1;
-        let others = self.other.map(|other| &other.output_table[at..=at]);
-        Edges { reader: format!("{}o{output}", self.prefix), words: &self.graph.output_table[at..=at], others }
+    fn output_edges(&self, output: u32) -> Edges {
+        let words = |graph: &Graph| vec![output_of(graph, output)];
+        Edges { reader: format!("{}o{output}", self.prefix), words: words(self.graph), others: self.other.map(words) }
     }
 
     /// All edges that are drawn.
-    fn edges(&self) -> impl Iterator<Item = Edges<'a>> + '_ {
+    fn edges(&self) -> impl Iterator<Item = Edges> + '_ {
         let nodes = self.part.nodes.iter().map(|&node| self.node_edges(node));
         nodes.chain(self.part.outputs.iter().map(|&output| self.output_edges(output)))
     }
@@ -179,14 +179,14 @@ fn crossed(graph: &Graph, part: &Part) -> usize {
         crossed += far.map(|index| to - 1 - levels[index]).sum::<usize>();
     };
     for &node in &part.nodes {
-        let words = words_of(graph, node);
+        let words: Vec<u32> = words_of(graph, node).collect();
         let level = 1 + words.iter().map(|&literal| levels[literal as usize / 2]).max().unwrap_or(0);
-        cross(&levels, words, level);
+        cross(&levels, &words, level);
         levels[node as usize] = level;
     }
     let top = 1 + levels.iter().max().unwrap_or(&0);
     for &output in &part.outputs {
-        cross(&levels, &[graph.output_table[output as usize - 1]], top);
+        cross(&levels, &[output_of(graph, output)], top);
     }
     crossed
 }

@@ -151,8 +151,9 @@ impl Report<'_> {
 
     /// A line a node that turned.
     fn lines(&self, turned: &[(u32, u8)]) -> String {
-        let words =
-            |graph: &Graph, node| words_of(graph, node).iter().map(u32::to_string).collect::<Vec<_>>().join(" ");
+        let words = |graph: &Graph, node| {
+            words_of(graph, node).map(|literal| literal.to_string()).collect::<Vec<_>>().join(" ")
+        };
         let line = |&(node, number): &(u32, u8)| {
             let xor = is_xor(self.before, node);
             let (kind, what) = (if xor { "XOR" } else { "majority" }, turns(xor, number));

@@ -2,25 +2,25 @@
 
 use crate::formats::Format;
 use crate::locks;
-use reducer::{Graph, Size, MARK};
+use crate::nodes::{is_xor, output_of, words_of};
+use reducer::{Graph, Size};
 
 /// The most nodes on a way from an output down, of a graph that the library has admitted.
 pub fn depth(graph: &Graph) -> u32 {
-    let Size { inputs, outputs, .. } = graph.size;
+    let Size { inputs, nodes, outputs } = graph.size;
     // By index: the most nodes on a way from it down, itself among them.
     let mut depths = vec![0; 1 + inputs as usize];
     let below = |depths: &[u32], literal: u32| depths[literal as usize / 2];
-    for words in graph.node_table.chunks_exact(3) {
-        let third = if words[2] == MARK { 0 } else { below(&depths, words[2]) };
-        depths.push(1 + below(&depths, words[0]).max(below(&depths, words[1])).max(third));
+    for node in inputs + 1..=inputs + nodes {
+        depths.push(1 + words_of(graph, node).map(|literal| below(&depths, literal)).max().unwrap_or(0));
     }
-    graph.output_table[..outputs as usize].iter().map(|&literal| below(&depths, literal)).max().unwrap_or(0)
+    (1..=outputs).map(|output| below(&depths, output_of(graph, output))).max().unwrap_or(0)
 }
 
 pub fn text_of(graph: &Graph, format: Format) -> Result<String, String> {
     let complemented = graph.complemented_edges().map_err(|refusal| refusal.to_string())?;
     let Size { inputs, nodes, outputs } = graph.size;
-    let xors = graph.node_table.chunks_exact(3).filter(|words| words[2] == MARK).count() as u32;
+    let xors = (inputs + 1..=inputs + nodes).filter(|&node| is_xor(graph, node)).count() as u32;
     Ok(format!(
         "format {}\ninputs {inputs} nodes {nodes} outputs {outputs}\nmajorities {} xors {xors}\n\
          complemented edges {complemented}\ndepth {}\nlocked nodes {}\n",
@@ -34,6 +34,7 @@ pub fn text_of(graph: &Graph, format: Format) -> Result<String, String> {
 #[cfg(test)]
 mod tests {
     use super::*;
+    use reducer::MARK;
 
     fn depth_of(inputs: u32, node_table: &[u32], output_table: &[u32]) -> u32 {
         depth(&Graph::new(inputs, node_table.to_vec(), output_table.to_vec()))

@@ -1,7 +1,7 @@
 //! The trees of a graph.
 
 use crate::locks::is_locked;
-use crate::nodes::is_xor;
+use crate::nodes::{is_xor, output_of, words_of};
 use reducer::{Graph, Refusal, Size};
 
 /// Which tree each node is in, of a graph that the library has admitted.
@@ -23,16 +23,18 @@ impl Trees<'_> {
     pub fn of(graph: &Graph) -> Trees<'_> {
         let Size { inputs, nodes, outputs } = graph.size;
         let node_of = |literal: u32| (literal / 2).wrapping_sub(inputs + 1) as usize;
-        // By node: its readers, an output counting twice, and the last node that reads it. The mark names none.
+        // By node: its readers, an output counting twice, and the last node that reads it.
         let mut read = vec![(0, 0); nodes as usize];
-        for (at, &literal) in graph.node_table[..3 * nodes as usize].iter().enumerate() {
-            if let Some((readers, last)) = read.get_mut(node_of(literal)) {
-                *readers += 1;
-                *last = at / 3;
+        for at in 0..nodes {
+            for literal in words_of(graph, inputs + 1 + at) {
+                if let Some((readers, last)) = read.get_mut(node_of(literal)) {
+                    *readers += 1;
+                    *last = at as usize;
+                }
             }
         }
-        for &literal in &graph.output_table[..outputs as usize] {
-            if let Some((readers, _)) = read.get_mut(node_of(literal)) {
+        for output in 1..=outputs {
+            if let Some((readers, _)) = read.get_mut(node_of(output_of(graph, output))) {
                 *readers += 2;
             }
         }

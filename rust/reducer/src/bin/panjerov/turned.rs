@@ -1,6 +1,6 @@
 //! What turned between two graphs that the library has admitted.
 
-use crate::nodes::{is_xor, words_of};
+use crate::nodes::{is_xor, output_of, words_of};
 use crate::parts::sizes;
 use reducer::Graph;
 
@@ -23,8 +23,8 @@ fn other_node(before: &Graph, after: &Graph, node: u32) -> Option<String> {
     if first != second {
         return Some(format!("node {node} is {first} before and {second} after"));
     }
-    let words = words_of(before, node).iter().zip(words_of(after, node)).zip(1..);
-    words.filter_map(|((&x, &y), word)| other_index(format!("word {word} of node {node}"), x, y)).next()
+    let mut words = words_of(before, node).zip(words_of(after, node)).zip(1..);
+    words.find_map(|((x, y), word)| other_index(format!("word {word} of node {node}"), x, y))
 }
 
 /// Where the wiring differs first; none where it is the same.
@@ -35,9 +35,8 @@ pub fn other_wiring(before: &Graph, after: &Graph) -> Option<String> {
     }
     let first = before.size.inputs + 1;
     let node = (first..first + before.size.nodes).find_map(|node| other_node(before, after, node));
-    let outputs = before.output_table.iter().zip(&after.output_table).zip(1..);
-    let output = || outputs.filter_map(|((&x, &y), at)| other_index(format!("output {at}"), x, y)).next();
-    node.or_else(output)
+    let other_output = |at| other_index(format!("output {at}"), output_of(before, at), output_of(after, at));
+    node.or_else(|| (1..=before.size.outputs).find_map(other_output))
 }
 
 /// The move that turns a node's words so, where there is one.
@@ -60,16 +59,15 @@ pub fn moves(before: &Graph, after: &Graph) -> Result<Vec<u8>, String> {
     let left = |turns: &[bool], x: u32, y: u32| (x != y) != turns[x as usize / 2];
     let mut moves = Vec::new();
     for node in first..first + before.size.nodes {
-        let words = words_of(before, node).iter().zip(words_of(after, node));
-        let own: Vec<bool> = words.map(|(&x, &y)| left(&turns, x, y)).collect();
+        let words = words_of(before, node).zip(words_of(after, node));
+        let own: Vec<bool> = words.map(|(x, y)| left(&turns, x, y)).collect();
         let number = move_of(&own).ok_or_else(|| format!("node {node}"))?;
         // A majority's move 1 turns its readers, an XOR's moves 2 and 3 do.
         turns.push(if own.len() == 3 { number == 1 } else { number > 1 });
         moves.push(number);
     }
-    let mut outputs = before.output_table.iter().zip(&after.output_table);
-    match outputs.position(|(&x, &y)| left(&turns, x, y)) {
-        Some(at) => Err(format!("output {}", at + 1)),
+    match (1..=before.size.outputs).find(|&at| left(&turns, output_of(before, at), output_of(after, at))) {
+        Some(at) => Err(format!("output {at}")),
         None => Ok(moves),
     }
 }
