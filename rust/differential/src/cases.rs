@@ -2,8 +2,9 @@
 
 use crate::shrink::Shrink;
 use reference::calls::Call;
-use reference::generate::{graph, with_locks, with_tails, SHAPES};
-use reference::graph::{check_room, Graph, Room, MARK};
+use reference::generate::{graph, with_locks, with_slack, SHAPES};
+use reference::graph::{Graph, MARK};
+use reference::packed::{pack, Lengths, Packed};
 use reference::random::Random;
 
 /// A call, and by how many words its scratch is longer than it needs to be; by how many shorter, if less than 0.
@@ -59,34 +60,67 @@ fn many_without(list: &[u32], moves: &[u8], gone: u32) -> Call {
     }
 }
 
-/// A graph with a list of calls; what else a check varies, it takes from the seed.
+/// A graph of literals with a list of calls; what else a check varies, it takes from the seed.
 #[derive(Clone, Debug, PartialEq, Eq)]
 pub struct Case {
     pub graph: Graph,
+    /// Where what is lent behind the graph is taken from: nothing where it is 0.
+    pub slack: u64,
     pub steps: Vec<Step>,
     pub seed: u64,
 }
 
-/// A graph of a random shape with no, some or all nodes locked, tails behind its tables and locks.
+/// At most so many words or bytes are lent behind the graph in each slice.
+const MOST_SLACK: u32 = 3;
+
+impl Case {
+    pub fn new(graph: Graph, steps: Vec<Step>, seed: u64) -> Case {
+        Case { graph, slack: seed + 1, steps, seed }
+    }
+
+    /// The graph as it is lent.
+    pub fn lent(&self) -> Packed {
+        lent(&self.graph, self.slack)
+    }
+}
+
+/// A graph packed, with slack that is taken from a number, and none where it is 0.
+pub fn lent(g: &Graph, slack: u64) -> Packed {
+    match slack {
+        0 => pack(g),
+        slack => with_slack(&mut Random::new(slack), pack(g), MOST_SLACK),
+    }
+}
+
+/// A graph of a random shape with no, some or all nodes locked.
 pub fn random_graph(random: &mut Random, most_inputs: u32, most_nodes: u32, most_outputs: u32) -> Graph {
     let shape = SHAPES[random.below(SHAPES.len() as u32) as usize];
     let inputs = random.between(0, most_inputs);
     let nodes = random.between(0, most_nodes);
     let outputs = random.between(0, most_outputs);
     let g = graph(random, shape, inputs, nodes, outputs);
-    let g = with_locks(random, g);
-    with_tails(random, g, 3)
+    with_locks(random, g)
 }
 
-/// Room for so many nodes and outputs; with a chance of three in so many a word or a byte too little, and else some more.
-pub fn room_near(random: &mut Random, nodes: usize, outputs: usize, many: u32) -> Room {
-    let enough = Room::of(nodes, outputs);
+/// Room for so many nodes and outputs; with a chance of five in so many one slice is a word or a byte too short, and else all are longer.
+pub fn lengths_near(random: &mut Random, nodes: usize, outputs: usize, many: u32) -> Lengths {
+    let mut lengths = Lengths::of(nodes, outputs);
+    let less = |length: &mut usize| *length = length.saturating_sub(1);
     match random.below(many) {
-        0 => Room { node_words: enough.node_words.saturating_sub(1), ..enough },
-        1 => Room { output_words: outputs.saturating_sub(1), ..enough },
-        2 => Room { lock_bytes: nodes.saturating_sub(1), ..enough },
-        _ => Room { node_words: enough.node_words + 5, output_words: outputs + 2, lock_bytes: nodes + 3 },
+        0 => less(&mut lengths.node_words),
+        1 => less(&mut lengths.node_bits),
+        2 => less(&mut lengths.output_words),
+        3 => less(&mut lengths.output_bits),
+        4 => less(&mut lengths.lock_bytes),
+        _ => {
+            lengths.node_words += 5;
+            lengths.node_bits += 1;
+            lengths.output_words += 2;
+            lengths.output_bits += 2;
+            lengths.lock_bytes += 3;
+        }
     }
+    lengths
 }
 
 /// A literal once index `gone` is no more: what named it names `instead`, indices above are one less.
@@ -130,17 +164,9 @@ fn without_output(g: &Graph, output: usize) -> Graph {
     next
 }
 
-/// Whether tables and locks are long enough to be taken apart.
-fn whole(g: &Graph) -> bool {
-    check_room(g.nodes, g.outputs, g.room()).is_ok()
-}
-
 /// Smaller graphs, with the index that is no more, if one is.
 fn smaller_graphs(g: &Graph) -> Vec<(Graph, Option<u32>)> {
     let mut all = Vec::new();
-    if !whole(g) {
-        return all;
-    }
     for v in (0..g.nodes).rev() {
         all.push((without_node(g, v), Some(g.inputs + 1 + v)));
     }
@@ -154,17 +180,10 @@ fn smaller_graphs(g: &Graph) -> Vec<(Graph, Option<u32>)> {
     all
 }
 
-/// Graphs with no tails, with fewer locks, and with lower words.
+/// Graphs with fewer locks, and with lower words.
 fn simpler_graphs(g: &Graph) -> Vec<Graph> {
     let mut all = Vec::new();
     let ends = (3 * g.nodes as usize, g.outputs as usize);
-    if g.room() != Room::of(g.nodes as usize, ends.1) {
-        let mut next = g.clone();
-        next.node_table.truncate(ends.0);
-        next.output_table.truncate(ends.1);
-        next.locks.truncate(g.nodes as usize);
-        all.push(next);
-    }
     for v in (0..g.nodes as usize).filter(|&v| g.locks[v] != 0) {
         let mut next = g.clone();
         next.locks[v] = 0;
@@ -187,11 +206,10 @@ fn simpler_graphs(g: &Graph) -> Vec<Graph> {
 
 pub fn show_graph(g: &Graph) -> String {
     let mut text = format!("I={} N={} O={}:", g.inputs, g.nodes, g.outputs);
-    for (v, words) in g.node_table.chunks(3).enumerate() {
-        let tail = if v >= g.nodes as usize { "tail " } else { "" };
+    for words in g.node_table.chunks(3) {
         let shown: Vec<String> =
             words.iter().map(|&word| if word == MARK { "mark".into() } else { word.to_string() }).collect();
-        text += &format!(" {tail}{};", shown.join(" "));
+        text += &format!(" {};", shown.join(" "));
     }
     format!("{text} -> {:?}, locks {:?}", g.output_table, g.locks)
 }
@@ -199,6 +217,9 @@ pub fn show_graph(g: &Graph) -> String {
 impl Shrink for Case {
     fn smaller(&self) -> Vec<Case> {
         let mut all = Vec::new();
+        if self.slack != 0 {
+            all.push(Case { slack: 0, ..self.clone() });
+        }
         for at in 0..self.steps.len() {
             let mut next = self.clone();
             next.steps.remove(at);
@@ -224,6 +245,7 @@ impl Shrink for Case {
     fn show(&self) -> String {
         let steps: Vec<String> =
             self.steps.iter().map(|step| format!("{:?} with scratch {:+}", step.call, step.spare)).collect();
-        format!("{}\ncalls: {}\n", show_graph(&self.graph), steps.join(", "))
+        let lent = self.lent().lengths();
+        format!("{}\nlent: {lent:?}\ncalls: {}\n", show_graph(&self.graph), steps.join(", "))
     }
 }

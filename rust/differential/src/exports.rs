@@ -1,31 +1,32 @@
 //! Exports, and imports of them.
 
-use crate::cases::{random_graph, Case};
-use crate::lists::{differ, tables};
+use crate::cases::{lent, random_graph, Case};
+use crate::lists::differ;
 use crate::plain;
 use crate::raw;
+use crate::tables::view;
 use reference::generate::{graph, Shape};
 use reference::graph::{Graph, Room, MARK, MOST_INPUTS, MOST_NODES, MOST_OUTPUTS};
+use reference::packed::{pack, Lengths, Packed};
 use reference::random::Random;
-use reference::{aiger, evaluation};
+use reference::{aiger, entries, evaluation};
 
 pub fn random_case(seed: u64) -> Case {
     let mut random = Random::new(seed);
     let most_inputs = [3, 9, 60][random.below(3) as usize];
     let graph = random_graph(&mut random, most_inputs, 9, 5);
-    Case { graph, steps: vec![], seed }
+    Case::new(graph, vec![], seed)
 }
 
 /// One export by all three, with this room.
-fn check_room(g: &Graph, scratch: usize, room: usize) -> Result<Result<usize, u32>, String> {
+fn check_room(g: &Packed, scratch: usize, room: usize) -> Result<Result<usize, u32>, String> {
     let mut due = vec![0xee; room];
     let mut got = due.clone();
     let mut plainly = due.clone();
-    let number = aiger::export(g, scratch, &mut due);
+    let number = entries::export(g, scratch, &mut due);
     let what = format!("exporting with scratch {scratch} to {room} bytes");
     differ(&what, &raw::export(g, scratch, &mut got)?, &number)?;
-    let view = &mut g.clone();
-    let plain = plain::aiger::export(&tables(view).view(), &mut vec![0; scratch], &mut plainly);
+    let plain = plain::aiger::export(&view(g), &mut vec![0; scratch], &mut plainly);
     differ(&format!("plain: {what}"), &plain, &number)?;
     // Texts may be too large to be shown.
     if got != due {
@@ -37,24 +38,34 @@ fn check_room(g: &Graph, scratch: usize, room: usize) -> Result<Result<usize, u3
     Ok(number)
 }
 
-pub fn owned(g: &Graph) -> reducer::Graph {
+/// What is lent of a graph, as a graph of the Rust crate.
+pub fn owned(g: &Packed) -> reducer::Graph {
     let size = reducer::Size { inputs: g.inputs, nodes: g.nodes, outputs: g.outputs };
-    let Graph { node_table, output_table, locks, .. } = g.clone();
-    reducer::Graph { size, node_table, output_table, locks }
+    let Packed { node_table, node_bits, output_table, output_bits, locks, .. } = g.clone();
+    reducer::Graph { size, node_table, node_bits, output_table, output_bits, locks }
+}
+
+/// What a graph of the Rust crate has, as it is lent.
+pub fn packed(g: reducer::Graph) -> Packed {
+    let reducer::Size { inputs, nodes, outputs } = g.size;
+    let reducer::Graph { node_table, node_bits, output_table, output_bits, locks, .. } = g;
+    Packed { inputs, nodes, outputs, node_table, node_bits, output_table, output_bits, locks }
 }
 
 /// The import of a text where just enough is lent.
-fn imported(text: &[u8], gates: usize, outputs: usize) -> Result<Graph, String> {
-    let mut lent = raw::Tables::of(Room::of(gates, outputs));
+fn imported(text: &[u8], gates: usize, outputs: usize) -> Result<Packed, String> {
+    let mut lent = raw::unfilled(Lengths::of(gates, outputs));
     let told = raw::import(text, &mut lent)?;
-    Ok(lent.graph(told.map_err(|number| format!("an export is refused by {number}"))?))
+    told.map_err(|number| format!("an export is refused by {number}"))?;
+    Ok(lent)
 }
 
 /// That an export imports again, is what the reference reads from it, and has the outputs' values.
 fn check_import(g: &Graph, text: &[u8], words: &[u64]) -> Result<(), String> {
     let gates: usize = g.node_indices().map(|node| 1 + g.words_of(node)).sum();
-    let again = imported(text, gates, g.outputs as usize)?;
-    if aiger::parse(text, Room::of(gates, g.outputs as usize)).as_ref() != Ok(&again) {
+    let read = aiger::parse(text, Room::of(gates, g.outputs as usize));
+    let again = read.map_err(|number| format!("the reference refuses an export by {number}"))?;
+    if imported(text, gates, g.outputs as usize)? != pack(&again) {
         return Err("the import of an export differs".into());
     }
     let values = [g, &again].map(|g| {
@@ -69,7 +80,7 @@ fn check_import(g: &Graph, text: &[u8], words: &[u64]) -> Result<(), String> {
 
 /// A small graph: scratch and buffers of all lengths around, the owned call, and the import.
 pub fn check_export(case: &Case) -> Result<(), String> {
-    let g = &case.graph;
+    let (g, lent) = (&case.graph, case.lent());
     let text = aiger::text_of(g).into_bytes();
     for scratch in (g.nodes as usize).saturating_sub(1)..=g.nodes as usize + 1 {
         for room in (0..=1).chain(text.len().saturating_sub(2)..=text.len() + 2) {
@@ -78,10 +89,10 @@ pub fn check_export(case: &Case) -> Result<(), String> {
                 (_, true) => Err(9),
                 _ => Ok(text.len()),
             };
-            differ(&format!("scratch {scratch}, {room} bytes"), &check_room(g, scratch, room)?, &due)?;
+            differ(&format!("scratch {scratch}, {room} bytes"), &check_room(&lent, scratch, room)?, &due)?;
         }
     }
-    differ("an owned graph's text", &owned(g).export(), &Ok(text.clone()))?;
+    differ("an owned graph's text", &owned(&lent).export(), &Ok(text.clone()))?;
     let mut random = Random::new(case.seed);
     let words: Vec<u64> = (0..g.inputs).map(|_| random.word()).collect();
     check_import(g, &text, &words)
@@ -90,10 +101,10 @@ pub fn check_export(case: &Case) -> Result<(), String> {
 /// What `check_export` does, with buffers of the text's length and one byte less alone.
 pub fn check_large(g: &Graph) -> Result<(), String> {
     let text = aiger::text_of(g).into_bytes();
-    let scratch = g.nodes as usize;
-    differ("the room that is enough", &(text.len() <= reducer::text_bytes(owned(g).size)), &true)?;
-    differ("exporting to its length", &check_room(g, scratch, text.len())?, &Ok(text.len()))?;
-    differ("exporting to a byte less", &check_room(g, scratch, text.len() - 1)?, &Err(9))?;
+    let (scratch, lent) = (g.nodes as usize, lent(g, 1));
+    differ("the room that is enough", &(text.len() <= reducer::text_bytes(owned(&lent).size)), &true)?;
+    differ("exporting to its length", &check_room(&lent, scratch, text.len())?, &Ok(text.len()))?;
+    differ("exporting to a byte less", &check_room(&lent, scratch, text.len() - 1)?, &Err(9))?;
     let gates: u32 = g.node_indices().map(|node| 1 + g.words_of(node) as u32).sum();
     if gates > MOST_NODES {
         let refused = reducer::Graph::import(&text).map_err(reducer::Refusal::number).map(|_| ());

@@ -1,5 +1,6 @@
 //! Graphs at the limits, each by its name: settled with no, some and all nodes locked, and held to the other implementations.
 
+use crate::cases::lent;
 use crate::lists::{differ, plain_step};
 use crate::raw;
 use reference::calls::{Answer, Call};
@@ -7,6 +8,7 @@ use reference::evaluation;
 use reference::fast::Fast;
 use reference::generate::{graph, locked_one_in, Shape};
 use reference::graph::{Graph, MARK, MOST_INPUTS, MOST_NODES, MOST_OUTPUTS};
+use reference::packed::{unpack, Packed};
 use reference::random::Random;
 
 pub struct Extreme {
@@ -112,7 +114,7 @@ fn only_xor(random: &mut Random) -> Graph {
 }
 
 /// A settled graph and what settling answered.
-type Outcome = (Answer, Graph);
+type Outcome = (Answer, Packed);
 
 /// Graphs are too large to be shown.
 fn same(whose: &str, got: &Outcome, due: &Outcome) -> Result<(), String> {
@@ -126,6 +128,7 @@ fn same(whose: &str, got: &Outcome, due: &Outcome) -> Result<(), String> {
 /// That the graph computes what it computed, and that both counts are right.
 fn check_meaning(before: &Graph, (answer, after): &Outcome) -> Result<(), String> {
     let Answer::Settled(settled) = answer else { return Err(format!("settling: {answer:?}")) };
+    let after = &unpack(after);
     differ("both counts", &(settled.before, settled.after), &(before.c(), after.c()))?;
     let mut random = Random::new(before.nodes.into());
     let words: Vec<u64> = (0..before.inputs).map(|_| random.word()).collect();
@@ -162,14 +165,16 @@ pub fn check(extreme: &Extreme, seed: u64) -> Result<u64, String> {
 }
 
 fn check_one(extreme: &Extreme, start: Graph) -> Result<(), String> {
-    let scratch = 8 * start.nodes as usize;
-    let mut g = start.clone();
+    let (scratch, lent) = (8 * start.nodes as usize, lent(&start, start.nodes.into()));
+    let mut g = lent.clone();
     let got = (raw::step(&mut g, &Call::Settle, scratch)?, g);
-    let mut g = start.clone();
+    let mut g = lent.clone();
     same("plain Rust", &got, &(plain_step(&mut g, &Call::Settle, scratch), g))?;
     if extreme.by_reference {
-        let mut fast = Fast::new(start.clone());
-        same("the reference", &got, &(Answer::Settled(fast.settle()), fast.g))?;
+        let (mut g, mut fast) = (lent, Fast::new(start.clone()));
+        let answer = Answer::Settled(fast.settle());
+        g.put(&fast.g);
+        same("the reference", &got, &(answer, g))?;
     }
     check_meaning(&start, &got)
 }

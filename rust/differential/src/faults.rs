@@ -4,7 +4,7 @@
 use crate::lists::differ;
 use crate::texts::{check_text, TextCase};
 use reference::aiger;
-use reference::graph::Room;
+use reference::packed::Lengths;
 
 const TEXT: [&[&str]; 7] =
     [&["aag", "4", "2", "0", "2", "2"], &["2"], &["4"], &["6"], &["9"], &["6", "4", "3"], &["8", "7", "2"]];
@@ -21,16 +21,18 @@ const fn fault(number: u32, line: usize, word: usize, instead: &'static str) -> 
     Fault { number, line, word, instead }
 }
 
-static FAULTS: [Fault; 29] = [
+static FAULTS: [Fault; 31] = [
     fault(10, 0, 0, "aig"),
     fault(10, 0, 5, "2\r"),
     fault(11, 0, 3, "1"),
     fault(12, 0, 1, "5"),
     fault(12, 0, 2, "7"),
     fault(3, 0, 4, "4097"),
-    // There are no such words: the node table is a word too short instead, or the locks a byte.
+    // There are no such words: a slice is too short instead.
     fault(4, 0, 6, ""),
     fault(4, 0, 7, ""),
+    fault(4, 0, 8, ""),
+    fault(4, 0, 9, ""),
     fault(10, 1, 0, "02"),
     fault(12, 1, 0, "4"),
     fault(10, 2, 0, "4 "),
@@ -57,7 +59,7 @@ static FAULTS: [Fault; 29] = [
 /// The text with these faults; none where two of them change one word.
 fn case(faults: &[&Fault]) -> Option<TextCase> {
     let mut lines: Vec<Vec<&str>> = TEXT.iter().map(|words| words.to_vec()).collect();
-    let (mut room, mut changed) = (Room::of(2, 2), Vec::new());
+    let (mut lengths, mut changed) = (Lengths::of(2, 2), Vec::new());
     for fault in faults {
         let place = (fault.line, fault.word);
         if changed.contains(&place) {
@@ -66,12 +68,14 @@ fn case(faults: &[&Fault]) -> Option<TextCase> {
         changed.push(place);
         match lines[fault.line].get_mut(fault.word) {
             Some(word) => *word = fault.instead,
-            None if fault.word == 6 => room.node_words = 5,
-            None => room.lock_bytes = 1,
+            None if fault.word == 6 => lengths.node_words = 5,
+            None if fault.word == 7 => lengths.lock_bytes = 1,
+            None if fault.word == 8 => lengths.node_bits = 0,
+            None => lengths.output_bits = 0,
         }
     }
     let text = lines.iter().flat_map(|words| (words.join(" ") + "\n").into_bytes()).collect();
-    Some(TextCase { text, room })
+    Some(TextCase { text, lengths })
 }
 
 fn due(faults: &[&Fault]) -> u32 {
@@ -82,7 +86,7 @@ fn due(faults: &[&Fault]) -> u32 {
 
 fn check(faults: &[&Fault]) -> Result<u64, String> {
     let Some(case) = case(faults) else { return Ok(0) };
-    let told = aiger::parse(&case.text, case.room).map_or_else(|number| number, |_| 0);
+    let told = aiger::parse(&case.text, case.lengths.room()).map_or_else(|number| number, |_| 0);
     let what = format!("\"{}\"", case.text.escape_ascii());
     differ(&format!("the reference's number of {what}"), &told, &due(faults))?;
     check_text(&case).map_err(|wrong| format!("{what}: {wrong}"))?;

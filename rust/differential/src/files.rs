@@ -1,18 +1,22 @@
 //! Files, whole and damaged, and fields.
 
-use crate::cases::{random_graph, room_near};
+use crate::cases::{lengths_near, random_graph};
+use crate::exports::packed;
 use crate::plain;
-use crate::raw::{self, Tables};
+use crate::raw;
 use crate::shrink::Shrink;
+use crate::tables::filled;
+use reference::entries;
 use reference::file;
-use reference::graph::{Graph, Room};
+use reference::graph::Graph;
+use reference::packed::{pack, Lengths};
 use reference::random::Random;
 
 /// A file, and how much is lent for it.
 #[derive(Clone, Debug)]
 pub struct FileCase {
     pub bytes: Vec<u8>,
-    pub room: Room,
+    pub lengths: Lengths,
 }
 
 impl Shrink for FileCase {
@@ -39,7 +43,7 @@ impl Shrink for FileCase {
 
     fn show(&self) -> String {
         let hex: Vec<String> = self.bytes.iter().map(|byte| format!("{byte:02x}")).collect();
-        format!("{:?}; {} bytes: {}\n", self.room, self.bytes.len(), hex.join(" "))
+        format!("{:?}; {} bytes: {}\n", self.lengths, self.bytes.len(), hex.join(" "))
     }
 }
 
@@ -147,13 +151,13 @@ pub fn random_file(seed: u64) -> FileCase {
     damaged_file(&mut random, &g)
 }
 
-/// The graph's file, mostly damaged once or twice, and tables and locks that may be a word or a byte too short for it.
+/// The graph's file, mostly damaged once or twice, and slices of which one may be a word or a byte too short for it.
 pub fn damaged_file(random: &mut Random, g: &Graph) -> FileCase {
     let mut bytes = file::file_of(g);
     for _ in 0..random.below(4) {
         damage(random, &mut bytes);
     }
-    FileCase { bytes, room: room_near(random, g.nodes as usize, g.outputs as usize, 7) }
+    FileCase { bytes, lengths: lengths_near(random, g.nodes as usize, g.outputs as usize, 12) }
 }
 
 fn same<T: PartialEq + std::fmt::Debug>(what: &str, got: &T, due: &T) -> Result<(), String> {
@@ -164,16 +168,16 @@ fn same<T: PartialEq + std::fmt::Debug>(what: &str, got: &T, due: &T) -> Result<
     }
 }
 
-/// Loading, and the field call on every end of the file.
+/// Loading, over bits that are all set, and the field call on every end of the file.
 pub fn check_file(case: &FileCase) -> Result<(), String> {
-    let mut due = Tables::of(case.room);
+    let mut due = raw::unfilled(case.lengths);
     let mut got = due.clone();
     let mut plainly = due.clone();
-    let number = file::load(&case.bytes, &mut due.node_table, &mut due.output_table, &mut due.locks);
+    let number = entries::load(&case.bytes, &mut due);
     same("loading", &raw::load(&case.bytes, &mut got)?, &number)?;
     same("the tables and locks", &got, &due)?;
-    let Tables { node_table, output_table, locks } = &mut plainly;
-    same("plain: loading", &plain::file::load(&case.bytes, node_table, output_table, locks), &number)?;
+    same("plain: loading", &plain::file::load(&case.bytes, filled(&mut plainly)), &number)?;
+    (plainly.inputs, plainly.nodes, plainly.outputs) = (due.inputs, due.nodes, due.outputs);
     same("plain: the tables and locks", &plainly, &due)?;
     for at in 0..=case.bytes.len() {
         check_field(&case.bytes[at..])?;
@@ -196,12 +200,13 @@ fn check_field(bytes: &[u8]) -> Result<(), String> {
 
 /// The owned graph of the Rust crate: it finds the room by itself, so that 4 is never met.
 fn check_owned(bytes: &[u8]) -> Result<(), String> {
-    let mut tables = Tables::of(Room::of(100_000.min(bytes.len()), 4_096));
-    let due = file::load(bytes, &mut tables.node_table, &mut tables.output_table, &mut tables.locks);
+    let nodes = 100_000.min(bytes.len());
+    let due = file::parse(bytes, Lengths::of(nodes, 4_096).room());
     match (reducer::Graph::load(bytes), due) {
-        (Ok(g), Ok((inputs, nodes, outputs))) => {
-            same("an owned graph", &(g.size.inputs, g.size.nodes, g.size.outputs), &(inputs, nodes, outputs))?;
-            same("its file", &g.write(), &Ok(bytes.to_vec()))
+        (Ok(g), Ok(due)) => {
+            let written = g.write();
+            same("an owned graph", &packed(g), &pack(&due))?;
+            same("its file", &written, &Ok(bytes.to_vec()))
         }
         (Err(refusal), Err(number)) if number != 4 => same("an owned graph's refusal", &refusal.number(), &number),
         // The file says more nodes than it has bytes for: the owned one finds that the bytes end, or a field that is not due.
@@ -215,11 +220,12 @@ pub fn check_every_byte(seed: u64) -> Result<u64, String> {
     let mut random = Random::new(seed);
     let g = random_graph(&mut random, 3, 3, 2);
     let bytes = file::file_of(&g);
-    let room = Room { node_words: 3 * g.nodes as usize + 2, ..Room::of(g.nodes as usize + 2, g.outputs as usize + 2) };
+    let lengths =
+        Lengths { node_words: 3 * g.nodes as usize + 2, ..Lengths::of(g.nodes as usize + 2, g.outputs as usize + 2) };
     let mut done = 0;
     let mut check = |bytes: Vec<u8>| {
         done += 1;
-        crate::shrink::hold(seed, FileCase { bytes, room }, &check_file)
+        crate::shrink::hold(seed, FileCase { bytes, lengths }, &check_file)
     };
     for end in 0..=bytes.len() {
         check(bytes[..end].to_vec())?;

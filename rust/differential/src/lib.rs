@@ -3,12 +3,14 @@
 //! `plain` is a reducer in ordinary Rust by the same algorithms as the proved one: what the benchmark times it against, and
 //! a fast second opinion on graphs that are too large for the crate `reference`, to which it is itself held on small ones.
 
+pub mod bit_faults;
 pub mod call_faults;
 pub mod cases;
 pub mod exports;
 pub mod extremes;
 pub mod faults;
 pub mod files;
+mod interface;
 pub mod lengths;
 pub mod lists;
 pub mod lock_fields;
@@ -23,6 +25,9 @@ pub mod replays;
 pub mod savings;
 pub mod shrink;
 pub mod stored;
+pub mod tables;
 pub mod text_limits;
 pub mod texts;
+pub mod timing;
 pub mod trials;
+pub mod words;

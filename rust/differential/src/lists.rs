@@ -2,17 +2,17 @@
 
 use crate::cases::{random_graph, Case, Step};
 use crate::plain;
-use crate::plain::calls::Tables;
-use crate::plain::View;
 use crate::raw;
 use crate::savings;
-use reference::calls::{self, Answer, Call};
+use crate::tables::{tables, view};
+use reference::calls::{Answer, Call};
+use reference::entries;
 use reference::fast::Fast;
-use reference::generate::moves_of;
-use reference::graph::{complemented_edges, Graph};
+use reference::generate::{graph, moves_of, with_locks, SHAPES};
+use reference::graph::Graph;
+use reference::packed::{words_for, Packed};
 use reference::random::Random;
 use reference::settling::Settled;
-use reference::{evaluation, file};
 
 /// One thing of a list of moves made wrong, at times into what is still right.
 fn damage(random: &mut Random, g: &Graph, list: &mut Vec<u32>, moves: &mut Vec<u8>) {
@@ -75,7 +75,18 @@ pub fn random_case(seed: u64, most_nodes: u32, most_calls: u32) -> Case {
     let graph = random_graph(&mut random, 6, most_nodes, 4);
     let count = random.between(1, most_calls);
     let steps = (0..count).map(|_| random_step(&mut random, &graph)).collect();
-    Case { graph, steps, seed }
+    Case::new(graph, steps, seed)
+}
+
+/// The same on a graph whose bits take several words, of nodes and of outputs.
+pub fn longer_case(seed: u64) -> Case {
+    let mut random = Random::new(seed);
+    let (shape, nodes) = (SHAPES[(seed % 8) as usize], random.between(20, 70));
+    let outputs = random.between(50, 140);
+    let graph = graph(&mut random, shape, 8, nodes, outputs);
+    let graph = with_locks(&mut random, graph);
+    let steps = (0..6).map(|_| random_step(&mut random, &graph)).collect();
+    Case::new(graph, steps, seed)
 }
 
 pub fn differ<T: PartialEq + std::fmt::Debug>(what: &str, got: &T, due: &T) -> Result<(), String> {
@@ -88,12 +99,12 @@ pub fn differ<T: PartialEq + std::fmt::Debug>(what: &str, got: &T, due: &T) -> R
 
 /// The list, answer by answer and table by table.
 pub fn check_list(case: &Case) -> Result<(), String> {
-    let mut due = case.graph.clone();
-    let mut got = case.graph.clone();
+    let mut due = case.lent();
+    let mut got = due.clone();
     for (at, step) in case.steps.iter().enumerate() {
         let (call, scratch) = (&step.call, step.scratch(&case.graph));
         let answer = raw::step(&mut got, call, scratch)?;
-        differ(&format!("call {at}, {call:?}"), &answer, &calls::step(&mut due, call, scratch))?;
+        differ(&format!("call {at}, {call:?}"), &answer, &entries::step(&mut due, call, scratch))?;
         differ(&format!("the graph after call {at}, {call:?}"), &got, &due)?;
     }
     Ok(())
@@ -103,7 +114,7 @@ pub fn check_list(case: &Case) -> Result<(), String> {
 pub fn check_readings(case: &Case) -> Result<(), String> {
     let mut random = Random::new(case.seed);
     let words: Vec<u64> = (0..case.graph.inputs).map(|_| random.word()).collect();
-    let mut g = case.graph.clone();
+    let mut g = case.lent();
     let before = check_reading(&g, &words)?;
     for step in &case.steps {
         raw::step(&mut g, &step.call, step.scratch(&case.graph))?;
@@ -112,46 +123,45 @@ pub fn check_readings(case: &Case) -> Result<(), String> {
     differ("the outputs after the list", &after, &before)
 }
 
-fn check_reading(g: &Graph, words: &[u64]) -> Result<Vec<u64>, String> {
-    differ("the count", &raw::count(g)?, &complemented_edges(g))?;
-    let outputs = g.outputs as usize;
+fn check_reading(g: &Packed, words: &[u64]) -> Result<Vec<u64>, String> {
+    differ("the count", &raw::count(g)?, &entries::count(g))?;
+    differ("plain: the count", &plain::complemented_edges(&view(g)), &entries::count(g))?;
+    let (outputs, nodes) = (g.outputs as usize, g.nodes as usize);
     let mut due = vec![7; outputs + 2];
-    let mut results = due.clone();
-    let number = evaluation::evaluate(g, words, g.nodes as usize, &mut due);
-    differ("evaluation", &raw::evaluate(g, words, &mut vec![3; g.nodes as usize], &mut results)?, &number)?;
+    let (mut results, mut plainly) = (due.clone(), due.clone());
+    let number = entries::evaluate(g, words, nodes, &mut due);
+    differ("evaluation", &raw::evaluate(g, words, nodes, &mut results)?, &number)?;
     differ("results", &results, &due)?;
+    differ(
+        "plain: evaluation",
+        &plain::evaluate::evaluate(&view(g), words, &mut vec![3; nodes], &mut plainly),
+        &number,
+    )?;
+    differ("plain: results", &plainly, &due)?;
     check_round_trip(g)?;
     Ok(results)
 }
 
-fn check_round_trip(g: &Graph) -> Result<(), String> {
+/// Written by all three, and loaded over what is no graph, every bit being set.
+fn check_round_trip(g: &Packed) -> Result<(), String> {
     let mut due = vec![0xee; 18 + 22 * g.nodes as usize + 7 * g.outputs as usize + 3];
-    let mut buffer = due.clone();
-    let length = file::write(g, &mut due);
+    let (mut buffer, mut plainly) = (due.clone(), due.clone());
+    let length = entries::write(g, &mut due);
     differ("writing", &raw::write(g, &mut buffer)?, &length)?;
     differ("the file", &buffer, &due)?;
+    differ("plain: writing", &plain::file::write(&view(g), &mut plainly), &length)?;
+    differ("plain: the file", &plainly, &due)?;
     let length = length.expect("an admitted graph and a long buffer");
-    let due =
-        raw::Tables { node_table: g.node_table.clone(), output_table: g.output_table.clone(), locks: g.locks.clone() };
-    let mut lent = due.clone();
-    lent.node_table[..3 * g.nodes as usize].fill(77);
-    lent.output_table[..g.outputs as usize].fill(77);
+    let mut lent = g.clone();
+    let (places, outputs) = (3 * g.nodes as usize, g.outputs as usize);
+    lent.node_table[..places].fill(77);
+    lent.node_bits[..words_for(places)].fill(u64::MAX);
+    lent.output_table[..outputs].fill(77);
+    lent.output_bits[..words_for(outputs)].fill(u64::MAX);
     lent.locks[..g.nodes as usize].fill(77);
     let loaded = raw::load(&buffer[..length], &mut lent)?;
     differ("loading what was written", &loaded, &Ok((g.inputs, g.nodes, g.outputs)))?;
-    differ("the tables and locks loaded", &lent, &due)
-}
-
-/// The graph as the plain implementation is lent it.
-pub fn tables(g: &mut Graph) -> Tables<'_> {
-    Tables {
-        inputs: g.inputs,
-        nodes: g.nodes,
-        outputs: g.outputs,
-        node_table: &mut g.node_table,
-        output_table: &mut g.output_table,
-        locks: &g.locks,
-    }
+    differ("the tables and locks loaded", &lent, g)
 }
 
 fn saving(result: Result<reducer::Saving, u32>) -> Answer {
@@ -159,7 +169,7 @@ fn saving(result: Result<reducer::Saving, u32>) -> Answer {
 }
 
 /// One call by the plain implementation.
-pub fn plain_step(g: &mut Graph, call: &Call, scratch: usize) -> Answer {
+pub fn plain_step(g: &mut Packed, call: &Call, scratch: usize) -> Answer {
     let t = &mut tables(g);
     match *call {
         Call::Node(v) => saving(plain::calls::node_call(t, v)),
@@ -175,14 +185,25 @@ pub fn plain_step(g: &mut Graph, call: &Call, scratch: usize) -> Answer {
     }
 }
 
+/// The tree call by the plain implementation's two programmes, each on a copy.
+fn check_both_trees(g: &Packed, root: u32, scratch: usize) -> Result<(), String> {
+    let (mut swept, mut kept) = (g.clone(), g.clone());
+    let due = plain::sweeps::tree_call(&mut tables(&mut swept), root, scratch);
+    differ("plain: the tree call", &plain::tree::tree_call(&mut tables(&mut kept), root, scratch), &due)?;
+    differ("plain: the graph after the tree call", &kept, &swept)
+}
+
 /// The plain implementation held to the slow one, so that it may stand for it on large graphs.
 pub fn check_plain(case: &Case) -> Result<(), String> {
-    let mut due = case.graph.clone();
-    let mut got = case.graph.clone();
+    let mut due = case.lent();
+    let mut got = due.clone();
     for (at, step) in case.steps.iter().enumerate() {
         let (call, scratch) = (&step.call, step.scratch(&case.graph));
+        if let Call::Tree(root) = *call {
+            check_both_trees(&got, root, scratch)?;
+        }
         let answer = plain_step(&mut got, call, scratch);
-        differ(&format!("plain: call {at}, {call:?}"), &answer, &calls::step(&mut due, call, scratch))?;
+        differ(&format!("plain: call {at}, {call:?}"), &answer, &entries::step(&mut due, call, scratch))?;
         differ(&format!("plain: the graph after call {at}"), &got, &due)?;
     }
     Ok(())
@@ -190,8 +211,8 @@ pub fn check_plain(case: &Case) -> Result<(), String> {
 
 /// Large graphs: every call against the plain implementation.
 pub fn check_large(case: &Case) -> Result<(), String> {
-    let mut due = case.graph.clone();
-    let mut got = case.graph.clone();
+    let mut due = case.lent();
+    let mut got = due.clone();
     for (at, step) in case.steps.iter().enumerate() {
         let (call, scratch) = (&step.call, step.scratch(&case.graph));
         let answer = raw::step(&mut got, call, scratch)?;
@@ -202,19 +223,11 @@ pub fn check_large(case: &Case) -> Result<(), String> {
     }
     let words: Vec<u64> = (0..got.inputs as u64).map(|k| (k + case.seed).wrapping_mul(0x9e37_79b9_7f4a_7c15)).collect();
     let mut results = (vec![0; got.outputs as usize], vec![0; got.outputs as usize]);
-    let mut scratch = vec![0; got.nodes as usize];
-    let view = View {
-        inputs: got.inputs,
-        nodes: got.nodes,
-        outputs: got.outputs,
-        node_table: &got.node_table,
-        output_table: &got.output_table,
-        locks: &got.locks,
-    };
+    let nodes = got.nodes as usize;
     differ(
         "evaluation",
-        &raw::evaluate(&got, &words, &mut scratch, &mut results.0)?,
-        &plain::evaluate::evaluate(&view, &words, &mut vec![0; got.nodes as usize], &mut results.1),
+        &raw::evaluate(&got, &words, nodes, &mut results.0)?,
+        &plain::evaluate::evaluate(&view(&got), &words, &mut vec![0; nodes], &mut results.1),
     )?;
     differ("results", &results.0, &results.1)?;
     check_round_trip(&got)
@@ -222,12 +235,14 @@ pub fn check_large(case: &Case) -> Result<(), String> {
 
 /// Settling of graphs of hundreds of nodes, against the other implementation's fast form.
 pub fn check_settled(case: &Case) -> Result<(), String> {
-    let mut got = case.graph.clone();
+    let mut got = case.lent();
+    let mut lent = got.clone();
     let answer = raw::step(&mut got, &Call::Settle, 8 * case.graph.nodes as usize)?;
     let mut fast = Fast::new(case.graph.clone());
     let due = fast.settle();
     differ("settling", &answer, &Answer::Settled(due))?;
-    if got != fast.g {
+    lent.put(&fast.g);
+    if got != lent {
         return Err("the settled graph differs".into());
     }
     Ok(())

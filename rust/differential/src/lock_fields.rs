@@ -2,8 +2,8 @@
 
 use crate::files::{check_file, FileCase};
 use crate::lists::differ;
-use crate::raw::{self, Tables};
-use reference::graph::Room;
+use crate::raw;
+use reference::packed::Lengths;
 
 /// Indices of the constant, of inputs, of the three nodes, of nothing.
 const INDICES: [u32; 9] = [0, 1, 2, 3, 4, 5, 6, 3 + 256, u32::MAX];
@@ -25,17 +25,17 @@ fn front() -> Vec<Vec<u8>> {
 
 /// The number due, and where it is 0 the locks.
 fn check(bytes: Vec<u8>, due: u32, locks: [u8; 3]) -> Result<u64, String> {
-    let room = Room { lock_bytes: 5, ..Room::of(3, 2) };
-    let mut lent = Tables::of(room);
+    let lengths = Lengths { lock_bytes: 5, ..Lengths::of(3, 2) };
+    let mut lent = raw::unfilled(lengths);
     let what = format!("the file {:02x?}", bytes);
     let told = raw::load(&bytes, &mut lent)?;
     differ(&what, &told, &if due == 0 { Ok((2, 3, 2)) } else { Err(due) })?;
-    let mut bytes_due = Tables::of(room).locks;
+    let mut bytes_due = raw::unfilled(lengths).locks;
     if due == 0 {
         bytes_due[..3].copy_from_slice(&locks);
     }
     differ(&format!("the locks after {what}"), &lent.locks, &bytes_due)?;
-    check_file(&FileCase { bytes, room }).map_err(|wrong| format!("{what}: {wrong}"))?;
+    check_file(&FileCase { bytes, lengths }).map_err(|wrong| format!("{what}: {wrong}"))?;
     Ok(1)
 }
 

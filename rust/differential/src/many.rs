@@ -2,17 +2,19 @@
 
 use std::sync::atomic::{AtomicU64, Ordering};
 
-use crate::cases::{random_graph, Case, Step};
+use crate::cases::{lent, random_graph, Case, Step};
 use crate::exports::owned;
-use crate::lists::{differ, random_many, tables};
+use crate::lists::{differ, random_many};
 use crate::plain;
 use crate::raw;
-use reference::calls::Call;
+use crate::tables::tables;
+use reference::calls::{Answer, Call};
+use reference::entries;
 use reference::fast::Fast;
 use reference::generate::moves_of;
 use reference::graph::{index_of, Graph};
-use reference::many;
 use reference::moves::{moves_at, rows};
+use reference::packed::Packed;
 use reference::random::Random;
 
 /// Lists that lose, that turn an edge twice, and that have a locked node with move 0 beside one that moves.
@@ -25,14 +27,23 @@ pub fn random_case(seed: u64) -> Case {
     let mut random = Random::new(seed);
     let graph = random_graph(&mut random, 6, 9, 5);
     let steps = (0..4).map(|_| Step { call: random_many(&mut random, &graph), spare: 0 }).collect();
-    Case { graph, steps, seed }
+    Case::new(graph, steps, seed)
+}
+
+fn by_reference(g: &mut Packed, list: &[u32], moves: &[u8]) -> Result<Result<i64, u32>, String> {
+    let call = Call::Many { list: list.to_vec(), moves: moves.to_vec() };
+    match entries::step(g, &call, 0) {
+        Answer::Total(saved) => Ok(Ok(saved)),
+        Answer::Refused(number) => Ok(Err(number)),
+        other => Err(format!("the reference answers many moves by {other:?}")),
+    }
 }
 
 /// One list by all three: the answer, and after a refusal everything as it was.
-pub fn check_one(g: &Graph, list: &[u32], moves: &[u8]) -> Result<Result<i64, u32>, String> {
+pub fn check_one(g: &Packed, list: &[u32], moves: &[u8]) -> Result<Result<i64, u32>, String> {
     let what = || format!("the moves {moves:?} at {list:?}");
     let (mut due, mut got, mut plainly) = (g.clone(), g.clone(), g.clone());
-    let answer = many::many(&mut due, list, moves);
+    let answer = by_reference(&mut due, list, moves)?;
     differ(&what(), &raw::many(&mut got, list, moves)?, &answer)?;
     differ(&format!("the graph after {}", what()), &got, &due)?;
     differ(&format!("plain: {}", what()), &plain::many::many(&mut tables(&mut plainly), list, moves), &answer)?;
@@ -79,7 +90,7 @@ fn shuffled(random: &mut Random, length: usize) -> Vec<usize> {
 }
 
 /// Each move by itself, in some order: they end in the same graph and save as much together.
-fn check_order(g: &Graph, list: &[u32], moves: &[u8], saved: i64, random: &mut Random) -> Result<(), String> {
+fn check_order(g: &Packed, list: &[u32], moves: &[u8], saved: i64, random: &mut Random) -> Result<(), String> {
     let (mut whole, mut single, mut sum) = (g.clone(), g.clone(), 0);
     differ("the saving", &raw::many(&mut whole, list, moves)?, &Ok(saved))?;
     let order = shuffled(random, list.len());
@@ -93,7 +104,7 @@ fn check_order(g: &Graph, list: &[u32], moves: &[u8], saved: i64, random: &mut R
 
 /// Each list of a case: by all three, by an owned graph, and entry by entry.
 pub fn check_many(case: &Case) -> Result<(), String> {
-    let g = &case.graph;
+    let g = &case.lent();
     let mut random = Random::new(case.seed);
     for step in &case.steps {
         let Call::Many { list, moves } = &step.call else { continue };
@@ -101,7 +112,7 @@ pub fn check_many(case: &Case) -> Result<(), String> {
         let mut mine = owned(g);
         differ("an owned graph", &mine.many(list, moves).map_err(reducer::Refusal::number), &answer)?;
         if let Ok(saved) = answer {
-            note(g, list, &moves[..list.len()], saved);
+            note(&case.graph, list, &moves[..list.len()], saved);
             check_order(g, list, moves, saved, &mut random)?;
         }
     }
@@ -111,15 +122,15 @@ pub fn check_many(case: &Case) -> Result<(), String> {
 /// The bytes of each root's preview, with all nodes as the list, and with the nodes that move alone: the tree call's graph and saving.
 /// How many roots there were.
 pub fn check_previews(case: &Case) -> Result<u64, String> {
-    let g = &case.graph;
+    let g = case.lent();
     let (nodes, scratch) = (g.nodes as usize, 8 * g.nodes as usize);
-    let all: Vec<u32> = g.node_indices().collect();
+    let all: Vec<u32> = case.graph.node_indices().collect();
     let mut done = 0;
-    for root in g.node_indices() {
+    for &root in &all {
         let (mut called, mut made, mut bytes) = (g.clone(), g.clone(), vec![0xee; nodes]);
-        let Ok(told) = raw::preview(&mut made, root, &mut bytes, scratch)? else { continue };
+        let Ok(told) = raw::preview(&g, root, &mut bytes, scratch)? else { continue };
         differ("the saving", &raw::many(&mut made, &all, &bytes)?, &Ok(told.total()))?;
-        differ("the tree call", &raw::tree(&mut called, root, &mut vec![0; scratch])?, &Ok(told))?;
+        differ("the tree call", &raw::tree(&mut called, root, scratch)?, &Ok(told))?;
         differ(&format!("the graph after the moves previewed at {root}"), &made, &called)?;
         let moving: Vec<usize> = (0..nodes).filter(|&v| bytes[v] != 0).collect();
         let (list, moves): (Vec<u32>, Vec<u8>) = moving.iter().map(|&v| (all[v], bytes[v])).unzip();
@@ -137,20 +148,22 @@ pub fn check_previewed(case: &Case) -> Result<(), String> {
 }
 
 /// On a graph that is too large to be shown, by all three.
-fn check_large_list(g: &Graph, list: &[u32], moves: &[u8]) -> Result<(), String> {
+fn check_large_list(g: &Graph, lent: &Packed, list: &[u32], moves: &[u8]) -> Result<(), String> {
     let what = format!("{} moves at {} nodes", moves.len(), list.len());
-    let (mut got, mut plainly, mut fast) = (g.clone(), g.clone(), Fast::new(g.clone()));
+    let (mut got, mut plainly, mut fast) = (lent.clone(), lent.clone(), Fast::new(g.clone()));
     let due = Ok(fast.many(list, moves));
     differ(&what, &raw::many(&mut got, list, moves)?, &due)?;
     differ(&format!("plain: {what}"), &plain::many::many(&mut tables(&mut plainly), list, moves), &due)?;
-    if got != fast.g || plainly != fast.g {
+    let mut made = lent.clone();
+    made.put(&fast.g);
+    if got != made || plainly != made {
         return Err(format!("the graph after {what}"));
     }
     Ok(())
 }
 
 /// Lists whose last entry alone is at fault, or the one that a fault of the last comes after: nothing has changed.
-fn check_large_faults(g: &Graph, list: &[u32], moves: &[u8]) -> Result<u64, String> {
+fn check_large_faults(g: &Graph, lent: &Packed, list: &[u32], moves: &[u8]) -> Result<u64, String> {
     let Some(&last) = list.last() else { return Ok(0) };
     let mut faults = vec![(7, g.inputs + g.nodes + 1, 9), (7, g.inputs, 0), (15, last, 4)];
     if list.len() > 1 {
@@ -160,17 +173,14 @@ fn check_large_faults(g: &Graph, list: &[u32], moves: &[u8]) -> Result<u64, Stri
         faults.push((16, last, 1));
     }
     for &(due, node, number) in &faults {
-        let (mut list, mut moves, mut lent) = (list.to_vec(), moves.to_vec(), g.clone());
+        let (mut list, mut moves, mut got) = (list.to_vec(), moves.to_vec(), lent.clone());
         list.pop();
         moves.pop();
         list.push(node);
         moves.push(number);
-        differ("a fault of the last entry", &raw::many(&mut lent, &list, &moves)?, &Err(due))?;
+        differ("a fault of the last entry", &raw::many(&mut got, &list, &moves)?, &Err(due))?;
         moves.pop();
-        differ("a move too few", &raw::many(&mut lent, &list, &moves)?, &Err(4))?;
-        if lent != *g {
-            return Err(format!("refused by {due} at the last entry, and yet the graph is changed"));
-        }
+        differ("a move too few", &raw::many(&mut got, &list, &moves)?, &Err(4))?;
     }
     Ok(2 * faults.len() as u64)
 }
@@ -186,10 +196,9 @@ pub fn check_large(g: &Graph, seed: u64) -> Result<u64, String> {
     }
     // Every node moves that may.
     lists.push((all.0.clone(), all.0.iter().map(|&node| moves_at(g, node).len() as u8 - 1).collect()));
-    let mut done = lists.len() as u64;
+    let lent = lent(g, seed + 1);
     for (list, moves) in &lists {
-        check_large_list(g, list, moves)?;
+        check_large_list(g, &lent, list, moves)?;
     }
-    done += check_large_faults(g, &all.0, &all.1)?;
-    Ok(done)
+    Ok(lists.len() as u64 + check_large_faults(g, &lent, &all.0, &all.1)?)
 }

@@ -3,12 +3,13 @@
 
 use crate::lists::differ;
 use crate::many::check_one;
-use reference::graph::{Graph, MARK};
+use reference::graph::MARK;
+use reference::packed::{set_bit, Packed};
 
 /// Moves in the making.
 #[derive(Clone)]
 struct Asked {
-    g: Graph,
+    g: Packed,
     list: Vec<u32>,
     moves: Vec<u8>,
 }
@@ -29,15 +30,25 @@ static FAULTS: [&[Fault]; 6] = [
         (3, |asked| asked.g.nodes = 100_001),
         (3, |asked| asked.g.outputs = u32::MAX),
     ],
-    &[(4, |asked| asked.g.node_table.truncate(11)), (4, |asked| asked.g.output_table.truncate(1))],
+    &[
+        (4, |asked| asked.g.node_table.truncate(11)),
+        (4, |asked| asked.g.output_table.truncate(1)),
+        (4, |asked| asked.g.node_bits.clear()),
+        (4, |asked| asked.g.output_bits.clear()),
+    ],
     &[
         (4, |asked| asked.g.locks.truncate(3)),
         (4, |asked| asked.g.locks = vec![2]),
         (13, |asked| asked.g.locks[0] = 2),
         (13, |asked| asked.g.locks[3] = 255),
     ],
-    &[(5, |asked| asked.g.node_table[0] = 6), (5, |asked| asked.g.node_table[10] = MARK)],
-    &[(5, |asked| asked.g.output_table[0] = 14)],
+    &[
+        (5, |asked| asked.g.node_table[0] = 3),
+        (5, |asked| asked.g.node_table[10] = MARK),
+        (5, |asked| set_bit(&mut asked.g.node_bits, 8)),
+        (5, |asked| set_bit(&mut asked.g.node_bits, 12)),
+    ],
+    &[(5, |asked| asked.g.output_table[0] = 0x7fff_ffff), (5, |asked| set_bit(&mut asked.g.output_bits, 2))],
     &[(4, |asked| asked.moves.truncate(3)), (4, |asked| asked.moves.clear())],
 ];
 
@@ -49,11 +60,18 @@ static ENTRIES: [&[Entry]; 4] = [
     &[(7, 7, 1), (7, MARK, 2), (14, 5, 4), (14, 4, 1), (15, 6, 2), (15, 6, 3), (16, 6, 1)],
 ];
 
-/// Every node is listed, and one move more than that.
+/// The nodes 3 5 2; XOR 7 4; XOR 6 9; 2 10 9 and the outputs 11 and 7. Every node is listed, and one move more than that.
 fn without_faults() -> Asked {
-    let node_table = vec![3, 5, 2, 7, 4, MARK, 6, 9, MARK, 2, 10, 9];
-    let g =
-        Graph { inputs: 2, nodes: 4, outputs: 2, node_table, output_table: vec![11, 7], locks: vec![0, 1, 0, 1, 9] };
+    let g = Packed {
+        inputs: 2,
+        nodes: 4,
+        outputs: 2,
+        node_table: vec![1, 2, 1, 3, 2, MARK, 3, 4, MARK, 1, 5, 4],
+        node_bits: vec![0b100_010_001_011, 77],
+        output_table: vec![5, 3],
+        output_bits: vec![0b11],
+        locks: vec![0, 1, 0, 1, 9],
+    };
     Asked { g, list: vec![3, 4, 5, 6], moves: vec![1, 0, 3, 0, 77] }
 }
 

@@ -1,14 +1,16 @@
 //! A preview with every choice of some faults. Its number is known without any implementation: the first in the order 3, 4, 5, 13, 7, 8.
 
+use crate::call_faults::three_nodes;
 use crate::lists::differ;
 use crate::previews::check_one;
-use reference::graph::{Graph, MARK};
+use reference::graph::MARK;
 use reference::moves::Saving;
+use reference::packed::{set_bit, Packed};
 
 /// A preview in the making.
 #[derive(Clone)]
 struct Asked {
-    g: Graph,
+    g: Packed,
     root: u32,
     bytes: usize,
     scratch: usize,
@@ -25,8 +27,8 @@ static FAULTS: [&[Fault]; 11] = [
     &[(3, |asked| asked.g.inputs = 4_097)],
     &[(3, |asked| asked.g.nodes = 100_001), (3, |asked| asked.g.nodes = u32::MAX)],
     &[(3, |asked| asked.g.outputs = 4_097)],
-    &[(4, |asked| asked.g.node_table.truncate(8)), (4, |asked| asked.g.node_table.clear())],
-    &[(4, |asked| asked.g.output_table.truncate(1))],
+    &[(4, |asked| asked.g.node_table.truncate(8)), (4, |asked| asked.g.node_bits.clear())],
+    &[(4, |asked| asked.g.output_table.truncate(1)), (4, |asked| asked.g.output_bits.clear())],
     &[(4, |asked| asked.bytes = 2), (4, |asked| asked.bytes = 0)],
     // Too few locks, locks that are none, and both.
     &[
@@ -35,23 +37,22 @@ static FAULTS: [&[Fault]; 11] = [
         (13, |asked| asked.g.locks[2] = 255),
         (4, |asked| asked.g.locks = vec![2, 2]),
     ],
-    // A node that names itself, and marks where they may not be.
-    &[(5, |asked| asked.g.node_table[0] = 6), (5, |asked| asked.g.node_table[1] = MARK)],
-    &[(5, |asked| asked.g.output_table[0] = 12), (5, |asked| asked.g.output_table[0] = MARK)],
-    // An input, no index, and a node that another reads.
+    // A node that names itself, a mark where it may not be, one with its bit, and a bit past the last literal.
     &[
-        (7, |asked| asked.root = 2),
-        (7, |asked| asked.root = 6),
-        (7, |asked| asked.root = MARK),
-        (7, |asked| asked.root = 3),
+        (5, |asked| asked.g.node_table[0] = 3),
+        (5, |asked| asked.g.node_table[1] = MARK),
+        (5, |asked| set_bit(&mut asked.g.node_bits, 5)),
+        (5, |asked| set_bit(&mut asked.g.node_bits, 63)),
     ],
+    &[(5, |asked| asked.g.output_table[0] = 0x8000_0000), (5, |asked| set_bit(&mut asked.g.output_bits, 2))],
+    // An input, no index, and a node that another reads.
+    &[(7, |asked| asked.root = 2), (7, |asked| asked.root = 6), (7, |asked| asked.root = 3)],
     &[(8, |asked| asked.scratch = 23), (8, |asked| asked.scratch = 0)],
 ];
 
-/// All three nodes are the tree of node 5, whose best moves save 2 among their words.
+/// All three nodes are the tree of node 5, and free: its best moves save 2 among their words.
 fn without_faults() -> Asked {
-    let node_table = vec![3, 5, 2, 7, 4, MARK, 2, 5, 8];
-    let g = Graph { inputs: 2, nodes: 3, outputs: 2, node_table, output_table: vec![11, 5], locks: vec![0, 0, 0, 9] };
+    let g = Packed { locks: vec![0, 0, 0, 9], ..three_nodes() };
     Asked { g, root: 5, bytes: 3, scratch: 24 }
 }
 

@@ -2,18 +2,20 @@
 
 use std::sync::atomic::{AtomicU64, Ordering};
 
-use crate::cases::{random_graph, Case, Step};
+use crate::cases::{lent, random_graph, Case, Step};
 use crate::exports::owned;
-use crate::lists::{differ, tables};
+use crate::lists::differ;
 use crate::plain;
 use crate::raw;
 use crate::savings;
+use crate::tables::view;
 use reference::calls::{Answer, Call};
+use reference::entries;
 use reference::fast::Fast;
 use reference::generate::{graph, with_locks, Shape};
 use reference::graph::{Graph, MARK};
 use reference::moves::{self, Saving};
-use reference::preview;
+use reference::packed::Packed;
 use reference::random::Random;
 
 /// What the bytes hold before a preview.
@@ -32,7 +34,7 @@ pub fn random_case(seed: u64) -> Case {
         let spare = if random.one_in(12) { -1 } else { random.below(3) as i64 };
         steps.push(Step { call: Call::Tree(root), spare });
     }
-    Case { graph, steps, seed }
+    Case::new(graph, steps, seed)
 }
 
 /// What a preview answers, and the bytes after it.
@@ -42,15 +44,14 @@ pub struct Told {
 }
 
 /// One preview by all three, with so many bytes and words of scratch.
-pub fn check_one(g: &Graph, root: u32, bytes: usize, scratch: usize) -> Result<Told, String> {
+pub fn check_one(g: &Packed, root: u32, bytes: usize, scratch: usize) -> Result<Told, String> {
     let what = format!("the preview at {root} with {bytes} bytes and scratch {scratch}");
     let mut due = vec![CANARY; bytes];
-    let (mut got, mut plainly, mut lent) = (due.clone(), due.clone(), g.clone());
-    let answer = preview::preview(g, root, scratch, &mut due);
-    differ(&what, &raw::preview(&mut lent, root, &mut got, scratch)?, &answer)?;
+    let (mut got, mut plainly) = (due.clone(), due.clone());
+    let answer = entries::preview(g, root, scratch, &mut due);
+    differ(&what, &raw::preview(g, root, &mut got, scratch)?, &answer)?;
     differ(&format!("the bytes after {what}"), &got, &due)?;
-    differ(&format!("the tables and locks after {what}"), &lent, g)?;
-    let plain = plain::preview::preview(&tables(&mut lent).view(), root, &mut plainly, scratch).map(savings::of);
+    let plain = plain::preview::preview(&view(g), root, &mut plainly, scratch).map(savings::of);
     differ(&format!("plain: {what}"), &plain, &answer)?;
     differ(&format!("plain: the bytes after {what}"), &plainly, &due)?;
     Ok(Told { answer, bytes: got })
@@ -78,33 +79,33 @@ pub fn all_met() -> Result<(), String> {
 }
 
 /// That the tree call on a copy answers the same, and ends where the moves lead, made one by one.
-fn check_call(g: &Graph, root: u32, scratch: usize, answer: Result<Saving, u32>, told: &[u8]) -> Result<(), String> {
-    let mut called = g.clone();
+fn check_call(case: &Case, root: u32, scratch: usize, answer: Result<Saving, u32>, told: &[u8]) -> Result<(), String> {
+    let (g, mut called) = (&case.graph, case.lent());
     let due = raw::step(&mut called, &Call::Tree(root), scratch)?;
     differ(&format!("the preview at {root}"), &answer.map_or_else(Answer::Refused, Answer::Saving), &due)?;
-    let mut moved = g.clone();
+    let (mut moved, mut made) = (g.clone(), case.lent());
     if answer.is_ok() {
         check_locked(g, told)?;
         for (node, &number) in g.node_indices().zip(told) {
             moves::make(&mut moved, node, number as usize);
         }
     }
-    differ(&format!("the graph after the moves previewed at {root}"), &moved, &called)
+    made.put(&moved);
+    differ(&format!("the graph after the moves previewed at {root}"), &made, &called)
 }
 
 /// A small graph: bytes that are enough, that have a tail, and that are too few; the owned call, and the tree call.
 pub fn check_preview(case: &Case) -> Result<(), String> {
-    let g = &case.graph;
-    let nodes = g.nodes as usize;
+    let (nodes, g) = (case.graph.nodes as usize, &case.lent());
     for step in &case.steps {
         let Call::Tree(root) = step.call else { continue };
-        let scratch = step.scratch(g);
+        let scratch = step.scratch(&case.graph);
         for bytes in [nodes.saturating_sub(1), nodes / 2].into_iter().filter(|&bytes| bytes < nodes) {
             differ(&format!("{bytes} bytes"), &check_one(g, root, bytes, scratch)?.answer, &Err(4))?;
         }
         let Told { answer, bytes } = check_one(g, root, nodes + (case.seed % 3) as usize, scratch)?;
         differ("the later bytes", &bytes[nodes..].iter().all(|&byte| byte == CANARY), &true)?;
-        check_call(g, root, scratch, answer, &bytes[..nodes])?;
+        check_call(case, root, scratch, answer, &bytes[..nodes])?;
         if step.spare >= 0 {
             let due = answer.map(|saving| (saving, bytes[..nodes].to_vec()));
             let got = owned(g).preview(root).map(|told| (savings::of(told.saving), told.moves));
@@ -156,20 +157,19 @@ pub fn deep(seed: u64) -> Graph {
 }
 
 /// What a preview of a graph that is too large to be shown answers, where all that it must leave is left.
-fn check_kept(g: &Graph, root: u32) -> Result<Told, String> {
+fn check_kept(g: &Packed, root: u32) -> Result<Told, String> {
     let nodes = g.nodes as usize;
-    let (mut lent, mut bytes) = (g.clone(), vec![CANARY; nodes + 1]);
-    let answer = raw::preview(&mut lent, root, &mut bytes, 8 * nodes)?;
-    let kept = if answer.is_ok() { &bytes[nodes..] } else { &bytes };
-    if lent != *g || kept.iter().any(|&byte| byte != CANARY) {
+    let mut bytes = vec![CANARY; nodes + 1];
+    let answer = raw::preview(g, root, &mut bytes, 8 * nodes)?;
+    if answer.is_ok() && bytes[nodes] != CANARY {
         return Err(format!("the preview at {root} has changed what it must leave"));
     }
     Ok(Told { answer, bytes })
 }
 
-fn check_plain(g: &Graph, root: u32, due: &Told) -> Result<(), String> {
+fn check_plain(g: &Packed, root: u32, due: &Told) -> Result<(), String> {
     let mut bytes = vec![CANARY; due.bytes.len()];
-    let answer = plain::preview::preview(&tables(&mut g.clone()).view(), root, &mut bytes, 8 * g.nodes as usize);
+    let answer = plain::preview::preview(&view(g), root, &mut bytes, 8 * g.nodes as usize);
     differ(&format!("plain: the preview at {root}"), &answer.map(savings::of), &due.answer)?;
     if bytes != due.bytes {
         return Err(format!("plain: the bytes after the preview at {root}"));
@@ -178,14 +178,14 @@ fn check_plain(g: &Graph, root: u32, due: &Told) -> Result<(), String> {
 }
 
 /// The same, held to the fast form of the reference, and the tree call to where the moves lead.
-fn check_by_fast(g: &Graph, fast: &mut Fast, root: u32) -> Result<(), String> {
-    let got = check_kept(g, root)?;
-    let mut called = g.clone();
+fn check_by_fast(g: &Graph, lent: &Packed, fast: &mut Fast, root: u32) -> Result<(), String> {
+    let got = check_kept(lent, root)?;
+    let (mut called, mut made) = (lent.clone(), lent.clone());
     let due = raw::step(&mut called, &Call::Tree(root), 8 * g.nodes as usize)?;
     differ(&format!("the preview at {root}"), &got.answer.map_or_else(Answer::Refused, Answer::Saving), &due)?;
     if !fast.is_root(root) {
         differ(&format!("the preview at {root}, which is no root"), &got.answer, &Err(7))?;
-        return check_plain(g, root, &got);
+        return check_plain(lent, root, &got);
     }
     let (saving, told) = fast.preview(root);
     differ(&format!("the preview at {root}, held to the reference"), &got.answer, &Ok(saving))?;
@@ -193,10 +193,11 @@ fn check_by_fast(g: &Graph, fast: &mut Fast, root: u32) -> Result<(), String> {
         return Err(format!("the moves previewed at {root}"));
     }
     check_locked(g, &told)?;
-    check_plain(g, root, &got)?;
+    check_plain(lent, root, &got)?;
     let make = |fast: &mut Fast| g.node_indices().zip(&told).for_each(|(node, &number)| fast.make(node, number.into()));
     make(fast);
-    if fast.g != called {
+    made.put(&fast.g);
+    if made != called {
         return Err(format!("the graph after the moves previewed at {root}"));
     }
     // Made once more, each move is taken back.
@@ -210,9 +211,9 @@ pub fn check_large(g: &Graph, seed: u64) -> Result<u64, String> {
     let (first, last) = (g.inputs + 1, g.inputs + g.nodes);
     let mut indices = vec![first, last];
     indices.extend((0..4).map(|_| random.between(first, last)));
-    let mut fast = Fast::new(g.clone());
+    let (lent, mut fast) = (lent(g, seed + 1), Fast::new(g.clone()));
     for &root in &indices {
-        check_by_fast(g, &mut fast, root)?;
+        check_by_fast(g, &lent, &mut fast, root)?;
     }
     Ok(indices.len() as u64)
 }

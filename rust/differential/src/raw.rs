@@ -1,14 +1,15 @@
-//! The C interface called as C calls it, with a canary where the call may leave a number: a refused call must leave it.
+//! The C interface called as C calls it, with a canary where the call may leave a number. A refused call must have left that, and every
+//! slice that it was lent; an accepted one has left what it may not write.
 
 use std::sync::atomic::{AtomicU64, Ordering};
 
-use reducer::raw;
 use reference::calls::{Answer, Call};
-use reference::graph::{Graph, Room};
 use reference::moves::Saving;
+use reference::packed::{Lengths, Packed};
 use reference::replay::Words;
 use reference::settling::Settled;
 
+use crate::interface::{filling, on_graph};
 use crate::savings;
 
 const CANARY: u32 = 0xa5a5_a5a5;
@@ -37,10 +38,46 @@ fn answered<T: PartialEq + std::fmt::Debug>(number: u32, told: T, canary: T) -> 
     }
 }
 
+/// That a slice is as it was where the call is refused.
+fn left<T: PartialEq>(what: &str, number: u32, before: &[T], after: &[T]) -> Result<(), String> {
+    if number != 0 && before != after {
+        return Err(format!("refused by {number}, and yet {what} changed"));
+    }
+    Ok(())
+}
+
+/// That a slice is as it was from some place on, if it reaches there.
+fn left_from<T: PartialEq>(what: &str, place: usize, before: &[T], after: &[T]) -> Result<(), String> {
+    if before.get(place..) != after.get(place..) {
+        return Err(format!("{what} changed from place {place} on"));
+    }
+    Ok(())
+}
+
+/// What a call may write of the graph that it is lent, where it is accepted.
+#[derive(Clone, Copy, PartialEq, Eq)]
+enum Written {
+    Nothing,
+    Bits,
+    Everything,
+}
+
+/// That all else is as it was: behind the graph always, and the whole of it where the call is refused.
+fn graph_left(number: u32, written: Written, before: &Packed, after: &Packed) -> Result<(), String> {
+    let needed = Lengths::of(after.nodes as usize, after.outputs as usize);
+    let from = |least: Written, place: usize| if number == 0 && written as u8 >= least as u8 { place } else { 0 };
+    let (words, bits) = (Written::Everything, Written::Bits);
+    left_from("the node table", from(words, needed.node_words), &before.node_table, &after.node_table)?;
+    left_from("the nodes' bits", from(bits, needed.node_bits), &before.node_bits, &after.node_bits)?;
+    left_from("the output table", from(words, needed.output_words), &before.output_table, &after.output_table)?;
+    left_from("the outputs' bits", from(bits, needed.output_bits), &before.output_bits, &after.output_bits)?;
+    left_from("the locks", from(words, needed.lock_bytes), &before.locks, &after.locks)
+}
+
 pub fn field(bytes: &[u8]) -> Answered<&[u8]> {
     let canary = [LONG_CANARY; 2];
     let mut payload = canary;
-    let number = unsafe { raw::reducer_field(bytes.as_ptr(), bytes.len(), &mut payload) };
+    let number = unsafe { reducer::raw::reducer_field(bytes.as_ptr(), bytes.len(), &mut payload) };
     match answered(number, payload, canary)? {
         Ok([start, length]) => match bytes.get(start..start + length) {
             Some(stretch) => Ok(Ok(stretch)),
@@ -50,159 +87,102 @@ pub fn field(bytes: &[u8]) -> Answered<&[u8]> {
     }
 }
 
-/// What loading and importing are lent and fill.
-#[derive(Clone, Debug, PartialEq, Eq)]
-pub struct Tables {
-    pub node_table: Vec<u32>,
-    pub output_table: Vec<u32>,
-    pub locks: Vec<u8>,
-}
-
-impl Tables {
-    /// As long as the room, canaries everywhere.
-    pub fn of(room: Room) -> Tables {
-        Tables {
-            node_table: vec![0xcafe_0001; room.node_words],
-            output_table: vec![0xcafe_0002; room.output_words],
-            locks: vec![0xca; room.lock_bytes],
-        }
-    }
-
-    /// The graph of so many inputs, nodes and outputs in them.
-    pub fn graph(self, (inputs, nodes, outputs): (u32, u32, u32)) -> Graph {
-        let Tables { node_table, output_table, locks } = self;
-        Graph { inputs, nodes, outputs, node_table, output_table, locks }
+/// Nothing of a graph yet: slices of these lengths, canaries everywhere, every bit being set.
+pub fn unfilled(lengths: Lengths) -> Packed {
+    Packed {
+        inputs: 0,
+        nodes: 0,
+        outputs: 0,
+        node_table: vec![0xcafe_0001; lengths.node_words],
+        node_bits: vec![u64::MAX; lengths.node_bits],
+        output_table: vec![0xcafe_0002; lengths.output_words],
+        output_bits: vec![u64::MAX; lengths.output_bits],
+        locks: vec![0xca; lengths.lock_bytes],
     }
 }
 
-pub fn load(file: &[u8], lent: &mut Tables) -> Answered<(u32, u32, u32)> {
-    let canary = [CANARY; 3];
-    let mut numbers = canary;
-    let number = unsafe {
-        raw::reducer_load(
-            file.as_ptr(),
-            file.len(),
-            lent.node_table.as_mut_ptr(),
-            lent.node_table.len(),
-            lent.output_table.as_mut_ptr(),
-            lent.output_table.len(),
-            lent.locks.as_mut_ptr(),
-            lent.locks.len(),
-            &mut numbers,
-        )
-    };
-    Ok(answered(number, numbers, canary)?.map(|[inputs, nodes, outputs]| (inputs, nodes, outputs)))
+/// I, N and O of what was filled, which become the graph's.
+fn loaded(number: u32, numbers: [u32; 3], g: &mut Packed, before: &Packed) -> Answered<(u32, u32, u32)> {
+    let answer = answered(number, numbers, [CANARY; 3])?.map(|[inputs, nodes, outputs]| (inputs, nodes, outputs));
+    if let Ok(told) = answer {
+        (g.inputs, g.nodes, g.outputs) = told;
+    }
+    graph_left(number, Written::Everything, before, g)?;
+    Ok(answer)
 }
 
-pub fn write(g: &Graph, buffer: &mut [u8]) -> Answered<usize> {
-    let mut length = LONG_CANARY;
-    let number = unsafe {
-        raw::reducer_write(
-            g.inputs,
-            g.nodes,
-            g.outputs,
-            g.node_table.as_ptr(),
-            g.node_table.len(),
-            g.output_table.as_ptr(),
-            g.output_table.len(),
-            g.locks.as_ptr(),
-            g.locks.len(),
-            buffer.as_mut_ptr(),
-            buffer.len(),
-            &mut length,
-        )
-    };
+pub fn load(file: &[u8], g: &mut Packed) -> Answered<(u32, u32, u32)> {
+    let (before, mut numbers) = (g.clone(), [CANARY; 3]);
+    let number = filling!(reducer_load, (file.as_ptr(), file.len()), &mut *g, (&mut numbers));
+    loaded(number, numbers, g, &before)
+}
+
+pub fn import(text: &[u8], g: &mut Packed) -> Answered<(u32, u32, u32)> {
+    let (before, mut numbers) = (g.clone(), [CANARY; 3]);
+    let number = filling!(reducer_import, (text.as_ptr(), text.len()), &mut *g, (&mut numbers));
+    loaded(number, numbers, g, &before)
+}
+
+/// What is lent to a call that only reads: the graph itself, which is then seen to be as it was.
+fn read(g: &Packed, call: impl FnOnce(&mut Packed) -> u32) -> Result<u32, String> {
+    let mut lent = g.clone();
+    let number = call(&mut lent);
+    graph_left(number, Written::Nothing, g, &lent)?;
+    Ok(number)
+}
+
+/// The same to a call that turns literals.
+fn turn(g: &mut Packed, call: impl FnOnce(&mut Packed) -> u32) -> Result<u32, String> {
+    let before = g.clone();
+    let number = call(g);
+    graph_left(number, Written::Bits, &before, g)?;
+    Ok(number)
+}
+
+pub fn write(g: &Packed, buffer: &mut [u8]) -> Answered<usize> {
+    let (before, mut length) = (buffer.to_vec(), LONG_CANARY);
+    let number = read(g, |g| on_graph!(reducer_write, g, buffer.as_mut_ptr(), buffer.len(), &mut length))?;
+    left("the buffer", number, &before, buffer)?;
     answered(number, length, LONG_CANARY)
 }
 
-pub fn import(text: &[u8], lent: &mut Tables) -> Answered<(u32, u32, u32)> {
-    let canary = [CANARY; 3];
-    let mut numbers = canary;
-    let number = unsafe {
-        raw::reducer_import(
-            text.as_ptr(),
-            text.len(),
-            lent.node_table.as_mut_ptr(),
-            lent.node_table.len(),
-            lent.output_table.as_mut_ptr(),
-            lent.output_table.len(),
-            lent.locks.as_mut_ptr(),
-            lent.locks.len(),
-            &mut numbers,
-        )
-    };
-    Ok(answered(number, numbers, canary)?.map(|[inputs, nodes, outputs]| (inputs, nodes, outputs)))
-}
-
-/// With so many words of scratch, which a refused call must leave.
-pub fn export(g: &Graph, scratch: usize, buffer: &mut [u8]) -> Answered<usize> {
-    let mut length = LONG_CANARY;
+/// With so many words of scratch, as all calls that need some.
+pub fn export(g: &Packed, scratch: usize, buffer: &mut [u8]) -> Answered<usize> {
+    let (before, mut length) = (buffer.to_vec(), LONG_CANARY);
     let mut lent = vec![CANARY; scratch];
-    let number = unsafe {
-        raw::reducer_export(
-            g.inputs,
-            g.nodes,
-            g.outputs,
-            g.node_table.as_ptr(),
-            g.node_table.len(),
-            g.output_table.as_ptr(),
-            g.output_table.len(),
-            g.locks.as_ptr(),
-            g.locks.len(),
-            lent.as_mut_ptr(),
-            lent.len(),
-            buffer.as_mut_ptr(),
-            buffer.len(),
-            &mut length,
-        )
+    let call = |g: &mut Packed| {
+        on_graph!(reducer_export, g, lent.as_mut_ptr(), lent.len(), buffer.as_mut_ptr(), buffer.len(), &mut length)
     };
-    match answered(number, length, LONG_CANARY)? {
-        Err(number) if lent.iter().any(|&word| word != CANARY) => {
-            Err(format!("refused by {number}, and yet scratch is changed"))
-        }
-        answer => Ok(answer),
-    }
+    let number = read(g, call)?;
+    left("the buffer", number, &before, buffer)?;
+    left("scratch", number, &vec![CANARY; scratch], &lent)?;
+    answered(number, length, LONG_CANARY)
 }
 
-pub fn evaluate(g: &Graph, input_words: &[u64], scratch: &mut [u64], results: &mut [u64]) -> Answered<()> {
-    let number = unsafe {
-        raw::reducer_evaluate(
-            g.inputs,
-            g.nodes,
-            g.outputs,
-            g.node_table.as_ptr(),
-            g.node_table.len(),
-            g.output_table.as_ptr(),
-            g.output_table.len(),
-            g.locks.as_ptr(),
-            g.locks.len(),
+pub fn evaluate(g: &Packed, input_words: &[u64], scratch: usize, results: &mut [u64]) -> Answered<()> {
+    let before = results.to_vec();
+    let mut lent = vec![u64::from(CANARY); scratch];
+    let call = |g: &mut Packed| {
+        on_graph!(
+            reducer_evaluate,
+            g,
             input_words.as_ptr(),
             input_words.len(),
-            scratch.as_mut_ptr(),
-            scratch.len(),
+            lent.as_mut_ptr(),
+            lent.len(),
             results.as_mut_ptr(),
-            results.len(),
+            results.len()
         )
     };
+    let number = read(g, call)?;
+    left("the results", number, &before, results)?;
+    left("scratch", number, &vec![u64::from(CANARY); scratch], &lent)?;
     answered(number, (), ())
 }
 
-pub fn count(g: &Graph) -> Answered<u32> {
+pub fn count(g: &Packed) -> Answered<u32> {
     let mut count = CANARY;
-    let number = unsafe {
-        raw::reducer_count(
-            g.inputs,
-            g.nodes,
-            g.outputs,
-            g.node_table.as_ptr(),
-            g.node_table.len(),
-            g.output_table.as_ptr(),
-            g.output_table.len(),
-            g.locks.as_ptr(),
-            g.locks.len(),
-            &mut count,
-        )
-    };
+    let number = read(g, |g| on_graph!(reducer_count, g, &mut count))?;
     answered(number, count, CANARY)
 }
 
@@ -213,145 +193,50 @@ fn saved(number: u32, saving: [i64; 2]) -> Answered<Saving> {
     Ok(answer)
 }
 
-pub fn node(g: &mut Graph, node: u32) -> Answered<Saving> {
+pub fn node(g: &mut Packed, node: u32) -> Answered<Saving> {
     let mut saving = [SIGNED_CANARY; 2];
-    let number = unsafe {
-        raw::reducer_node(
-            g.inputs,
-            g.nodes,
-            g.outputs,
-            g.node_table.as_mut_ptr(),
-            g.node_table.len(),
-            g.output_table.as_mut_ptr(),
-            g.output_table.len(),
-            g.locks.as_mut_ptr(),
-            g.locks.len(),
-            node,
-            &mut saving,
-        )
-    };
+    let number = turn(g, |g| on_graph!(reducer_node, g, node, &mut saving))?;
     saved(number, saving)
 }
 
-pub fn pair(g: &mut Graph, node: u32, word: u32) -> Answered<Saving> {
+pub fn pair(g: &mut Packed, node: u32, word: u32) -> Answered<Saving> {
     let mut saving = [SIGNED_CANARY; 2];
-    let number = unsafe {
-        raw::reducer_pair(
-            g.inputs,
-            g.nodes,
-            g.outputs,
-            g.node_table.as_mut_ptr(),
-            g.node_table.len(),
-            g.output_table.as_mut_ptr(),
-            g.output_table.len(),
-            g.locks.as_mut_ptr(),
-            g.locks.len(),
-            node,
-            word,
-            &mut saving,
-        )
-    };
+    let number = turn(g, |g| on_graph!(reducer_pair, g, node, word, &mut saving))?;
     saved(number, saving)
 }
 
-/// On tables that the call is lent to read.
-pub fn trial(g: &Graph, pair: (u32, u32), moves: (u32, u32)) -> Answered<i64> {
+pub fn trial(g: &Packed, pair: (u32, u32), both: (u32, u32)) -> Answered<i64> {
     let mut gain = SIGNED_CANARY;
-    let number = unsafe {
-        raw::reducer_trial(
-            g.inputs,
-            g.nodes,
-            g.outputs,
-            g.node_table.as_ptr(),
-            g.node_table.len(),
-            g.output_table.as_ptr(),
-            g.output_table.len(),
-            g.locks.as_ptr(),
-            g.locks.len(),
-            pair.0,
-            pair.1,
-            moves.0,
-            moves.1,
-            &mut gain,
-        )
-    };
+    let number = read(g, |g| on_graph!(reducer_trial, g, pair.0, pair.1, both.0, both.1, &mut gain))?;
     answered(number, gain, SIGNED_CANARY)
 }
 
-pub fn tree(g: &mut Graph, root: u32, scratch: &mut [u32]) -> Answered<Saving> {
+pub fn tree(g: &mut Packed, root: u32, scratch: usize) -> Answered<Saving> {
     let mut saving = [SIGNED_CANARY; 2];
-    let number = unsafe {
-        raw::reducer_tree(
-            g.inputs,
-            g.nodes,
-            g.outputs,
-            g.node_table.as_mut_ptr(),
-            g.node_table.len(),
-            g.output_table.as_mut_ptr(),
-            g.output_table.len(),
-            g.locks.as_mut_ptr(),
-            g.locks.len(),
-            root,
-            scratch.as_mut_ptr(),
-            scratch.len(),
-            &mut saving,
-        )
-    };
+    let mut lent = vec![CANARY; scratch];
+    let number = turn(g, |g| on_graph!(reducer_tree, g, root, lent.as_mut_ptr(), lent.len(), &mut saving))?;
+    left("scratch", number, &vec![CANARY; scratch], &lent)?;
     saved(number, saving)
 }
 
-/// With so many words of scratch, which a refused call must leave. Tables and locks are only read; the graph is one that may change, so
-/// that the caller can see whether it did.
-pub fn preview(g: &mut Graph, root: u32, moves: &mut [u8], scratch: usize) -> Answered<Saving> {
-    let mut saving = [SIGNED_CANARY; 2];
+pub fn preview(g: &Packed, root: u32, moves: &mut [u8], scratch: usize) -> Answered<Saving> {
+    let (before, mut saving) = (moves.to_vec(), [SIGNED_CANARY; 2]);
     let mut lent = vec![CANARY; scratch];
-    let number = unsafe {
-        raw::reducer_preview(
-            g.inputs,
-            g.nodes,
-            g.outputs,
-            g.node_table.as_mut_ptr(),
-            g.node_table.len(),
-            g.output_table.as_mut_ptr(),
-            g.output_table.len(),
-            g.locks.as_mut_ptr(),
-            g.locks.len(),
-            root,
-            moves.as_mut_ptr(),
-            moves.len(),
-            lent.as_mut_ptr(),
-            lent.len(),
-            &mut saving,
-        )
+    let call = |g: &mut Packed| {
+        on_graph!(reducer_preview, g, root, moves.as_mut_ptr(), moves.len(), lent.as_mut_ptr(), lent.len(), &mut saving)
     };
-    match saved(number, saving)? {
-        Err(number) if lent.iter().any(|&word| word != CANARY) => {
-            Err(format!("refused by {number}, and yet scratch is changed"))
-        }
-        answer => Ok(answer),
-    }
+    let number = read(g, call)?;
+    left("the moves", number, &before, moves)?;
+    left("scratch", number, &vec![CANARY; scratch], &lent)?;
+    saved(number, saving)
 }
 
-pub fn settle(g: &mut Graph, scratch: &mut [u32]) -> Answered<Settled> {
+pub fn settle(g: &mut Packed, scratch: usize) -> Answered<Settled> {
     let canary = ([CANARY; 3], [SIGNED_CANARY; 2]);
     let mut told = canary;
-    let number = unsafe {
-        raw::reducer_settle(
-            g.inputs,
-            g.nodes,
-            g.outputs,
-            g.node_table.as_mut_ptr(),
-            g.node_table.len(),
-            g.output_table.as_mut_ptr(),
-            g.output_table.len(),
-            g.locks.as_mut_ptr(),
-            g.locks.len(),
-            scratch.as_mut_ptr(),
-            scratch.len(),
-            &mut told.0,
-            &mut told.1,
-        )
-    };
+    let mut lent = vec![CANARY; scratch];
+    let number = turn(g, |g| on_graph!(reducer_settle, g, lent.as_mut_ptr(), lent.len(), &mut told.0, &mut told.1))?;
+    left("scratch", number, &vec![CANARY; scratch], &lent)?;
     Ok(answered(number, told, canary)?.map(|([rounds, before, after], [own, others])| Settled {
         rounds,
         before,
@@ -361,80 +246,55 @@ pub fn settle(g: &mut Graph, scratch: &mut [u32]) -> Answered<Settled> {
     }))
 }
 
-pub fn many(g: &mut Graph, list: &[u32], moves: &[u8]) -> Answered<i64> {
+pub fn many(g: &mut Packed, list: &[u32], moves: &[u8]) -> Answered<i64> {
     let mut saving = SIGNED_CANARY;
-    let number = unsafe {
-        raw::reducer_many(
-            g.inputs,
-            g.nodes,
-            g.outputs,
-            g.node_table.as_mut_ptr(),
-            g.node_table.len(),
-            g.output_table.as_mut_ptr(),
-            g.output_table.len(),
-            g.locks.as_mut_ptr(),
-            g.locks.len(),
-            list.as_ptr(),
-            list.len(),
-            moves.as_ptr(),
-            moves.len(),
-            &mut saving,
-        )
+    let call = |g: &mut Packed| {
+        on_graph!(reducer_many, g, list.as_ptr(), list.len(), moves.as_ptr(), moves.len(), &mut saving)
     };
+    let number = turn(g, call)?;
     answered(number, saving, SIGNED_CANARY)
 }
 
-/// What a replay is lent beside the file and the calls.
-#[derive(Clone, Debug, PartialEq, Eq)]
-pub struct Lent {
-    pub tables: Tables,
-    pub scratch: Vec<u32>,
-    pub answers: Vec<i64>,
-}
-
-pub fn replay(file: &[u8], words: Words, lent: &mut Lent) -> Answered<(u32, u32, u32)> {
+/// With so many words of scratch.
+pub fn replay(
+    file: &[u8],
+    words: Words,
+    g: &mut Packed,
+    scratch: usize,
+    answers: &mut [i64],
+) -> Answered<(u32, u32, u32)> {
     let Words { calls, list, moves } = words;
-    let canary = [CANARY; 3];
-    let mut numbers = canary;
-    let number = unsafe {
-        raw::reducer_replay(
-            file.as_ptr(),
-            file.len(),
-            calls.as_ptr(),
-            calls.len(),
-            lent.tables.node_table.as_mut_ptr(),
-            lent.tables.node_table.len(),
-            lent.tables.output_table.as_mut_ptr(),
-            lent.tables.output_table.len(),
-            lent.tables.locks.as_mut_ptr(),
-            lent.tables.locks.len(),
+    let (before, told, mut numbers) = (g.clone(), answers.to_vec(), [CANARY; 3]);
+    let mut lent = vec![CANARY; scratch];
+    let number = filling!(
+        reducer_replay,
+        (file.as_ptr(), file.len(), calls.as_ptr(), calls.len()),
+        &mut *g,
+        (
             list.as_ptr(),
             list.len(),
             moves.as_ptr(),
             moves.len(),
-            lent.scratch.as_mut_ptr(),
-            lent.scratch.len(),
-            lent.answers.as_mut_ptr(),
-            lent.answers.len(),
-            &mut numbers,
+            lent.as_mut_ptr(),
+            lent.len(),
+            answers.as_mut_ptr(),
+            answers.len(),
+            &mut numbers
         )
-    };
-    Ok(answered(number, numbers, canary)?.map(|[inputs, nodes, outputs]| (inputs, nodes, outputs)))
+    );
+    left("scratch", number, &vec![CANARY; scratch], &lent)?;
+    left("the answers", number, &told, answers)?;
+    loaded(number, numbers, g, &before)
 }
 
-/// One call of a list, with so many words of scratch, which a refused call must leave.
-pub fn step(g: &mut Graph, call: &Call, scratch: usize) -> Result<Answer, String> {
-    let mut lent = vec![CANARY; scratch];
+/// One call of a list, with so many words of scratch.
+pub fn step(g: &mut Packed, call: &Call, scratch: usize) -> Result<Answer, String> {
     let answer = match *call {
         Call::Node(v) => node(g, v)?.map(Answer::Saving),
         Call::Pair(v, word) => pair(g, v, word)?.map(Answer::Saving),
-        Call::Tree(root) => tree(g, root, &mut lent)?.map(Answer::Saving),
-        Call::Settle => settle(g, &mut lent)?.map(Answer::Settled),
+        Call::Tree(root) => tree(g, root, scratch)?.map(Answer::Saving),
+        Call::Settle => settle(g, scratch)?.map(Answer::Settled),
         Call::Many { ref list, ref moves } => many(g, list, moves)?.map(Answer::Total),
     };
-    match answer {
-        Ok(answer) => Ok(answer),
-        Err(number) if lent.iter().all(|&word| word == CANARY) => Ok(Answer::Refused(number)),
-        Err(number) => Err(format!("refused by {number}, and yet scratch is changed")),
-    }
+    Ok(answer.unwrap_or_else(Answer::Refused))
 }

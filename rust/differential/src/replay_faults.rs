@@ -2,9 +2,10 @@
 //! fault, then 4 for the answers, then what the file meets first.
 
 use crate::lists::differ;
-use crate::raw::{self, Lent, Tables};
+use crate::raw;
 use reference::file::file_of;
-use reference::graph::{Room, MARK};
+use reference::graph::MARK;
+use reference::packed::Lengths;
 use reference::replay::Words;
 use reference::vectors::samples::of;
 
@@ -12,7 +13,7 @@ use reference::vectors::samples::of;
 struct Asked {
     file: Vec<u8>,
     calls: Vec<u32>,
-    room: Room,
+    lengths: Lengths,
     answers: usize,
 }
 
@@ -47,14 +48,19 @@ static FAULTS: [&[Fault]; 8] = [
     ],
     &[(4, |asked| asked.answers = 8), (4, |asked| asked.answers = 0)],
     &[(1, |asked| asked.file.clear()), (2, |asked| asked.file[0] = 2)],
-    &[(4, |asked| asked.room.node_words = 2), (4, |asked| asked.room.lock_bytes = 0)],
+    &[
+        (4, |asked| asked.lengths.node_words = 2),
+        (4, |asked| asked.lengths.node_bits = 0),
+        (4, |asked| asked.lengths.output_bits = 0),
+        (4, |asked| asked.lengths.lock_bytes = 0),
+    ],
     &[(6, |asked| asked.file.push(0)), (1, |asked| asked.file.truncate(39))],
 ];
 
 /// Node 4 turned, P1 settled, and node 4 turned again, by parts of a list whose first entry is no node.
 fn without_faults() -> Asked {
     let file = file_of(&of(3, &[[3, 5, 7]], &[9]));
-    Asked { file, calls: vec![4, 1, 1, 3, 7, 7, 4, 2, 1], room: Room::of(1, 1), answers: 9 }
+    Asked { file, calls: vec![4, 1, 1, 3, 7, 7, 4, 2, 1], lengths: Lengths::of(1, 1), answers: 9 }
 }
 
 /// These faults, which are made last to first, since a file must have the byte that is changed in it.
@@ -62,20 +68,22 @@ fn check(faults: &[&Fault]) -> Result<(), String> {
     let mut asked = without_faults();
     faults.iter().rev().for_each(|(_, make)| make(&mut asked));
     let numbers: Vec<u32> = faults.iter().map(|fault| fault.0).collect();
-    let lent = Lent { tables: Tables::of(asked.room), scratch: vec![0xcafe; 8], answers: vec![-7; asked.answers] };
+    let (lent, mut answers) = (raw::unfilled(asked.lengths), vec![-7; asked.answers]);
     let mut got = lent.clone();
     let words = Words { calls: &asked.calls, list: &[9, 4, 4], moves: &[0, 1, 1] };
-    let told = raw::replay(&asked.file, words, &mut got)?;
+    let told = raw::replay(&asked.file, words, &mut got, 8, &mut answers)?;
     let what = format!("a replay with faults {numbers:?}");
     match numbers.first() {
         Some(&number) => {
             differ(&what, &told, &Err(number))?;
-            differ(&format!("what was lent, after {what}"), &got, &lent)
+            differ(&format!("what was lent, after {what}"), &got, &lent)?;
+            differ("its answers", &answers, &vec![-7; asked.answers])
         }
         None => {
             differ(&what, &told, &Ok((3, 1, 1)))?;
-            differ("its answers", &got.answers, &vec![0, 4, 0, 0, 0, 0, 0, -4, 0])?;
-            differ("its graph", &(got.tables.node_table, got.tables.output_table), &(vec![3, 5, 7], vec![9]))
+            differ("its answers", &answers, &vec![0, 4, 0, 0, 0, 0, 0, -4, 0])?;
+            differ("its nodes", &(got.node_table, got.node_bits), &(vec![1, 2, 3], vec![7]))?;
+            differ("its output", &(got.output_table, got.output_bits), &(vec![4], vec![1]))
         }
     }
 }

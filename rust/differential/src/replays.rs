@@ -3,13 +3,13 @@
 use crate::cases::random_graph;
 use crate::files::{damaged_file, FileCase};
 use crate::lists::{differ, random_call};
-use crate::raw::{self, Lent, Tables};
+use crate::raw;
 use crate::shrink::Shrink;
 use reference::calls::Call;
-use reference::file;
-use reference::graph::{Graph, Number};
+use reference::packed::Lengths;
 use reference::random::Random;
-use reference::replay::{replay, Words};
+use reference::replay::Words;
+use reference::{entries, file};
 
 /// A file, the words of a list of calls, the nodes and moves of its many calls, and how many words of scratch and of answers are lent.
 #[derive(Clone, Debug)]
@@ -102,7 +102,7 @@ pub fn random_replay(seed: u64) -> ReplayCase {
     let file = if random.one_in(4) {
         damaged_file(&mut random, &g)
     } else {
-        FileCase { bytes: file::file_of(&g), room: g.room() }
+        FileCase { bytes: file::file_of(&g), lengths: Lengths::of(g.nodes as usize + 1, g.outputs as usize) }
     };
     // Enough for trees and settling, or a word too little.
     let needed = 8 * g.nodes as usize;
@@ -140,27 +140,13 @@ fn damage(random: &mut Random, case: &mut ReplayCase, count: u32) {
     }
 }
 
-/// The calls made one by one.
-fn one_by_one(case: &ReplayCase, lent: &mut Lent) -> Result<(u32, u32, u32), Number> {
-    let mut g = lent.tables.clone().graph((0, 0, 0));
-    let answer = replay(&case.file.bytes, case.words(), &mut g, case.scratch, &mut lent.answers);
-    let Graph { node_table, output_table, locks, .. } = g;
-    lent.tables = Tables { node_table, output_table, locks };
-    answer
-}
-
-/// What is answered, and every slice; scratch is free after an accepted replay.
+/// What is answered, and every slice, held to the calls made one by one.
 pub fn check_replay(case: &ReplayCase) -> Result<(), String> {
-    let mut due = Lent {
-        tables: Tables::of(case.file.room),
-        scratch: vec![0xcafe_0003; case.scratch],
-        answers: vec![-0xcafe_0004; case.answers],
-    };
-    let mut got = due.clone();
-    let answer = raw::replay(&case.file.bytes, case.words(), &mut got)?;
-    differ("the replay", &answer, &one_by_one(case, &mut due))?;
-    if answer.is_ok() {
-        got.scratch.clone_from(&due.scratch);
-    }
-    differ("what was lent, after the replay", &got, &due)
+    let (mut due, mut answers) = (raw::unfilled(case.file.lengths), vec![-0xcafe_0004; case.answers]);
+    let (mut got, mut told) = (due.clone(), answers.clone());
+    let answer = raw::replay(&case.file.bytes, case.words(), &mut got, case.scratch, &mut told)?;
+    let one_by_one = entries::replay(&case.file.bytes, case.words(), &mut due, case.scratch, &mut answers);
+    differ("the replay", &answer, &one_by_one)?;
+    differ("the tables and locks after the replay", &got, &due)?;
+    differ("the answers of the replay", &told, &answers)
 }

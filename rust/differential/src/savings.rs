@@ -8,6 +8,7 @@ use crate::lists::differ;
 use crate::raw;
 use reference::graph::Graph;
 use reference::moves::Saving;
+use reference::packed::Packed;
 
 /// Calls that lost among the words of their own nodes, and among all other edges.
 static LOST: [AtomicU64; 2] = [const { AtomicU64::new(0) }; 2];
@@ -30,22 +31,21 @@ pub fn note(saving: Saving) {
     count(&LOST, [saving.own < 0, saving.others < 0]);
 }
 
-/// What the calls of a round save, each made by itself.
-fn one_round(g: &mut Graph) -> Result<Vec<Saving>, String> {
-    let mut scratch = vec![0; 8 * g.nodes as usize];
+/// What the calls of a round save, each made by itself. The wiring is that of the graph of literals.
+fn one_round(g: &Graph, lent: &mut Packed) -> Result<Vec<Saving>, String> {
     let mut all = Vec::new();
     for node in g.node_indices() {
-        match raw::tree(g, node, &mut scratch)? {
+        match raw::tree(lent, node, 8 * g.nodes as usize)? {
             Err(7) => {}
             answer => all.push(answer),
         }
     }
     for node in g.node_indices() {
-        all.push(raw::node(g, node)?);
+        all.push(raw::node(lent, node)?);
     }
     for node in g.node_indices() {
         for word in 1..=g.words_of(node) as u32 {
-            all.push(raw::pair(g, node, word)?);
+            all.push(raw::pair(lent, node, word)?);
         }
     }
     all.into_iter().map(|answer| answer.map_err(|number| format!("a call of a round is refused by {number}"))).collect()
@@ -53,12 +53,12 @@ fn one_round(g: &mut Graph) -> Result<Vec<Saving>, String> {
 
 /// Settling, and as many rounds of single calls: the same graph and sums, and no call of the last round saves in either part.
 pub fn check_sums(case: &Case) -> Result<(), String> {
-    let (mut settled, mut single) = (case.graph.clone(), case.graph.clone());
-    let answer = raw::settle(&mut settled, &mut vec![0; 8 * case.graph.nodes as usize])?;
+    let (mut settled, mut single) = (case.lent(), case.lent());
+    let answer = raw::settle(&mut settled, 8 * case.graph.nodes as usize)?;
     let told = answer.map_err(|number| format!("settling is refused by {number}"))?;
     let (mut sums, mut lost) = (Saving::default(), false);
     for round in 1..=told.rounds {
-        for saving in one_round(&mut single)? {
+        for saving in one_round(&case.graph, &mut single)? {
             sums += saving;
             lost |= saving.own < 0 || saving.others < 0;
             let nothing = saving == Saving::default();

@@ -2,19 +2,18 @@
 
 use crate::lists::differ;
 use crate::raw;
-use reference::calls::{step, Call};
-use reference::evaluation::evaluate;
+use reference::calls::Call;
+use reference::entries;
 use reference::vectors::case::{Case, EVALUATE, MANY, NODE, PAIR, TREE};
 use reference::vectors::{cases, SEED};
 
 fn check_evaluation(case: &Case) -> Result<(), String> {
     let mut due = vec![0xbeef; case.result as usize];
     let mut got = due.clone();
-    let mut lent = vec![0xfeed; case.scratch as usize];
-    let answer = raw::evaluate(&case.g, &case.longs, &mut lent, &mut got)?;
-    differ("evaluation", &answer, &evaluate(&case.g, &case.longs, case.scratch as usize, &mut due))?;
-    differ("results", &got, &due)?;
-    differ("scratch after a refusal", &(answer.is_err() && lent.iter().any(|&word| word != 0xfeed)), &false)
+    let scratch = case.scratch as usize;
+    let answer = raw::evaluate(&case.g, &case.longs, scratch, &mut got)?;
+    differ("evaluation", &answer, &entries::evaluate(&case.g, &case.longs, scratch, &mut due))?;
+    differ("results", &got, &due)
 }
 
 fn check_call(case: &Case) -> Result<(), String> {
@@ -27,7 +26,7 @@ fn check_call(case: &Case) -> Result<(), String> {
     };
     let (mut got, mut due) = (case.g.clone(), case.g.clone());
     let answer = raw::step(&mut got, &call, case.scratch as usize)?;
-    differ(&format!("{call:?}"), &answer, &step(&mut due, &call, case.scratch as usize))?;
+    differ(&format!("{call:?}"), &answer, &entries::step(&mut due, &call, case.scratch as usize))?;
     differ(&format!("the tables after {call:?}"), &got, &due)
 }
 

@@ -1,7 +1,7 @@
 //! Texts at the limits: as many inputs, outputs and gates as there may be, and one more.
 
 use crate::texts::{check_text, TextCase};
-use reference::graph::Room;
+use reference::packed::Lengths;
 
 /// A text of so many inputs, outputs and gates, and a gate line that is not due after it.
 fn text(inputs: u32, outputs: u32, gates: u32) -> Vec<u8> {
@@ -18,23 +18,26 @@ fn due(text: &[u8]) -> usize {
     text[..text.len() - 1].iter().rposition(|&byte| byte == b'\n').map_or(0, |at| at + 1)
 }
 
-/// Whole, with tables that are a word too short or locks a byte, and cut within the last due line.
+/// Whole, with each slice a word or a byte too short, and cut within the last due line.
 fn check_limit(inputs: u32, outputs: u32, gates: u32) -> Result<u64, String> {
     let text = text(inputs, outputs, gates);
     let due = due(&text);
     let (nodes, outs) = (gates as usize, outputs as usize);
-    let enough = Room::of(nodes, outs);
+    let enough = Lengths::of(nodes, outs);
+    let less = |length: usize| length.saturating_sub(1);
     let cases = [
         (&text[..], enough),
-        (&text, Room { node_words: 3 * nodes + 1, output_words: outs + 1, lock_bytes: nodes + 1 }),
+        (&text, Lengths::of(nodes + 1, outs + 64)),
         (&text[..due], enough),
         (&text[..due - 1], enough),
-        (&text, Room { node_words: (3 * nodes).saturating_sub(1), ..enough }),
-        (&text, Room { output_words: outs.saturating_sub(1), ..enough }),
-        (&text, Room { lock_bytes: nodes.saturating_sub(1), ..enough }),
+        (&text, Lengths { node_words: less(enough.node_words), ..enough }),
+        (&text, Lengths { node_bits: less(enough.node_bits), ..enough }),
+        (&text, Lengths { output_words: less(enough.output_words), ..enough }),
+        (&text, Lengths { output_bits: less(enough.output_bits), ..enough }),
+        (&text, Lengths { lock_bytes: less(enough.lock_bytes), ..enough }),
     ];
-    for (text, room) in cases {
-        check_text(&TextCase { text: text.to_vec(), room })
+    for (text, lengths) in cases {
+        check_text(&TextCase { text: text.to_vec(), lengths })
             .map_err(|wrong| format!("{inputs} inputs, {outputs} outputs, {gates} gates: {wrong}"))?;
     }
     Ok(cases.len() as u64)

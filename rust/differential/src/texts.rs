@@ -1,19 +1,22 @@
 //! ASCII AIGER texts, whole and damaged, for importing.
 
-use crate::cases::{random_graph, room_near};
+use crate::cases::{lengths_near, random_graph};
+use crate::exports::packed;
 use crate::lists::differ;
 use crate::plain;
-use crate::raw::{self, Tables};
+use crate::raw;
 use crate::shrink::{hold, Shrink};
-use reference::aiger;
+use crate::tables::filled;
 use reference::graph::{Graph, Room};
+use reference::packed::{pack, Lengths};
 use reference::random::Random;
+use reference::{aiger, entries};
 
 /// A text, and how much is lent for it.
 #[derive(Clone, Debug)]
 pub struct TextCase {
     pub text: Vec<u8>,
-    pub room: Room,
+    pub lengths: Lengths,
 }
 
 impl TextCase {
@@ -42,7 +45,7 @@ impl Shrink for TextCase {
 
     fn show(&self) -> String {
         let text = self.text.escape_ascii();
-        format!("{:?}; the text \"{text}\"\n", self.room)
+        format!("{:?}; the text \"{text}\"\n", self.lengths)
     }
 }
 
@@ -142,7 +145,7 @@ fn damage_bytes(random: &mut Random, text: &mut Vec<u8>) {
     }
 }
 
-/// A text, mostly damaged once or twice, and tables and locks that may be a word or a byte too short for it.
+/// A text, mostly damaged once or twice, and slices of which one may be a word or a byte too short for it.
 pub fn random_text(seed: u64) -> TextCase {
     let mut random = Random::new(seed);
     let g = random_graph(&mut random, 5, 5, 4);
@@ -157,7 +160,7 @@ pub fn random_text(seed: u64) -> TextCase {
     if random.one_in(3) {
         damage_bytes(&mut random, &mut text);
     }
-    TextCase { text, room: room_near(&mut random, gates, g.outputs as usize, 18) }
+    TextCase { text, lengths: lengths_near(&mut random, gates, g.outputs as usize, 30) }
 }
 
 /// Tables that are too large are not shown.
@@ -165,33 +168,26 @@ fn same<T: PartialEq + std::fmt::Debug>(what: &str, got: &T, due: &T) -> Result<
     differ(what, got, due).map_err(|wrong| if wrong.len() > 10_000 { format!("{what}: not those due") } else { wrong })
 }
 
-/// Importing, into lent tables and locks and into owned ones.
+/// Importing, into lent tables and locks, over bits that are all set, and into owned ones.
 pub fn check_text(case: &TextCase) -> Result<(), String> {
-    let mut due = Tables::of(case.room);
+    let mut due = raw::unfilled(case.lengths);
     let mut got = due.clone();
     let mut plainly = due.clone();
-    let answer = aiger::import(&case.text, &mut due.node_table, &mut due.output_table, &mut due.locks);
+    let answer = entries::import(&case.text, &mut due);
     same("importing", &raw::import(&case.text, &mut got)?, &answer)?;
     same("the tables and locks", &got, &due)?;
-    let Tables { node_table, output_table, locks } = &mut plainly;
-    same("plain: importing", &plain::aiger::import(&case.text, node_table, output_table, locks), &answer)?;
+    same("plain: importing", &plain::aiger::import(&case.text, filled(&mut plainly)), &answer)?;
+    (plainly.inputs, plainly.nodes, plainly.outputs) = (due.inputs, due.nodes, due.outputs);
     same("plain: the tables and locks", &plainly, &due)?;
     check_owned(&case.text)
 }
 
 /// The owned graph of the Rust crate: it finds the room by itself, so that 4 is never met.
 fn check_owned(text: &[u8]) -> Result<(), String> {
-    let got = reducer::Graph::import(text).map(|g| Graph {
-        inputs: g.size.inputs,
-        nodes: g.size.nodes,
-        outputs: g.size.outputs,
-        node_table: g.node_table,
-        output_table: g.output_table,
-        locks: g.locks,
-    });
+    let got = reducer::Graph::import(text).map(packed);
     let most = usize::MAX;
     let due = aiger::parse(text, Room { node_words: most, output_words: most, lock_bytes: most });
-    same("an owned graph", &got.map_err(reducer::Refusal::number), &due)
+    same("an owned graph", &got.map_err(reducer::Refusal::number), &due.map(|g| pack(&g)))
 }
 
 /// Every cut of a text, every byte changed to each of a few values, left out, or one put before it.
@@ -200,11 +196,11 @@ pub fn check_every_byte(seed: u64) -> Result<u64, String> {
     let g = random_graph(&mut random, 3, 2, 2);
     let mut text = joined(&whole(&mut random, &g));
     text.extend(b"c\nend\n");
-    let room = Room { node_words: 3 * 8 + 2, ..Room::of(9, g.outputs as usize + 2) };
+    let lengths = Lengths { node_words: 3 * 8 + 2, ..Lengths::of(9, g.outputs as usize + 2) };
     let mut done = 0;
     let mut check = |parts: [&[u8]; 3]| {
         done += 1;
-        hold(seed, TextCase { text: parts.concat(), room }, &check_text)
+        hold(seed, TextCase { text: parts.concat(), lengths }, &check_text)
     };
     for at in 0..text.len() {
         let (before, after) = text.split_at(at);

@@ -5,8 +5,10 @@ use std::sync::atomic::{AtomicU64, Ordering};
 use crate::cases::Case;
 use crate::lists::{differ, random_case};
 use crate::raw;
-use reference::graph::{index_of, Graph};
+use reference::entries;
+use reference::graph::index_of;
 use reference::moves::{self, rows, Saving};
+use reference::packed::{set_bit, Packed};
 use reference::random::Random;
 
 /// Trials that would save less than nothing; pairs whose node names the other more than once, and those with just one node locked.
@@ -14,36 +16,45 @@ static LOST: AtomicU64 = AtomicU64::new(0);
 static NAMED_TWICE: AtomicU64 = AtomicU64::new(0);
 static LOCKED: AtomicU64 = AtomicU64::new(0);
 
-/// A graph, at times one that is refused: a literal too large, a lock above 1, a table or the locks too short, a number over its limit.
 pub fn random_trials(seed: u64) -> Case {
-    let mut case = random_case(seed, 8, 1);
-    let g = &mut case.graph;
-    let mut random = Random::new(seed);
-    match random.below(28) {
-        0 => g.node_table.truncate((3 * g.nodes as usize).saturating_sub(1)),
-        1 => g.outputs = 4_097,
-        4 => g.locks.truncate((g.nodes as usize).saturating_sub(1)),
-        5 if g.nodes > 0 => g.locks[random.below(g.nodes) as usize] = random.between(2, 255) as u8,
-        2 | 3 if g.nodes > 0 => g.node_table[random.below(3 * g.nodes) as usize] = 2 * (g.inputs + g.nodes) + 3,
-        _ => {}
-    }
-    case.steps.clear();
-    case
+    Case { steps: vec![], ..random_case(seed, 8, 1) }
 }
 
-/// One trial, the same from both; the tables are as they were.
-fn same(g: &Graph, pair: (u32, u32), both: (u32, u32)) -> Result<Result<i64, u32>, String> {
-    let lent = g.clone();
-    let got = raw::trial(&lent, pair, both)?;
-    let what = format!("the trial at {pair:?} of the moves {both:?}");
-    differ(&what, &got, &moves::trial(g, pair.0, pair.1, both.0, both.1))?;
-    differ(&format!("the graph after {what}"), &lent, g)?;
+/// The graph of a case as it is lent, at times as one that is refused: an index too large, a bit past the last literal, a lock above 1, a
+/// slice too short, a number over its limit.
+fn damaged(case: &Case) -> Packed {
+    let mut p = case.lent();
+    let mut random = Random::new(case.seed);
+    let places = 3 * p.nodes as usize;
+    match random.below(40) {
+        0 => p.node_table.truncate(places.saturating_sub(1)),
+        1 => p.outputs = 4_097,
+        2 => p.locks.truncate((p.nodes as usize).saturating_sub(1)),
+        3 => p.node_bits.clear(),
+        4 => p.output_bits.clear(),
+        5 if places > 0 => p.locks[random.below(p.nodes) as usize] = random.between(2, 255) as u8,
+        6 | 7 if places > 0 => {
+            let index = [p.inputs + p.nodes + 1, 0x7fff_ffff, 0x8000_0000][random.below(3) as usize];
+            p.node_table[random.below(3 * p.nodes) as usize] = index;
+        }
+        8 if places > 0 => set_bit(&mut p.node_bits, random.between(3 * p.nodes, 63) as usize),
+        9 if p.outputs > 0 => set_bit(&mut p.output_bits, random.between(p.outputs, 63) as usize),
+        _ => {}
+    }
+    p
+}
+
+/// One trial, the same from both.
+fn same(lent: &Packed, pair: (u32, u32), both: (u32, u32)) -> Result<Result<i64, u32>, String> {
+    let got = raw::trial(lent, pair, both)?;
+    differ(&format!("the trial at {pair:?} of the moves {both:?}"), &got, &entries::trial(lent, pair, both))?;
     Ok(got)
 }
 
 /// Every trial on a pair: the pair call saves the greatest, and leaves the graph of the first that does. A locked node's moves are
 /// tried too: none turns anything, so that the first is move 0.
-fn check_pair(g: &Graph, node: u32, word: u32) -> Result<u64, String> {
+fn check_pair(case: &Case, lent: &Packed, node: u32, word: u32) -> Result<u64, String> {
+    let g = &case.graph;
     let named = index_of(g.word(node, word as usize - 1));
     let moves_at = |index: u32| if g.is_node(index) { rows(g, index).len() as u32 } else { 1 };
     let locked = [named, node].map(|index| g.is_node(index) && g.is_locked(index));
@@ -52,21 +63,22 @@ fn check_pair(g: &Graph, node: u32, word: u32) -> Result<u64, String> {
     let mut done = 0;
     for a in 0..moves_at(named) {
         for k in 0..moves_at(node) {
-            let gain = same(g, (node, word), (a, k))?.map_err(|number| format!("refused by {number}"))?;
+            let gain = same(lent, (node, word), (a, k))?.map_err(|number| format!("refused by {number}"))?;
             LOST.fetch_add(u64::from(gain < 0), Ordering::Relaxed);
             best = if gain > best.0 { (gain, a, k) } else { best };
             done += 1;
         }
     }
-    let mut after = g.clone();
+    let mut after = lent.clone();
     let saving = raw::pair(&mut after, node, word)?;
     differ("the pair call's saving", &saving.map(Saving::total), &Ok(best.0))?;
-    let mut due = g.clone();
+    let (mut made, mut due) = (g.clone(), lent.clone());
     for (index, number) in [(named, best.1), (node, best.2)] {
         if g.is_node(index) {
-            moves::make(&mut due, index, number as usize);
+            moves::make(&mut made, index, number as usize);
         }
     }
+    due.put(&made);
     differ(&format!("the graph after the moves {:?} by the pair call", (best.1, best.2)), &after, &due)?;
     let naming = (0..g.words_of(node)).filter(|&at| g.is_node(named) && index_of(g.word(node, at)) == named).count();
     NAMED_TWICE.fetch_add(u64::from(naming > 1), Ordering::Relaxed);
@@ -74,8 +86,7 @@ fn check_pair(g: &Graph, node: u32, word: u32) -> Result<u64, String> {
 }
 
 /// Words, nodes and moves that are none, and a graph that may be none.
-fn check_odd(case: &Case) -> Result<u64, String> {
-    let g = &case.graph;
+fn check_odd(case: &Case, g: &Packed) -> Result<u64, String> {
     let mut random = Random::new(case.seed ^ 0x7269);
     for _ in 0..6 {
         let end = g.inputs.saturating_add(g.nodes);
@@ -89,14 +100,14 @@ fn check_odd(case: &Case) -> Result<u64, String> {
 }
 
 pub fn check_trials(case: &Case) -> Result<u64, String> {
-    let mut done = check_odd(case)?;
-    let g = &case.graph;
-    if moves::trial(g, 0, 0, 0, 0) != Err(7) {
+    let lent = damaged(case);
+    let mut done = check_odd(case, &lent)?;
+    if entries::count(&lent).is_err() {
         return Ok(done);
     }
-    for node in g.node_indices() {
-        for word in 1..=g.words_of(node) as u32 {
-            done += check_pair(g, node, word)?;
+    for node in case.graph.node_indices() {
+        for word in 1..=case.graph.words_of(node) as u32 {
+            done += check_pair(case, &lent, node, word)?;
         }
     }
     Ok(done)

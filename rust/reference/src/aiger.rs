@@ -1,6 +1,5 @@
 //! ASCII AIGER: texts of ANDs read line by line, and graphs written as ANDs.
 
-use crate::file::fill;
 use crate::graph::{admit, check_limits, check_room, index_of, turned, Graph, Number, Room};
 
 /// What a word of a line says, if it is a decimal number below 2 to the 32nd without leading zeros.
@@ -78,22 +77,6 @@ pub fn parse(text: &[u8], room: Room) -> Result<Graph, Number> {
         output_table,
         locks: vec![0; ands as usize],
     })
-}
-
-/// I, N and O, with tables and locks filled; refused, they are left alone.
-pub fn import(
-    text: &[u8],
-    node_table: &mut [u32],
-    output_table: &mut [u32],
-    locks: &mut [u8],
-) -> Result<(u32, u32, u32), Number> {
-    let room = Room {
-        node_words: node_table.len(),
-        output_words: output_table.len(),
-        lock_bytes: locks.len(),
-    };
-    let g = parse(text, room)?;
-    Ok(fill(&g, node_table, output_table, locks))
 }
 
 /// ANDs in the making, by rising number.

@@ -1,8 +1,11 @@
-use crate::aiger::{export, import, parse, text_of};
+use crate::aiger::{export, parse, text_of};
+use crate::entries::import;
 use crate::evaluation::output_values;
 use crate::generate::{small, with_locks, with_tails};
 use crate::graph::{Graph, Room, MARK};
+use crate::packed::Lengths;
 use crate::random::Random;
+use crate::vectors::case::unfilled;
 use crate::vectors::samples::of;
 
 const MAJORITY: &str = "aag 7 3 0 1 4\n2\n4\n6\n15\n8 5 7\n10 2 9\n12 4 6\n14 11 13\n";
@@ -137,23 +140,28 @@ fn lines() {
 
 #[test]
 fn refused_texts_leave_the_tables() {
-    let (mut words, mut outputs, mut locks) = ([77; 4], [77; 2], [77; 2]);
-    let mut imported = |text: &str, lock_bytes: usize| {
-        let answer = import(
-            text.as_bytes(),
-            &mut words,
-            &mut outputs,
-            &mut locks[..lock_bytes],
-        );
-        (answer, words, outputs, locks)
+    let lent = |lock_bytes| {
+        unfilled(Lengths {
+            lock_bytes,
+            ..Lengths::of(2, 2)
+        })
+    };
+    let imported = |text: &str, lock_bytes: usize| {
+        let mut p = lent(lock_bytes);
+        (import(text.as_bytes(), &mut p), p)
     };
     let bad = "aag 3 2 0 1 1\n2\n4\n6\n6 5 6\n";
     let good = "aag 3 2 0 1 1\n2\n4\n6\n6 5 4\n";
-    assert_eq!(imported(bad, 2), (Err(5), [77; 4], [77; 2], [77; 2]));
-    assert_eq!(imported(good, 0), (Err(4), [77; 4], [77; 2], [77; 2]));
+    assert_eq!(imported(bad, 2), (Err(5), lent(2)));
+    assert_eq!(imported(good, 0), (Err(4), lent(0)));
     // The node is free, whatever its byte was.
-    let filled = (Ok((2, 1, 1)), [0, 5, 4, 77], [6, 77], [0, 77]);
-    assert_eq!(imported(good, 2), filled);
+    let (answer, p) = imported(good, 2);
+    assert_eq!((answer, p.locks), (Ok((2, 1, 1)), vec![0, 101]));
+    assert_eq!(
+        (&p.node_table[..4], p.node_bits),
+        (&[0, 2, 2, 1_003][..], vec![2])
+    );
+    assert_eq!((p.output_table, p.output_bits), (vec![3, 2_001], vec![0]));
 }
 
 #[test]

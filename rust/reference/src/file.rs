@@ -52,8 +52,8 @@ fn numbers(payload: &[u8]) -> Vec<u32> {
         .collect()
 }
 
-/// The graph that a file holds, from front to back, with the first fault.
-fn parse(file: &[u8], room: Room) -> Result<Graph, Number> {
+/// The graph that a file holds, from front to back, where so much is lent for it; or the first fault.
+pub fn parse(file: &[u8], room: Room) -> Result<Graph, Number> {
     let (_, payload) = read_field(file, &|tag| tag == 1)?;
     let mut at = 15;
     let head = numbers(payload);
@@ -111,20 +111,7 @@ fn parse(file: &[u8], room: Room) -> Result<Graph, Number> {
     })
 }
 
-/// I, N and O, with the front of the tables and of the locks filled from a graph of just its size.
-pub(crate) fn fill(
-    g: &Graph,
-    node_table: &mut [u32],
-    output_table: &mut [u32],
-    locks: &mut [u8],
-) -> (u32, u32, u32) {
-    node_table[..g.node_table.len()].copy_from_slice(&g.node_table);
-    output_table[..g.output_table.len()].copy_from_slice(&g.output_table);
-    locks[..g.locks.len()].copy_from_slice(&g.locks);
-    (g.inputs, g.nodes, g.outputs)
-}
-
-/// I, N and O, with tables and locks filled; refused, they are left alone.
+/// I, N and O, with tables of literals and locks filled; refused, they are left alone.
 pub fn load(
     file: &[u8],
     node_table: &mut [u32],
@@ -137,7 +124,10 @@ pub fn load(
         lock_bytes: locks.len(),
     };
     let g = parse(file, room)?;
-    Ok(fill(&g, node_table, output_table, locks))
+    node_table[..g.node_table.len()].copy_from_slice(&g.node_table);
+    output_table[..g.output_table.len()].copy_from_slice(&g.output_table);
+    locks[..g.locks.len()].copy_from_slice(&g.locks);
+    Ok((g.inputs, g.nodes, g.outputs))
 }
 
 fn put_field(file: &mut Vec<u8>, tag: u8, words: &[u32]) {

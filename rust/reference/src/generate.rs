@@ -2,6 +2,7 @@
 
 use crate::graph::{Graph, MARK};
 use crate::moves::moves_at;
+use crate::packed::Packed;
 use crate::random::Random;
 
 #[derive(Clone, Copy, Debug, PartialEq, Eq)]
@@ -203,4 +204,38 @@ pub fn with_tails(random: &mut Random, mut g: Graph, most: u32) -> Graph {
         g.locks.push([0, 1, 2, 200, 255][random.below(5) as usize]);
     }
     g
+}
+
+/// Any index: the mark, one of a small graph, or any word.
+fn any_index(random: &mut Random) -> u32 {
+    match random.below(3) {
+        0 => MARK,
+        1 => random.below(100),
+        _ => random.word() as u32,
+    }
+}
+
+/// No bit, every bit, or any bits.
+fn any_bits(random: &mut Random) -> u64 {
+    match random.below(4) {
+        0 => 0,
+        1 => u64::MAX,
+        _ => random.word(),
+    }
+}
+
+/// Up to so many words or bytes more behind the graph in each slice, with anything in them.
+pub fn with_slack(random: &mut Random, mut p: Packed, most: u32) -> Packed {
+    for table in [&mut p.node_table, &mut p.output_table] {
+        let more = random.between(0, most);
+        table.extend((0..more).map(|_| any_index(random)));
+    }
+    for bits in [&mut p.node_bits, &mut p.output_bits] {
+        let more = random.between(0, most);
+        bits.extend((0..more).map(|_| any_bits(random)));
+    }
+    for _ in 0..random.between(0, most) {
+        p.locks.push([0, 1, 2, 200, 255][random.below(5) as usize]);
+    }
+    p
 }

@@ -6,6 +6,7 @@
 
 pub mod aiger;
 pub mod calls;
+pub mod entries;
 pub mod evaluation;
 pub mod fast;
 pub mod file;
@@ -13,6 +14,7 @@ pub mod generate;
 pub mod graph;
 pub mod many;
 pub mod moves;
+pub mod packed;
 pub mod preview;
 pub mod random;
 pub mod replay;
@@ -24,11 +26,15 @@ pub mod vectors;
 #[cfg(test)]
 mod aiger_tests;
 #[cfg(test)]
+mod entry_tests;
+#[cfg(test)]
 mod lock_file_tests;
 #[cfg(test)]
 mod lock_tests;
 #[cfg(test)]
 mod many_tests;
+#[cfg(test)]
+mod packed_tests;
 #[cfg(test)]
 mod preview_tests;
 #[cfg(test)]

@@ -1,13 +1,15 @@
 use crate::calls::{step, Answer, Call};
+use crate::entries::replay;
 use crate::fast::Fast;
 use crate::file::file_of;
 use crate::generate::{moves_of, small, with_locks, with_tails};
 use crate::graph::{adds, index_of, Graph, Place, MARK};
 use crate::many::many;
 use crate::moves::{is_root, make, rows, tree_call};
+use crate::packed::pack;
 use crate::preview::preview;
 use crate::random::Random;
-use crate::replay::{calls_of, replay, Words};
+use crate::replay::{calls_of, Words};
 use crate::vectors::samples::of;
 
 /// The moves lead from one graph to the other and save so much; the locks stay.
@@ -276,15 +278,15 @@ fn settle_many_settle() {
         list: &[5, 4],
         moves: &[0, 1],
     };
-    let mut g = of(0, &[[77; 3]], &[77]);
+    let mut g = pack(&of(0, &[[77; 3]], &[77]));
     let mut answers = [77; 16];
     let file = file_of(&p1);
     assert_eq!(replay(&file, words, &mut g, 8, &mut answers), Ok((3, 1, 1)));
     let due = [0, 3, 1, 0, -4, 0, 0, 3, 1, 7, 0, 0, 7, 0, 0, 77];
     assert_eq!(answers, due);
-    assert_eq!(g, of(3, &[[2, 4, 6]], &[8]));
+    assert_eq!(g, pack(&of(3, &[[2, 4, 6]], &[8])));
     // Refused, it leaves everything: 105, then 4 for the answers, then the file.
-    let mut g = of(0, &[[77; 3]], &[77]);
+    let mut g = pack(&of(0, &[[77; 3]], &[77]));
     let before = g.clone();
     let mut answers = [77; 14];
     let outside = Words {

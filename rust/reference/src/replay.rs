@@ -1,8 +1,7 @@
-//! Calls as words, three to each, made one after the other on the graph of a file.
+//! Calls as words, three to each, and their answers.
 
-use crate::calls::{step, Answer, Call};
-use crate::file::load;
-use crate::graph::{Graph, Number};
+use crate::calls::{Answer, Call};
+use crate::graph::Number;
 
 /// The words of the calls, and the list of nodes with their moves of which each many call takes a part.
 #[derive(Clone, Copy, Debug)]
@@ -54,24 +53,4 @@ pub fn told(answer: Answer) -> [i64; 3] {
         Answer::Total(saved) => [0, saved, 0],
         Answer::Refused(number) => [number.into(), 0, 0],
     }
-}
-
-/// A replay into the tables and locks of `g`, whose I, N and O become the file's. Refused, it leaves everything.
-pub fn replay(
-    file: &[u8],
-    words: Words,
-    g: &mut Graph,
-    scratch: usize,
-    answers: &mut [i64],
-) -> Result<(u32, u32, u32), Number> {
-    let calls = calls_of(words)?;
-    if answers.len() < 3 * calls.len() {
-        return Err(4);
-    }
-    let numbers = load(file, &mut g.node_table, &mut g.output_table, &mut g.locks)?;
-    (g.inputs, g.nodes, g.outputs) = numbers;
-    for (call, three) in calls.iter().zip(answers.chunks_mut(3)) {
-        three.copy_from_slice(&told(step(g, call, scratch)));
-    }
-    Ok(numbers)
 }

@@ -9,8 +9,8 @@ use differential::cases::{Case, Step};
 use differential::extremes::{self, EXTREMES, LOCKED};
 use differential::shrink::hold;
 use differential::{
-    call_faults, exports, faults, files, lengths, lists, lock_fields, many, many_faults, preview_faults, previews, raw,
-    replay_faults, replays, savings, stored, text_limits, texts, trials,
+    bit_faults, call_faults, exports, faults, files, lengths, lists, lock_fields, many, many_faults, preview_faults,
+    previews, raw, replay_faults, replays, savings, stored, text_limits, texts, trials, words,
 };
 use reference::calls::Call;
 use reference::generate::{graph, locked_one_in, moves_of, with_locks, Shape, SHAPES};
@@ -20,20 +20,25 @@ use reference::random::Random;
 /// What one kind of test does with a seed: how many cases it tried, or what failed.
 type Kind = (&'static str, u64, fn(u64) -> Result<u64, String>);
 
-const KINDS: [Kind; 37] = [
+const KINDS: [Kind; 42] = [
     ("stored cases of single calls and evaluation", 1, stored),
     ("the plain implementation, lists of calls", 30_000, plain_lists),
     ("lists of calls on small graphs", 80_000, small_lists),
     ("long lists of calls", 2_000, long_lists),
+    ("lists of calls over several words of bits", 500, wide_lists),
+    ("the plain implementation over several words of bits", 300, plain_wide),
     ("counts, values and files around lists", 40_000, readings),
     ("settling hundreds of nodes", 400, settled),
     ("settling's sums, and its calls one by one", 30_000, summed),
     ("settling's sums over dozens of nodes", 200, summed_longer),
     ("all calls on thousands of nodes", 20, large),
     ("settling at the limits", EXTREMES.len() as u64, at_limits),
-    ("trials of every two moves, and the pair call by them", 30_000, tried),
-    ("lent slices of every length", 1_200, slices),
-    ("literals in every place, and limits", 1_000, literals),
+    ("trials of every two moves, and the pair call by them", 24_000, tried),
+    ("lent slices of every length", 600, slices),
+    ("limits", 1, limits),
+    ("indices with bits in every place", 200, indices),
+    ("bits past the last literal", 400, strays),
+    ("bits and indices of known numbers, at the ends of words", 1, bit_faults),
     ("lock bytes in every place", 1_000, locks),
     ("calls with every choice of faults of known numbers", 1, faulty_calls),
     ("files, whole and damaged", 400_000, damaged),
@@ -85,6 +90,20 @@ fn long_lists(seed: u64) -> Result<u64, String> {
     Ok(calls)
 }
 
+fn wide_lists(seed: u64) -> Result<u64, String> {
+    let case = lists::longer_case(seed);
+    let calls = case.steps.len() as u64;
+    hold(seed, case, &|case| lists::check_list(case).and_then(|()| lists::check_readings(case)))?;
+    Ok(calls + 2)
+}
+
+fn plain_wide(seed: u64) -> Result<u64, String> {
+    let case = lists::longer_case(seed);
+    let calls = case.steps.len() as u64;
+    hold(seed, case, &lists::check_plain)?;
+    Ok(calls)
+}
+
 fn readings(seed: u64) -> Result<u64, String> {
     hold(seed, lists::random_case(seed, 12, 4), &lists::check_readings)?;
     Ok(2)
@@ -98,7 +117,7 @@ fn settled(seed: u64) -> Result<u64, String> {
     let nodes = random.between(50, 400);
     let graph = graph(&mut random, shape, 12, nodes, 6);
     let graph = with_locks(&mut random, graph);
-    hold(seed, Case { graph, steps: vec![], seed }, &lists::check_settled)?;
+    hold(seed, Case::new(graph, vec![], seed), &lists::check_settled)?;
     Ok(1)
 }
 
@@ -113,7 +132,7 @@ fn summed_longer(seed: u64) -> Result<u64, String> {
     let (shape, nodes) = (SHAPES[(seed % 8) as usize], random.between(20, 90));
     let graph = graph(&mut random, shape, 12, nodes, 20);
     let graph = with_locks(&mut random, graph);
-    hold(seed, Case { graph, steps: vec![], seed }, &savings::check_sums)?;
+    hold(seed, Case::new(graph, vec![], seed), &savings::check_sums)?;
     Ok(1)
 }
 
@@ -140,7 +159,7 @@ fn large(seed: u64) -> Result<u64, String> {
     let (list, moves) = moves_of(&mut random, &graph, 3);
     calls.extend([Call::Many { list, moves }, Call::Settle]);
     let steps = calls.into_iter().map(|call| Step { call, spare: 0 }).collect();
-    let case = Case { graph, steps, seed };
+    let case = Case::new(graph, steps, seed);
     let count = case.steps.len() as u64 + 3;
     // Too large to be made smaller step by step: the seed says it all.
     lists::check_large(&case).map_err(|wrong| format!("seed {seed}: {wrong}"))?;
@@ -168,12 +187,26 @@ fn slices(seed: u64) -> Result<u64, String> {
     count
 }
 
-fn literals(seed: u64) -> Result<u64, String> {
-    let limits = if seed == 0 { lengths::check_limits()? } else { 0 };
+fn limits(_: u64) -> Result<u64, String> {
+    lengths::check_limits()
+}
+
+fn indices(seed: u64) -> Result<u64, String> {
     let case = lists::random_case(seed, 4, 3);
-    let count = lengths::check_literals(&case);
-    hold(seed, case, &|case| lengths::check_literals(case).map(|_| ()))?;
-    Ok(limits + count?)
+    let count = words::check_indices(&case);
+    hold(seed, case, &|case| words::check_indices(case).map(|_| ()))?;
+    count
+}
+
+fn strays(seed: u64) -> Result<u64, String> {
+    let case = lists::random_case(seed, 4, 3);
+    let count = words::check_strays(&case);
+    hold(seed, case, &|case| words::check_strays(case).map(|_| ()))?;
+    count
+}
+
+fn bit_faults(_: u64) -> Result<u64, String> {
+    bit_faults::check_faults()
 }
 
 fn locks(seed: u64) -> Result<u64, String> {

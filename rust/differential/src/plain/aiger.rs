@@ -1,7 +1,8 @@
 //! ASCII AIGER. Import: a pass that checks every byte, then one that fills the tables, all locks being 0. Export: the exact length from where literals
 //! grow by a digit, then one pass that writes.
 
-use super::{admit, check_limits, check_room, Number, Room, View};
+use super::bits::{bit, bits_of, words_for, Gather};
+use super::{admit, check_limits, check_room, Filled, Number, Room, View};
 use reducer::MARK;
 
 /// What is left of the text.
@@ -94,30 +95,31 @@ fn check_lines(reader: &mut Reader, inputs: u32, nodes: u32, outputs: u32) -> Re
     Ok(())
 }
 
-pub fn import(
-    text: &[u8],
-    node_table: &mut [u32],
-    output_table: &mut [u32],
-    locks: &mut [u8],
-) -> Result<(u32, u32, u32), Number> {
-    let room = Room { node_words: node_table.len(), output_words: output_table.len(), lock_bytes: locks.len() };
-    let (inputs, nodes, outputs, mut reader) = header(text, room)?;
+pub fn import(text: &[u8], lent: Filled) -> Result<(u32, u32, u32), Number> {
+    let (inputs, nodes, outputs, mut reader) = header(text, lent.room())?;
     let start = reader.at;
     check_lines(&mut reader, inputs, nodes, outputs)?;
     reader.at = start;
     for _ in 0..inputs {
         reader.checked();
     }
-    for word in &mut output_table[..outputs as usize] {
-        *word = reader.checked();
+    let (places, outs) = (3 * nodes as usize, outputs as usize);
+    let mut gathered = Gather::new(&mut lent.output_bits[..words_for(outs)]);
+    for index in &mut lent.output_table[..outs] {
+        let literal = reader.checked();
+        *index = literal / 2;
+        gathered.one(literal & 1);
     }
-    for words in node_table.chunks_exact_mut(3).take(nodes as usize) {
+    gathered.end();
+    let mut gathered = Gather::new(&mut lent.node_bits[..words_for(places)]);
+    for indices in lent.node_table[..places].chunks_exact_mut(3) {
         reader.checked();
-        words[0] = 0;
-        words[1] = reader.checked();
-        words[2] = reader.checked();
+        let (x, y) = (reader.checked(), reader.checked());
+        indices.copy_from_slice(&[0, x / 2, y / 2]);
+        gathered.three((x & 1) << 1 | (y & 1) << 2);
     }
-    locks[..nodes as usize].fill(0);
+    gathered.end();
+    lent.locks[..nodes as usize].fill(0);
     Ok((inputs, nodes, outputs))
 }
 
@@ -127,8 +129,8 @@ fn width(number: u32) -> usize {
     1 + TENS.iter().map(|&ten| (number >= ten) as usize).sum::<usize>()
 }
 
-fn gates_of(words: &[u32]) -> u32 {
-    if words[2] == MARK {
+fn gates_of(indices: &[u32]) -> u32 {
+    if indices[2] == MARK {
         3
     } else {
         4
@@ -150,37 +152,37 @@ fn cuts(g: &View) -> [u32; 5] {
     };
     (0..=g.inputs).for_each(|input| reach(2 * input));
     let mut last = g.inputs;
-    for words in g.words().chunks_exact(3) {
-        last += gates_of(words);
+    for indices in g.indices().chunks_exact(3) {
+        last += gates_of(indices);
         reach(2 * last);
     }
     cuts
 }
 
-/// The digits of the literal that stands for a word in the text.
-fn width_of(cuts: &[u32; 5], word: u32) -> usize {
-    1 + cuts.iter().map(|&cut| (word / 2 >= cut) as usize).sum::<usize>()
+/// The digits of the literal that stands for an index in the text.
+fn width_of(cuts: &[u32; 5], index: u32) -> usize {
+    1 + cuts.iter().map(|&cut| (index >= cut) as usize).sum::<usize>()
 }
 
 /// All numbers of the gates are parted or ended by a byte each.
 fn gates_length(g: &View, cuts: &[u32; 5]) -> usize {
     let mut sum = 0;
     let mut own = 2 * (g.inputs + 1);
-    for words in g.words().chunks_exact(3) {
-        let of = |k: usize| width_of(cuts, words[k]);
+    for indices in g.indices().chunks_exact(3) {
+        let of = |k: usize| width_of(cuts, indices[k]);
         let made = |k: u32| width(own + 2 * k);
-        sum += if words[2] == MARK {
+        sum += if indices[2] == MARK {
             9 + 2 * (of(0) + of(1)) + 2 * (made(0) + made(1)) + made(2)
         } else {
             12 + of(0) + 2 * (of(1) + of(2)) + 2 * (made(0) + made(1) + made(2)) + made(3)
         };
-        own += 2 * gates_of(words);
+        own += 2 * gates_of(indices);
     }
     sum
 }
 
 fn gates(g: &View) -> u32 {
-    g.words().chunks_exact(3).map(gates_of).sum()
+    g.indices().chunks_exact(3).map(gates_of).sum()
 }
 
 fn length(g: &View) -> usize {
@@ -188,7 +190,7 @@ fn length(g: &View) -> usize {
     let gates = gates(g);
     let header = 10 + width(g.inputs + gates) + width(g.inputs) + width(g.outputs) + width(gates);
     let inputs: usize = (1..=g.inputs).map(|input| 1 + width(2 * input)).sum();
-    let outputs: usize = g.outs().iter().map(|&word| 1 + width_of(&cuts, word)).sum();
+    let outputs: usize = g.outs().iter().map(|&index| 1 + width_of(&cuts, index)).sum();
     header + inputs + outputs + gates_length(g, &cuts)
 }
 
@@ -231,13 +233,26 @@ impl Writer<'_> {
     }
 }
 
-/// The literal that stands for a word: a node's own is its last AND's, complemented.
-fn literal(inputs: u32, literals: &[u32], word: u32) -> u32 {
-    let index = word / 2;
+/// The literal that stands for an index and a bit: a node's own is its last AND's, complemented.
+fn literal(inputs: u32, literals: &[u32], index: u32, bit: u32) -> u32 {
     if index > inputs {
-        literals[(index - inputs - 1) as usize] ^ (word & 1)
+        literals[(index - inputs - 1) as usize] ^ bit
     } else {
-        word
+        2 * index + bit
+    }
+}
+
+fn write_nodes(g: &View, scratch: &[u32], writer: &mut Writer) {
+    let mut own = 2 * (g.inputs + 1);
+    for (v, indices) in g.indices().chunks_exact(3).enumerate() {
+        let bits = bits_of(g.bits(), v);
+        let of = |k: usize| literal(g.inputs, scratch, indices[k], bits >> k & 1);
+        if indices[2] == MARK {
+            writer.xor(own, of(0), of(1));
+        } else {
+            writer.majority(own, of(0), of(1), of(2));
+        }
+        own += 2 * gates_of(indices);
     }
 }
 
@@ -251,8 +266,8 @@ pub fn export(g: &View, scratch: &mut [u32], buffer: &mut [u8]) -> Result<usize,
         return Err(9);
     }
     let mut last = g.inputs;
-    for (words, value) in g.words().chunks_exact(3).zip(scratch.iter_mut()) {
-        last += gates_of(words);
+    for (indices, value) in g.indices().chunks_exact(3).zip(scratch.iter_mut()) {
+        last += gates_of(indices);
         *value = 2 * last + 1;
     }
     let gates = last - g.inputs;
@@ -265,18 +280,9 @@ pub fn export(g: &View, scratch: &mut [u32], buffer: &mut [u8]) -> Result<usize,
     for input in 1..=g.inputs {
         writer.number(2 * input, b'\n');
     }
-    for &word in g.outs() {
-        writer.number(literal(g.inputs, scratch, word), b'\n');
+    for (o, &index) in g.outs().iter().enumerate() {
+        writer.number(literal(g.inputs, scratch, index, bit(g.out_bits(), o)), b'\n');
     }
-    let mut own = 2 * (g.inputs + 1);
-    for words in g.words().chunks_exact(3) {
-        let of = |k: usize| literal(g.inputs, scratch, words[k]);
-        if words[2] == MARK {
-            writer.xor(own, of(0), of(1));
-        } else {
-            writer.majority(own, of(0), of(1), of(2));
-        }
-        own += 2 * gates_of(words);
-    }
+    write_nodes(g, scratch, &mut writer);
     Ok(length)
 }

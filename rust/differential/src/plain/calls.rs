@@ -1,82 +1,73 @@
-//! The node and pair calls: each decides, then writes in one sweep of each table where something turns.
+//! The node and pair calls: each decides, then turns the bits of its words and of their readers. A bit is looked at only where the index is
+//! the one that is looked for.
 
+use super::bits::{bit, bits_of};
 use super::decide::{best_pair, flags, parted, Costs, Kind, Numbers};
-use super::{adds, admit, Number, View};
+use super::{admit, Number, View};
 use reducer::{Saving, MARK};
 
-/// Readers of an index, and how many of them are complemented.
-pub(super) fn readers_of(g: &View, index: u32) -> (u32, u32) {
-    let mut all = 0;
-    let mut odd = 0;
-    // The mark names no index that a graph has.
-    for &word in g.words().iter().chain(g.outs()) {
-        let names = (word / 2 == index) as u32;
-        all += names;
-        odd += names & word;
+/// The places of a table that name an index, and how many of them are complemented.
+fn names(table: &[u32], bits: &[u64], index: u32) -> (u32, u32) {
+    let (mut all, mut odd) = (0, 0);
+    for (place, &other) in table.iter().enumerate() {
+        if other == index {
+            all += 1;
+            odd += bit(bits, place);
+        }
     }
     (all, odd)
 }
 
-pub(super) fn word_costs(word: u32) -> [u32; 2] {
-    [adds(word), adds(word ^ 1)]
+/// Readers of an index, and how many of them are complemented.
+pub(super) fn readers_of(g: &View, index: u32) -> (u32, u32) {
+    let (words, odd_words) = names(g.indices(), g.bits(), index);
+    let (outs, odd_outs) = names(g.outs(), g.out_bits(), index);
+    (words + outs, odd_words + odd_outs)
 }
 
-fn own_costs(words: &[u32]) -> Costs {
-    let third = if words[2] == MARK { [0, 0] } else { word_costs(words[2]) };
-    [word_costs(words[0]), word_costs(words[1]), third]
+/// What a literal with this bit costs as it stands and turned.
+pub(super) fn bit_costs(bit: u32) -> [u32; 2] {
+    [bit, bit ^ 1]
+}
+
+fn own_costs(bits: u32, xor: bool) -> Costs {
+    let third = if xor { [0, 0] } else { bit_costs(bits >> 2) };
+    [bit_costs(bits & 1), bit_costs(bits >> 1 & 1), third]
 }
 
 fn numbers_of(g: &View, node: u32) -> Numbers {
     let v = (node - g.inputs - 1) as usize;
-    let words = &g.node_table[3 * v..3 * v + 3];
     let (readers, odd) = readers_of(g, node);
-    let kind = Kind { xor: words[2] == MARK, locked: g.locks[v] == 1 };
-    Numbers { kind, costs: own_costs(words), readers, odd }
-}
-
-/// Move `first` at `named` and `second` at `node` made at once; the two are the same node for a node call.
-fn write(inputs: u32, node_table: &mut [u32], output_table: &mut [u32], named: (u32, [u32; 4]), node: (u32, [u32; 4])) {
-    let readers = |index: u32| {
-        if index == node.0 {
-            node.1[3]
-        } else if index == named.0 {
-            named.1[3]
-        } else {
-            0
-        }
-    };
-    let mut index = inputs + 1;
-    for words in node_table.chunks_exact_mut(3) {
-        let own = if index == node.0 {
-            node.1
-        } else if index == named.0 {
-            named.1
-        } else {
-            [0; 4]
-        };
-        words[0] ^= own[0] ^ readers(words[0] / 2);
-        words[1] ^= own[1] ^ readers(words[1] / 2);
-        if words[2] != MARK {
-            words[2] ^= own[2] ^ readers(words[2] / 2);
-        }
-        index += 1;
-    }
-    for word in output_table {
-        *word ^= readers(*word / 2);
-    }
+    let kind = Kind { xor: g.node_table[3 * v + 2] == MARK, locked: g.locks[v] == 1 };
+    Numbers { kind, costs: own_costs(bits_of(g.node_bits, v), kind.xor), readers, odd }
 }
 
 pub(super) fn is_node(g: &View, index: u32) -> bool {
     index > g.inputs && index - g.inputs <= g.nodes
 }
 
+/// The tables of a call that turns literals.
 pub struct Tables<'a> {
     pub inputs: u32,
     pub nodes: u32,
     pub outputs: u32,
-    pub node_table: &'a mut [u32],
-    pub output_table: &'a mut [u32],
+    pub node_table: &'a [u32],
+    pub node_bits: &'a mut [u64],
+    pub output_table: &'a [u32],
+    pub output_bits: &'a mut [u64],
     pub locks: &'a [u8],
+}
+
+pub(super) fn turn(bits: &mut [u64], place: usize, turned: u32) {
+    bits[place / 64] ^= u64::from(turned) << (place % 64);
+}
+
+pub(super) fn turn_names(table: &[u32], bits: &mut [u64], index: u32) {
+    for (place, &other) in table.iter().enumerate() {
+        if other == index {
+            turn(bits, place, 1);
+        }
+    }
 }
 
 impl Tables<'_> {
@@ -86,15 +77,21 @@ impl Tables<'_> {
             nodes: self.nodes,
             outputs: self.outputs,
             node_table: self.node_table,
+            node_bits: self.node_bits,
             output_table: self.output_table,
+            output_bits: self.output_bits,
             locks: self.locks,
         }
     }
 
-    fn write(&mut self, named: (u32, [u32; 4]), node: (u32, [u32; 4])) {
-        let nodes = 3 * self.nodes as usize;
-        let outputs = self.outputs as usize;
-        write(self.inputs, &mut self.node_table[..nodes], &mut self.output_table[..outputs], named, node);
+    /// A move at a node: its own words, then its readers.
+    fn make(&mut self, node: u32, turned: &[u32; 4]) {
+        let first = 3 * (node - self.inputs - 1) as usize;
+        (0..3).for_each(|k| turn(self.node_bits, first + k, turned[k]));
+        if turned[3] == 1 {
+            turn_names(&self.node_table[..3 * self.nodes as usize], self.node_bits, node);
+            turn_names(&self.output_table[..self.outputs as usize], self.output_bits, node);
+        }
     }
 }
 
@@ -106,10 +103,7 @@ pub fn node_call(t: &mut Tables, node: u32) -> Result<Saving, Number> {
     }
     let numbers = numbers_of(&g, node);
     let least = numbers.best();
-    if least.number != 0 {
-        let made = (node, *flags(numbers.kind.xor, least.number));
-        t.write(made, made);
-    }
+    t.make(node, flags(numbers.kind.xor, least.number));
     Ok(parted(numbers.cost(0) - least.cost, numbers.odd_around(least.number)))
 }
 
@@ -124,15 +118,14 @@ pub fn pair_call(t: &mut Tables, node: u32, word: u32) -> Result<Saving, Number>
     if word < 1 || word > last {
         return Err(7);
     }
-    let named = g.node_table[at + word as usize - 1] / 2;
+    let named = g.node_table[at + word as usize - 1];
     if named <= g.inputs {
         return Ok(Saving::default());
     }
-    let which = [0, 1, 2].map(|k| g.node_table[at + k] / 2 == named);
+    let which = [0, 1, 2].map(|k| g.node_table[at + k] == named);
     let (first, second) = (numbers_of(&g, named), numbers_of(&g, node));
     let best = best_pair(&first, &second, which);
-    if best.named + best.node != 0 {
-        t.write((named, *flags(first.kind.xor, best.named)), (node, *flags(second.kind.xor, best.node)));
-    }
+    t.make(named, flags(first.kind.xor, best.named));
+    t.make(node, flags(second.kind.xor, best.node));
     Ok(parted(best.saved, best.odd))
 }

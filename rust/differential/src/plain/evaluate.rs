@@ -1,16 +1,43 @@
 //! Evaluation, a word of 64 assignments at a time.
 
+use super::bits::{bit, bits_of, twelve};
 use super::{check_limits, check_literals, check_locks, check_room, Number, View};
 use reducer::MARK;
 
-/// The slice is picked before it is read, so that there is one read and no branch that inputs and nodes take in turn.
-fn value(inputs: u32, input_words: &[u64], values: &[u64], literal: u32) -> u64 {
-    let index = literal / 2;
+/// The value of an index, turned where the bit is 1. It is looked up without waiting for the bit, and the slice is picked before it is read, so
+/// that there is one read and no branch that inputs and nodes take in turn.
+fn value(inputs: u32, input_words: &[u64], values: &[u64], index: u32, bit: u32) -> u64 {
+    let mask = u64::from(bit).wrapping_neg();
     if index == 0 {
-        return (literal as u64).wrapping_neg();
+        return mask;
     }
     let (words, first) = if index <= inputs { (input_words, 1) } else { (values, inputs + 1) };
-    words[(index - first) as usize] ^ (literal as u64 & 1).wrapping_neg()
+    words[(index - first) as usize] ^ mask
+}
+
+/// Whether most of the first nodes are XORs: then a processor foresees a node's kind.
+fn mostly_xor(indices: &[u32]) -> bool {
+    let first = &indices[..indices.len().min(3 * 64)];
+    let xors = first.chunks_exact(3).filter(|words| words[2] == MARK).count();
+    first.len() <= 4 * xors
+}
+
+/// The value of a node by its indices and bits. An XOR looks up its first index twice, so that nothing jumps on the kind; where the kind can be
+/// foreseen, it is left before.
+fn node_value(inputs: u32, words: [&[u64]; 2], indices: &[u32], bits: u32, foreseen: bool) -> u64 {
+    let xor = indices[2] == MARK;
+    let third = if xor { indices[0] } else { indices[2] };
+    let of = |index: u32, k: u32| value(inputs, words[0], words[1], index, bits >> k & 1);
+    let (x, y) = (of(indices[0], 0), of(indices[1], 1));
+    if foreseen && xor {
+        return x ^ y;
+    }
+    let z = of(third, 2);
+    if xor {
+        x ^ y
+    } else {
+        x & y | x & z | y & z
+    }
 }
 
 pub fn evaluate(g: &View, input_words: &[u64], scratch: &mut [u64], results: &mut [u64]) -> Result<(), Number> {
@@ -24,19 +51,23 @@ pub fn evaluate(g: &View, input_words: &[u64], scratch: &mut [u64], results: &mu
     if scratch.len() < g.nodes as usize {
         return Err(8);
     }
-    for (v, words) in g.words().chunks_exact(3).enumerate() {
+    let foreseen = mostly_xor(g.indices());
+    let mut fill = |v: usize, indices: &[u32], bits: u32| {
         let (values, rest) = scratch.split_at_mut(v);
-        let x = value(g.inputs, input_words, values, words[0]);
-        let y = value(g.inputs, input_words, values, words[1]);
-        rest[0] = if words[2] == MARK {
-            x ^ y
-        } else {
-            let z = value(g.inputs, input_words, values, words[2]);
-            x & y | x & z | y & z
-        };
+        rest[0] = node_value(g.inputs, [input_words, values], indices, bits, foreseen);
+    };
+    // The bits of four nodes at once.
+    let turns = g.indices().chunks_exact(12);
+    let rest = turns.remainder();
+    for (turn, indices) in turns.enumerate() {
+        let bits = twelve(g.bits(), 12 * turn);
+        (0..4).for_each(|k| fill(4 * turn + k, &indices[3 * k..3 * k + 3], bits >> (3 * k)));
     }
-    for (result, &literal) in results.iter_mut().zip(g.outs()) {
-        *result = value(g.inputs, input_words, scratch, literal);
+    for (v, indices) in (g.nodes as usize / 4 * 4..).zip(rest.chunks_exact(3)) {
+        fill(v, indices, bits_of(g.bits(), v));
+    }
+    for (o, (result, &index)) in results.iter_mut().zip(g.outs()).enumerate() {
+        *result = value(g.inputs, input_words, scratch, index, bit(g.out_bits(), o));
     }
     Ok(())
 }

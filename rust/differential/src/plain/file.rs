@@ -1,6 +1,7 @@
 //! The tagged file: a pass that checks all of it, then one that fills the tables and the locks.
 
-use super::{admit, check_limits, check_room, Number, Room, View};
+use super::bits::{bit, bits_of, literals, words_for, Gather};
+use super::{admit, check_limits, check_room, Filled, Number, Room, View};
 use reducer::MARK;
 
 fn four(bytes: &[u8], at: usize) -> u32 {
@@ -72,33 +73,42 @@ fn check(file: &[u8], room: Room) -> Result<(u32, u32, u32), Number> {
     Ok((inputs, nodes, outputs))
 }
 
-pub fn load(
-    file: &[u8],
-    node_table: &mut [u32],
-    output_table: &mut [u32],
-    locks: &mut [u8],
-) -> Result<(u32, u32, u32), Number> {
-    let room = Room { node_words: node_table.len(), output_words: output_table.len(), lock_bytes: locks.len() };
-    let (inputs, nodes, outputs) = check(file, room)?;
-    let mut rest = &file[15..];
-    for words in node_table.chunks_exact_mut(3).take(nodes as usize) {
-        words[0] = four(rest, 3);
-        words[1] = four(rest, 7);
-        if rest[0] == 3 {
-            words[2] = MARK;
-            rest = &rest[11..];
-        } else {
-            words[2] = four(rest, 11);
-            rest = &rest[15..];
-        }
+/// Three literals of a node, its third index being the mark where the field is an XOR's; and what is left.
+fn node<'a>(rest: &'a [u8], indices: &mut [u32]) -> (u32, &'a [u8]) {
+    let (x, y) = (four(rest, 3), four(rest, 7));
+    (indices[0], indices[1]) = (x / 2, y / 2);
+    let two = x & 1 | (y & 1) << 1;
+    if rest[0] == 3 {
+        indices[2] = MARK;
+        return (two, &rest[11..]);
     }
-    for word in &mut output_table[..outputs as usize] {
-        *word = four(rest, 3);
+    let z = four(rest, 11);
+    indices[2] = z / 2;
+    (two | (z & 1) << 2, &rest[15..])
+}
+
+pub fn load(file: &[u8], lent: Filled) -> Result<(u32, u32, u32), Number> {
+    let (inputs, nodes, outputs) = check(file, lent.room())?;
+    let (places, outs) = (3 * nodes as usize, outputs as usize);
+    let mut rest = &file[15..];
+    let mut gathered = Gather::new(&mut lent.node_bits[..words_for(places)]);
+    for indices in lent.node_table[..places].chunks_exact_mut(3) {
+        let (bits, left) = node(rest, indices);
+        gathered.three(bits);
+        rest = left;
+    }
+    gathered.end();
+    let mut gathered = Gather::new(&mut lent.output_bits[..words_for(outs)]);
+    for index in &mut lent.output_table[..outs] {
+        let literal = four(rest, 3);
+        *index = literal / 2;
+        gathered.one(literal & 1);
         rest = &rest[7..];
     }
-    locks[..nodes as usize].fill(0);
+    gathered.end();
+    lent.locks[..nodes as usize].fill(0);
     while rest[0] == 6 {
-        locks[(four(rest, 3) - inputs - 1) as usize] = 1;
+        lent.locks[(four(rest, 3) - inputs - 1) as usize] = 1;
         rest = &rest[7..];
     }
     Ok((inputs, nodes, outputs))
@@ -117,7 +127,7 @@ fn put(buffer: &mut [u8], at: &mut usize, tag: u8, words: &[u32]) {
 }
 
 fn length(g: &View) -> usize {
-    let nodes: usize = g.words().chunks_exact(3).map(|words| if words[2] == MARK { 11 } else { 15 }).sum();
+    let nodes: usize = g.indices().chunks_exact(3).map(|indices| if indices[2] == MARK { 11 } else { 15 }).sum();
     let locked = g.node_locks().iter().filter(|&&byte| byte == 1).count();
     18 + nodes + 7 * (g.outputs as usize + locked)
 }
@@ -130,15 +140,16 @@ pub fn write(g: &View, buffer: &mut [u8]) -> Result<usize, Number> {
     }
     let mut at = 0;
     put(buffer, &mut at, 1, &[g.inputs, g.nodes, g.outputs]);
-    for words in g.words().chunks_exact(3) {
-        if words[2] == MARK {
+    for (v, indices) in g.indices().chunks_exact(3).enumerate() {
+        let words = literals(indices, bits_of(g.bits(), v));
+        if indices[2] == MARK {
             put(buffer, &mut at, 3, &words[..2]);
         } else {
-            put(buffer, &mut at, 2, words);
+            put(buffer, &mut at, 2, &words);
         }
     }
-    for &literal in g.outs() {
-        put(buffer, &mut at, 4, &[literal]);
+    for (o, &index) in g.outs().iter().enumerate() {
+        put(buffer, &mut at, 4, &[2 * index + bit(g.out_bits(), o)]);
     }
     for (index, &byte) in (g.inputs + 1..).zip(g.node_locks()) {
         if byte == 1 {

@@ -1,9 +1,10 @@
-//! Many moves together. A node's move is looked up by binary search in the rising list, so that nothing is kept beside the tables:
-//! outputs are turned first and then nodes by falling index, each from words below it that are still as they were.
+//! Many moves together. A node's move is looked up by binary search in the rising list, so that nothing is kept beside the tables. Turned
+//! bits are gathered and stored a word at a time.
 
+use super::bits::{bit, bits_of, words_for, Gather};
 use super::calls::{is_node, Tables};
 use super::decide::flags;
-use super::{adds, check_limits, check_literals, check_locks, check_room, Number, View};
+use super::{check_limits, check_literals, check_locks, check_room, complemented, Number, View};
 use reducer::MARK;
 
 /// The moves that a kind has.
@@ -50,56 +51,60 @@ fn check(g: &View, list: &[u32], moves: &[u8]) -> Result<(), Number> {
     Ok(())
 }
 
-/// What the move of a node turns, where its kind is read from words that are not yet turned.
-fn turned(t: &Tables, list: &[u32], moves: &[u8], node: u32) -> [u32; 4] {
-    match list.binary_search(&node) {
-        Ok(at) => {
-            let third = 3 * (node - t.inputs) as usize - 1;
-            *flags(t.node_table[third] == MARK, moves[at].into())
+/// A list of moves, and what it takes to look one up.
+#[derive(Clone, Copy)]
+struct Moves<'a> {
+    inputs: u32,
+    node_table: &'a [u32],
+    list: &'a [u32],
+    moves: &'a [u8],
+}
+
+impl Moves<'_> {
+    /// What the move of a node turns.
+    fn turned(&self, node: u32) -> [u32; 4] {
+        match self.list.binary_search(&node) {
+            Ok(at) => {
+                let third = 3 * (node - self.inputs) as usize - 1;
+                *flags(self.node_table[third] == MARK, self.moves[at].into())
+            }
+            Err(_) => [0; 4],
         }
-        Err(_) => [0; 4],
+    }
+
+    /// Whether the readers of an index are turned.
+    fn read(&self, index: u32) -> u32 {
+        if index <= self.inputs || index == MARK {
+            return 0;
+        }
+        self.turned(index)[3]
     }
 }
 
-/// Whether the readers of what a literal names are turned.
-fn read(t: &Tables, list: &[u32], moves: &[u8], literal: u32) -> u32 {
-    let index = literal / 2;
-    if index <= t.inputs {
-        return 0;
+fn turn_nodes(moves: Moves, bits: &mut [u64]) {
+    let mut gathered = Gather::new(bits);
+    for (v, indices) in moves.node_table.chunks_exact(3).enumerate() {
+        let own = moves.turned(moves.inputs + 1 + v as u32);
+        let [x, y, z] = [0, 1, 2].map(|k| own[k] ^ moves.read(indices[k]));
+        gathered.three(bits_of(gathered.bits, v) ^ (x | y << 1 | z << 2));
     }
-    turned(t, list, moves, index)[3]
+    gathered.end();
 }
 
-/// What a literal adds less than it did.
-fn saved(old: u32, new: u32) -> i64 {
-    i64::from(adds(old)) - i64::from(adds(new))
-}
-
-fn turn_node(t: &mut Tables, list: &[u32], moves: &[u8], node: u32) -> i64 {
-    let at = 3 * (node - t.inputs - 1) as usize;
-    let own = turned(t, list, moves, node);
-    let words = if t.node_table[at + 2] == MARK { 2 } else { 3 };
-    let mut gain = 0;
-    for k in 0..words {
-        let old = t.node_table[at + k];
-        let new = old ^ own[k] ^ read(t, list, moves, old);
-        gain += saved(old, new);
-        t.node_table[at + k] = new;
+fn turn_outputs(moves: Moves, outs: &[u32], bits: &mut [u64]) {
+    let mut gathered = Gather::new(bits);
+    for (o, &index) in outs.iter().enumerate() {
+        gathered.one(bit(gathered.bits, o) ^ moves.read(index));
     }
-    gain
+    gathered.end();
 }
 
 pub fn many(t: &mut Tables, list: &[u32], moves: &[u8]) -> Result<i64, Number> {
     check(&t.view(), list, moves)?;
-    let mut gain = 0;
-    for o in 0..t.outputs as usize {
-        let old = t.output_table[o];
-        let new = old ^ read(t, list, moves, old);
-        gain += saved(old, new);
-        t.output_table[o] = new;
-    }
-    for node in (t.inputs + 1..=t.inputs + t.nodes).rev() {
-        gain += turn_node(t, list, moves, node);
-    }
-    Ok(gain)
+    let before = complemented(&t.view());
+    let (places, outputs) = (3 * t.nodes as usize, t.outputs as usize);
+    let moves = Moves { inputs: t.inputs, node_table: &t.node_table[..places], list, moves };
+    turn_nodes(moves, &mut t.node_bits[..words_for(places)]);
+    turn_outputs(moves, &t.output_table[..outputs], &mut t.output_bits[..words_for(outputs)]);
+    Ok(i64::from(before) - i64::from(complemented(&t.view())))
 }

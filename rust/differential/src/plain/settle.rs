@@ -1,20 +1,23 @@
-//! The tree call, and settling in linear time a round. Words stay where they are; a node's readers are turned by one pending bit, which a last
-//! sweep writes out. Readers, roots and trees are found once, since no move changes the wiring.
+//! Settling in linear time a round, and the state that it shares with the tree call. A node's three complement bits stand beside its pending turn, a bit that turns all its
+//! readers; both are filled once, and a last sweep writes words of bits whole. No table is written before. Readers, roots and trees are found
+//! once, since no move changes the wiring.
 
-use std::ops::Deref;
+use super::bits::{bit, bits_of, ones, words_for, Gather};
+use super::calls::{bit_costs, Tables};
+use super::decide::{best_pair, flags, least_of, Costs, Kind, Numbers};
+use super::{admit, Number};
+use reducer::{Settled, MARK};
 
-use super::calls::{is_node, readers_of, Tables};
-use super::decide::{best_pair, flags, least_of, parted, Costs, Kind, Numbers};
-use super::{admit, complemented, Number, View};
-use reducer::{Saving, Settled, MARK};
+/// The bit of a node's turns that is pending; its own three bits follow it.
+const PENDING: u32 = 1;
 
 #[derive(Clone, Copy, Default)]
 pub(super) struct Kept {
     pub(super) readers: u32,
     /// How many of them are complemented now.
     pub(super) odd: u32,
-    /// Whether all readers are turned relative to what the tables hold.
-    pending: u32,
+    /// Bit 0: whether all readers are turned relative to their own bits. Bits 1 to 3: the bits of the node's words.
+    turns: u32,
     /// The place of the only reading word, or the mark at a root.
     pub(super) place: u32,
     /// How much its cost, shown 0 and 1, exceeds the other: two bits.
@@ -25,12 +28,19 @@ pub(super) struct Kept {
     pub(super) lowest: u32,
 }
 
-/// Tables that are written, or only read, and what is kept of each node.
-pub(super) struct State<'a, Words, Outs> {
+impl Kept {
+    /// The bits of the node's words.
+    pub(super) fn own(&self) -> u32 {
+        self.turns >> 1
+    }
+}
+
+/// The wiring, and what is kept of each node.
+pub(super) struct State<'a> {
     inputs: u32,
-    /// Three words a node.
-    pub(super) words: Words,
-    pub(super) outs: Outs,
+    /// Three a node.
+    pub(super) indices: &'a [[u32; 3]],
+    pub(super) outs: &'a [u32],
     /// A byte a node.
     locks: &'a [u8],
     pub(super) kept: Vec<Kept>,
@@ -39,27 +49,34 @@ pub(super) struct State<'a, Words, Outs> {
     odd: [u64; 2],
 }
 
-type Settling<'a> = State<'a, &'a mut [[u32; 3]], &'a mut [u32]>;
-
-impl<'a, Words: Deref<Target = [[u32; 3]]>, Outs: Deref<Target = [u32]>> State<'a, Words, Outs> {
-    /// With everything found; count is C.
-    pub(super) fn new(inputs: u32, words: Words, outs: Outs, locks: &'a [u8], count: u32) -> Self {
-        let kept = vec![Kept::default(); words.len()];
-        let mut s = State { inputs, words, outs, locks, kept, count, odd: [0; 2] };
-        s.find_readers();
+impl<'a> State<'a> {
+    /// With everything found; the bits are those of the nodes' words and of the outputs, no more than needed.
+    pub(super) fn new(inputs: u32, table: &'a [u32], outs: &'a [u32], locks: &'a [u8], bits: [&[u64]; 2]) -> Self {
+        let (indices, _) = table.as_chunks();
+        // Put there by the sweep that counts readers, the bits made that sweep slower.
+        let of = |v: usize| Kept { turns: bits_of(bits[0], v) << 1, ..Kept::default() };
+        let kept = (0..indices.len()).map(of).collect();
+        let count = ones(bits[0]) + ones(bits[1]);
+        let mut s = State { inputs, indices, outs, locks, kept, count, odd: [0; 2] };
+        s.find_readers(bits[1]);
         s.find_trees();
         s
     }
 
-    /// Where the node that a word names is kept: beyond the end for the mark, the constant and the inputs.
-    pub(super) fn node_of(&self, word: u32) -> usize {
-        (word / 2).wrapping_sub(self.inputs + 1) as usize
+    /// Where the node of an index is kept: beyond the end for the mark, the constant and the inputs.
+    pub(super) fn node_of(&self, index: u32) -> usize {
+        index.wrapping_sub(self.inputs + 1) as usize
     }
 
-    fn find_readers(&mut self) {
-        for v in 0..self.words.len() {
-            for (k, word) in self.words[v].into_iter().enumerate() {
-                self.count_reader(word, (3 * v + k) as u32);
+    pub(super) fn index_of(&self, v: usize) -> u32 {
+        self.inputs + 1 + v as u32
+    }
+
+    fn find_readers(&mut self, out_bits: &[u64]) {
+        for v in 0..self.indices.len() {
+            let own = self.kept[v].own();
+            for (k, index) in self.indices[v].into_iter().enumerate() {
+                self.count_reader(index, own >> k & 1, (3 * v + k) as u32);
             }
         }
         for node in &mut self.kept {
@@ -68,16 +85,16 @@ impl<'a, Words: Deref<Target = [[u32; 3]]>, Outs: Deref<Target = [u32]>> State<'
             }
         }
         for o in 0..self.outs.len() {
-            self.count_reader(self.outs[o], MARK);
+            self.count_reader(self.outs[o], bit(out_bits, o), MARK);
         }
     }
 
-    /// One reader more, at this place, for the node that the word names, if it names one.
-    fn count_reader(&mut self, word: u32, place: u32) {
-        let v = self.node_of(word);
+    /// One reader more, at this place, for the node of an index, if it is one's.
+    fn count_reader(&mut self, index: u32, bit: u32, place: u32) {
+        let v = self.node_of(index);
         if let Some(node) = self.kept.get_mut(v) {
             node.readers += 1;
-            node.odd += word & 1;
+            node.odd += bit;
             node.place = place;
         }
     }
@@ -101,43 +118,44 @@ impl<'a, Words: Deref<Target = [[u32; 3]]>, Outs: Deref<Target = [u32]>> State<'
     }
 
     pub(super) fn is_xor(&self, v: usize) -> bool {
-        self.words[v][2] == MARK
+        self.indices[v][2] == MARK
     }
 
     pub(super) fn kind(&self, v: usize) -> Kind {
         Kind { xor: self.is_xor(v), locked: self.locks[v] == 1 }
     }
 
-    /// A word with what is pending.
-    fn now(&self, word: u32) -> u32 {
-        self.kept.get(self.node_of(word)).map_or(word, |node| word ^ node.pending)
+    /// The indices of a node's words, each with its own bit.
+    fn words(&self, v: usize) -> [(u32, u32); 3] {
+        let (indices, own) = (self.indices[v], self.kept[v].own());
+        [0, 1, 2].map(|k| (indices[k], own >> k & 1))
     }
 
     /// What a word costs as it stands and turned: nothing where it is the mark.
-    fn word_costs(&self, word: u32) -> [u32; 2] {
-        let counts = (word != MARK) as u32;
-        let bit = self.now(word) & 1;
-        [counts & bit, counts & (bit ^ 1)]
+    fn word_costs(&self, (index, bit): (u32, u32)) -> [u32; 2] {
+        let counts = (index != MARK) as u32;
+        let pending = self.kept.get(self.node_of(index)).map_or(0, |node| node.turns & PENDING);
+        bit_costs(bit ^ pending).map(|cost| counts & cost)
     }
 
-    fn own_numbers(&self, v: usize) -> Numbers {
+    pub(super) fn own_numbers(&self, v: usize) -> Numbers {
         let Kept { readers, odd, .. } = self.kept[v];
-        Numbers { kind: self.kind(v), costs: self.words[v].map(|word| self.word_costs(word)), readers, odd }
+        Numbers { kind: self.kind(v), costs: self.words(v).map(|word| self.word_costs(word)), readers, odd }
     }
 
     /// What a word costs as it stands and turned, with the best below it where it names a non-root.
-    fn edge_costs(&self, word: u32) -> [u32; 2] {
-        match self.kept.get(self.node_of(word)) {
+    fn edge_costs(&self, (index, bit): (u32, u32)) -> [u32; 2] {
+        match self.kept.get(self.node_of(index)) {
             Some(node) if node.place != MARK => {
-                let bit = (word ^ node.pending) & 1;
+                let bit = bit ^ (node.turns & PENDING);
                 [node.costs >> bit & 1, node.costs >> (1 - bit) & 1]
             }
-            _ => self.word_costs(word),
+            _ => self.word_costs((index, bit)),
         }
     }
 
     pub(super) fn tree_costs(&self, v: usize) -> Costs {
-        self.words[v].map(|word| self.edge_costs(word))
+        self.words(v).map(|word| self.edge_costs(word))
     }
 
     fn store_costs(&mut self, v: usize) {
@@ -155,22 +173,13 @@ impl<'a, Words: Deref<Target = [[u32; 3]]>, Outs: Deref<Target = [u32]>> State<'
             v = self.kept[v].above as usize;
         }
     }
-}
-
-impl<'a> Settling<'a> {
-    fn of(t: &'a mut Tables) -> Settling<'a> {
-        let count = complemented(&t.view());
-        let (words, _) = t.node_table[..3 * t.nodes as usize].as_chunks_mut();
-        let locks = &t.locks[..t.nodes as usize];
-        State::new(t.inputs, words, &mut t.output_table[..t.outputs as usize], locks, count)
-    }
 
     fn turn_word(&mut self, v: usize, k: usize) {
-        let word = self.words[v][k];
-        self.words[v][k] = word ^ 1;
-        let u = self.node_of(word);
+        let bit = self.kept[v].own() >> k & 1;
+        self.kept[v].turns ^= 2 << k;
+        let u = self.node_of(self.indices[v][k]);
         if let Some(node) = self.kept.get_mut(u) {
-            if (word ^ node.pending) & 1 == 1 {
+            if bit ^ (node.turns & PENDING) == 1 {
                 node.odd -= 1;
             } else {
                 node.odd += 1;
@@ -178,7 +187,7 @@ impl<'a> Settling<'a> {
         }
     }
 
-    fn make(&mut self, v: usize, number: u32) {
+    pub(super) fn make(&mut self, v: usize, number: u32) {
         let turned = flags(self.is_xor(v), number);
         for k in 0..3 {
             if turned[k] == 1 {
@@ -188,7 +197,7 @@ impl<'a> Settling<'a> {
         if turned[3] == 1 {
             let node = &mut self.kept[v];
             node.odd = node.readers - node.odd;
-            node.pending ^= 1;
+            node.turns ^= PENDING;
         }
     }
 
@@ -233,12 +242,12 @@ impl<'a> Settling<'a> {
     }
 
     fn pair_step(&mut self, v: usize, k: usize) {
-        let word = self.words[v][k];
-        let u = self.node_of(word);
+        let index = self.indices[v][k];
+        let u = self.node_of(index);
         if u >= self.kept.len() {
             return;
         }
-        let which = self.words[v].map(|other| other / 2 == word / 2);
+        let which = self.indices[v].map(|other| other == index);
         let best = best_pair(&self.own_numbers(u), &self.own_numbers(v), which);
         if best.saved != 0 {
             self.count -= best.saved;
@@ -265,30 +274,42 @@ impl<'a> Settling<'a> {
         }
     }
 
-    /// Whether a turn of a word's readers is pending, for a sweep: hardly one is, so it is read at some node before it is known whether the
-    /// word names one. There is a node.
-    fn is_due(&self, word: u32) -> bool {
-        let v = self.node_of(word);
+    /// Whether a turn of an index's readers is pending, for a sweep: it is read at some node before it is known whether the index is a
+    /// node's, and nothing is jumped on. There is a node.
+    fn due(&self, index: u32) -> u32 {
+        let v = self.node_of(index);
         let nearest = v.min(self.kept.len() - 1);
-        self.kept[nearest].pending != 0 && nearest == v
+        self.kept[nearest].turns & (nearest == v) as u32
     }
 
-    fn write_out(&mut self) {
+    /// The words of bits as they are to be; those of the outputs are as they were.
+    fn write_out(&self, node_bits: &mut [u64], output_bits: &mut [u64]) {
         if self.kept.is_empty() {
             return;
         }
-        for v in 0..self.words.len() {
-            for k in 0..3 {
-                if self.is_due(self.words[v][k]) {
-                    self.words[v][k] ^= 1;
-                }
+        let mut gathered = Gather::new(node_bits);
+        for (indices, node) in self.indices.iter().zip(&self.kept) {
+            let [x, y, z] = indices.map(|index| self.due(index));
+            gathered.three(node.own() ^ (x | y << 1 | z << 2));
+        }
+        gathered.end();
+        for (outs, word) in self.outs.chunks(64).zip(output_bits) {
+            for (o, &index) in outs.iter().enumerate() {
+                *word ^= u64::from(self.due(index)) << o;
             }
         }
-        for o in 0..self.outs.len() {
-            if self.is_due(self.outs[o]) {
-                self.outs[o] ^= 1;
-            }
-        }
+    }
+}
+
+impl<'a> Tables<'a> {
+    /// Its state, and the words of bits that it is written out to.
+    pub(super) fn state(&mut self) -> (State<'a>, &mut [u64], &mut [u64]) {
+        let (places, outputs, nodes) = (3 * self.nodes as usize, self.outputs as usize, self.nodes as usize);
+        let (table, outs) = (&self.node_table[..places], &self.output_table[..outputs]);
+        let node_bits = &mut self.node_bits[..words_for(places)];
+        let output_bits = &mut self.output_bits[..words_for(outputs)];
+        let state = State::new(self.inputs, table, outs, &self.locks[..nodes], [node_bits, output_bits]);
+        (state, node_bits, output_bits)
     }
 }
 
@@ -297,7 +318,7 @@ pub fn settle(t: &mut Tables, scratch: usize) -> Result<Settled, Number> {
     if scratch < 8 * t.nodes as usize {
         return Err(8);
     }
-    let mut s = Settling::of(t);
+    let (mut s, node_bits, output_bits) = t.state();
     let before = s.count;
     let mut rounds = 0;
     loop {
@@ -308,31 +329,8 @@ pub fn settle(t: &mut Tables, scratch: usize) -> Result<Settled, Number> {
             break;
         }
     }
+    s.write_out(node_bits, output_bits);
     let (after, odd) = (s.count, s.odd);
-    s.write_out();
     let others = odd[0] as i64 - odd[1] as i64;
     Ok(Settled { rounds, before, after, own: i64::from(before - after) - others, others })
-}
-
-/// A root is found by a scan, before scratch is looked at.
-pub(super) fn is_root(g: &View, root: u32) -> bool {
-    readers_of(g, root).0 != 1 || g.outs().iter().any(|&word| word / 2 == root)
-}
-
-pub fn tree_call(t: &mut Tables, root: u32, scratch: usize) -> Result<Saving, Number> {
-    let g = t.view();
-    admit(&g)?;
-    if !is_node(&g, root) || !is_root(&g, root) {
-        return Err(7);
-    }
-    if scratch < 8 * g.nodes as usize {
-        return Err(8);
-    }
-    let v = (root - g.inputs - 1) as usize;
-    let mut s = Settling::of(t);
-    let (before, odd) = (s.count, s.kept[v].odd);
-    s.make_tree(v);
-    let saving = parted(before - s.count, [odd, s.kept[v].odd]);
-    s.write_out();
-    Ok(saving)
 }

@@ -1,6 +1,7 @@
 //! The tree call by another programme: the costs of all nodes by one sweep, the moves of the tree by another, and one sweep that writes.
 
-use super::calls::{is_node, readers_of, word_costs, Tables};
+use super::bits::{bit, bits_of, words_for, Gather};
+use super::calls::{bit_costs, is_node, readers_of, Tables};
 use super::decide::{flags, least_of, parted, Costs, Kind};
 use super::{admit, complemented, Number, View};
 use reducer::{Saving, MARK};
@@ -18,22 +19,22 @@ struct Kept {
     chosen: bool,
 }
 
-/// Where the node that a word names is kept: beyond the end for the mark, the constant and the inputs.
-fn kept_at(inputs: u32, word: u32) -> usize {
-    (word / 2).wrapping_sub(inputs + 1) as usize
+/// Where the node of an index is kept: beyond the end for the mark, the constant and the inputs.
+fn kept_at(inputs: u32, index: u32) -> usize {
+    index.wrapping_sub(inputs + 1) as usize
 }
 
 fn find_places(g: &View) -> Vec<Kept> {
     let none = Kept { place: MARK, readers: 0, costs: [0; 2], turned: [0; 4], chosen: false };
     let mut kept = vec![none; g.nodes as usize];
-    for (place, &word) in g.words().iter().enumerate() {
-        if let Some(node) = kept.get_mut(kept_at(g.inputs, word)) {
+    for (place, &index) in g.indices().iter().enumerate() {
+        if let Some(node) = kept.get_mut(kept_at(g.inputs, index)) {
             node.place = place as u32;
             node.readers += 1;
         }
     }
-    for &word in g.outs() {
-        if let Some(node) = kept.get_mut(kept_at(g.inputs, word)) {
+    for &index in g.outs() {
+        if let Some(node) = kept.get_mut(kept_at(g.inputs, index)) {
             node.readers += 2;
         }
     }
@@ -46,20 +47,20 @@ fn find_places(g: &View) -> Vec<Kept> {
 }
 
 /// What a word costs as it stands and turned, with the best below it where it names a non-root.
-fn edge_costs(g: &View, kept: &[Kept], word: u32) -> [u32; 2] {
-    match kept.get(kept_at(g.inputs, word)) {
+fn edge_costs(g: &View, kept: &[Kept], index: u32, bit: u32) -> [u32; 2] {
+    match kept.get(kept_at(g.inputs, index)) {
         Some(node) if node.place != MARK => {
-            let bit = (word & 1) as usize;
+            let bit = bit as usize;
             [node.costs[bit].into(), node.costs[1 - bit].into()]
         }
-        _ if word == MARK => [0, 0],
-        _ => word_costs(word),
+        _ if index == MARK => [0, 0],
+        _ => bit_costs(bit),
     }
 }
 
 fn tree_costs(g: &View, kept: &[Kept], v: usize) -> Costs {
-    let words = &g.node_table[3 * v..3 * v + 3];
-    [0, 1, 2].map(|k| edge_costs(g, kept, words[k]))
+    let (indices, bits) = (&g.node_table[3 * v..3 * v + 3], bits_of(g.bits(), v));
+    [0, 1, 2].map(|k| edge_costs(g, kept, indices[k], bits >> k & 1))
 }
 
 fn kind(g: &View, v: usize) -> Kind {
@@ -80,7 +81,7 @@ fn shown(g: &View, kept: &[Kept], v: usize) -> Option<u32> {
     let place = kept[v].place as usize;
     // A third of the mark is beyond the end.
     let reader = kept.get(place / 3).filter(|reader| reader.chosen)?;
-    Some((g.node_table[place] & 1) ^ u32::from(reader.turned[place % 3]))
+    Some(bit(g.bits(), place) ^ u32::from(reader.turned[place % 3]))
 }
 
 /// The move of a node whose readers cost so much, left and turned.
@@ -105,15 +106,16 @@ fn choose(g: &View, kept: &mut [Kept], root: usize) -> [u32; 2] {
 
 fn turn_tree(t: &mut Tables, kept: &[Kept]) {
     let inputs = t.inputs;
-    let readers = |word: u32| kept.get(kept_at(inputs, word)).map_or(0, |node| u32::from(node.turned[3]));
-    for (words, own) in t.node_table.chunks_exact_mut(3).zip(kept) {
+    let readers = |index: u32| kept.get(kept_at(inputs, index)).map_or(0, |node| u32::from(node.turned[3]));
+    let mut gathered = Gather::new(&mut t.node_bits[..words_for(3 * t.nodes as usize)]);
+    for (v, (indices, own)) in t.node_table.chunks_exact(3).zip(kept).enumerate() {
         // The mark names no node, and no move of an XOR turns a third word.
-        for k in 0..3 {
-            words[k] ^= u32::from(own.turned[k]) ^ readers(words[k]);
-        }
+        let [x, y, z] = [0, 1, 2].map(|k| u32::from(own.turned[k]) ^ readers(indices[k]));
+        gathered.three(bits_of(gathered.bits, v) ^ (x | y << 1 | z << 2));
     }
-    for word in &mut t.output_table[..t.outputs as usize] {
-        *word ^= readers(*word);
+    gathered.end();
+    for (o, &index) in t.output_table[..t.outputs as usize].iter().enumerate() {
+        t.output_bits[o / 64] ^= u64::from(readers(index)) << (o % 64);
     }
 }
 

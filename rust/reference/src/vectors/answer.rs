@@ -1,8 +1,10 @@
 //! The line of a case, from this package's own answers.
 
-use crate::file::{field, field_number, load, write};
-use crate::graph::{admit, complemented_edges, Graph, Number};
-use crate::replay::{replay, Words};
+use crate::entries::{count, load, replay, write};
+use crate::file::{field, field_number};
+use crate::graph::Number;
+use crate::packed::{admit, Packed};
+use crate::replay::Words;
 use crate::vectors::case::*;
 
 /// What a slice holds before a call that is to change it.
@@ -35,6 +37,14 @@ impl Line {
         self.slice(words.len(), words.iter().copied());
     }
 
+    /// The upper half of each word first.
+    fn longs(&mut self, longs: &[u64]) {
+        let halves = longs
+            .iter()
+            .flat_map(|&word| [(word >> 32) as u32, word as u32]);
+        self.slice(longs.len(), halves);
+    }
+
     /// The number, 0 where accepted, and three values.
     fn answer(&mut self, result: Result<[u32; 3], Number>) {
         self.put(result.err().unwrap_or(0) as u64);
@@ -44,11 +54,7 @@ impl Line {
     }
 }
 
-fn loaded(file: &[u8], g: &mut Graph) -> Result<(u32, u32, u32), Number> {
-    load(file, &mut g.node_table, &mut g.output_table, &mut g.locks)
-}
-
-fn listed(line: &mut Line, case: &Case, g: &mut Graph) {
+fn listed(line: &mut Line, case: &Case, g: &mut Packed) {
     let mut answers = vec![i64::from(SCRATCH); case.result as usize];
     let words = Words {
         calls: &case.calls,
@@ -69,7 +75,7 @@ pub fn answer(case: &Case) -> String {
     let mut bytes = case.bytes.clone();
     match case.op {
         ADMIT => line.answer(admit(&g).map(|()| [0; 3])),
-        EDGES => line.answer(complemented_edges(&g).map(|c| [c, 0, 0])),
+        EDGES => line.answer(count(&g).map(|c| [c, 0, 0])),
         FIELD => {
             line.bytes(field(&bytes));
             match field_number(&bytes) {
@@ -78,7 +84,7 @@ pub fn answer(case: &Case) -> String {
             }
         }
         LOAD => {
-            let result = loaded(&bytes, &mut g);
+            let result = load(&bytes, &mut g);
             line.answer(result.map(|(inputs, nodes, outputs)| [inputs, nodes, outputs]));
         }
         WRITE => {
@@ -92,7 +98,9 @@ pub fn answer(case: &Case) -> String {
     };
     line.bytes(&bytes);
     line.words(&g.node_table);
+    line.longs(&g.node_bits);
     line.words(&g.output_table);
+    line.longs(&g.output_bits);
     line.bytes(&g.locks);
     line.0.push('\n');
     line.0

@@ -283,8 +283,36 @@ fn calls_on(random: &mut Random, g: &Graph, many: u32) -> Vec<u32> {
     calls
 }
 
+/// A list of twenty calls in one of these ways made one that is not replayed, or nearly so.
+fn spoil(case: &mut Case, way: usize) {
+    match way {
+        0 => case.calls.push(0),
+        1 => drop(case.calls.pop()),
+        2 => case.calls[57] = 5,
+        3 => case.calls[0] = MARK,
+        4 => case.result = 59,
+        5 => case.result = 0,
+        6 => drop(case.bytes.pop()),
+        7 => case.bytes.push(0),
+        8 => case.bytes.clear(),
+        9 => case.bytes[0] = 2,
+        10 => case.g.node_table.truncate(89),
+        11 => case.g.output_table.clear(),
+        12 => case.calls.clear(),
+        13 => case.g.locks.truncate(29),
+        // A lock at a node that is none, before the end.
+        14 => {
+            let end = case.bytes.len() - 3;
+            case.bytes.splice(end..end, [6, 0, 4, 0, 0, 0, 40]);
+        }
+        15 => drop(case.g.node_bits.pop()),
+        16 => case.g.output_bits.clear(),
+        _ => case.scratch = 0,
+    }
+}
+
 /// Lists of calls on one graph, each by one replay of its file; and replays that are not made, for their words, the room for
-/// answers, the file, the tables, the locks.
+/// answers, the file, the tables, their bits, the locks.
 pub fn list_cases(random: &mut Random) -> Vec<Case> {
     let mut graphs = random_graphs(random, 42, 9);
     for shape in SHAPES {
@@ -299,30 +327,9 @@ pub fn list_cases(random: &mut Random) -> Vec<Case> {
             list_of(g, calls, scratch, 60 + random.below(3))
         })
         .collect();
-    for way in 0..16 {
+    for way in 0..18 {
         let mut case = all[45 + way % 5].clone();
-        match way {
-            0 => case.calls.push(0),
-            1 => drop(case.calls.pop()),
-            2 => case.calls[57] = 5,
-            3 => case.calls[0] = MARK,
-            4 => case.result = 59,
-            5 => case.result = 0,
-            6 => drop(case.bytes.pop()),
-            7 => case.bytes.push(0),
-            8 => case.bytes.clear(),
-            9 => case.bytes[0] = 2,
-            10 => case.g.node_table.truncate(89),
-            11 => case.g.output_table.clear(),
-            12 => case.calls.clear(),
-            13 => case.g.locks.truncate(29),
-            // A lock at a node that is none, before the end.
-            14 => {
-                let end = case.bytes.len() - 3;
-                case.bytes.splice(end..end, [6, 0, 4, 0, 0, 0, 40]);
-            }
-            _ => case.scratch = 0,
-        }
+        spoil(&mut case, way);
         all.push(case);
     }
     all

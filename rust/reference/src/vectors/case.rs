@@ -1,8 +1,10 @@
 //! One case, and how it stands in the stream.
 
 use crate::file::file_of;
-use crate::graph::{admit, Graph};
-use crate::vectors::samples::of;
+use crate::generate::with_slack;
+use crate::graph::{check_limits, Graph};
+use crate::packed::{admit, check_lengths, pack, unpack, Lengths, Packed};
+use crate::random::Random;
 
 /// Ops that the program has.
 pub const ADMIT: u32 = 1;
@@ -22,7 +24,8 @@ pub const MANY: u32 = 12;
 #[derive(Clone)]
 pub struct Case {
     pub op: u32,
-    pub g: Graph,
+    /// The graph as it is lent, or the slices that one is loaded into.
+    pub g: Packed,
     pub x: u32,
     pub y: u32,
     pub scratch: u32,
@@ -38,9 +41,13 @@ pub struct Case {
 
 impl Case {
     pub fn new(op: u32, g: &Graph) -> Case {
+        Case::lent(op, pack(g))
+    }
+
+    pub fn lent(op: u32, g: Packed) -> Case {
         Case {
             op,
-            g: g.clone(),
+            g,
             x: 0,
             y: 0,
             scratch: 0,
@@ -65,6 +72,18 @@ impl Case {
         }
     }
 
+    /// The same with some words and bytes behind the graph in its slices, where these are long enough for it.
+    pub fn lengthened(mut self, random: &mut Random) -> Case {
+        let Packed { nodes, outputs, .. } = self.g;
+        let takes_graph = ![FIELD, LOAD, CALLS].contains(&self.op);
+        let within = check_limits(self.g.inputs, nodes, outputs)
+            .and_then(|()| check_lengths(nodes, outputs, self.g.lengths()));
+        if takes_graph && within.is_ok() && random.one_in(2) {
+            self.g = with_slack(random, self.g, 3);
+        }
+        self
+    }
+
     /// The case as a list of one call on the file of its graph, where it has one. A file of thousands of outputs is left to loading.
     pub fn as_list(&self) -> Option<Case> {
         let calls = self.call()?.to_vec();
@@ -73,7 +92,7 @@ impl Case {
         small.then(|| Case {
             list: self.list.clone(),
             moves: self.moves.clone(),
-            ..list_of(&self.g, calls, self.scratch, 3)
+            ..list_of(&unpack(&self.g), calls, self.scratch, 3)
         })
     }
 
@@ -81,14 +100,16 @@ impl Case {
     pub fn encoded(&self) -> Vec<u8> {
         let at = |op, length: u32| if self.op == op { length } else { 0 };
         let bytes = self.bytes.len() as u32;
-        let (nodes, outputs) = (&self.g.node_table, &self.g.output_table);
+        let lent = self.g.lengths();
         let lengths = [
             bytes + at(WRITE, self.result),
-            nodes.len() as u32,
-            outputs.len() as u32,
-            self.g.locks.len() as u32,
+            lent.node_words as u32,
+            lent.node_bits as u32,
+            lent.output_words as u32,
+            lent.output_bits as u32,
+            lent.lock_bytes as u32,
         ];
-        let space = [65_536, 4_096, 4_352, 2_048];
+        let space = [65_536, 4_096, 72, 4_352, 72, 2_048];
         assert!(lengths
             .iter()
             .zip(space)
@@ -98,48 +119,66 @@ impl Case {
         put_words(&mut all, &lengths);
         put_words(&mut all, &[bytes]);
         all.extend(&self.bytes);
-        put_table(&mut all, nodes);
-        put_table(&mut all, outputs);
+        put_table(&mut all, &self.g.node_table);
+        put_bits(&mut all, &self.g.node_bits);
+        put_table(&mut all, &self.g.output_table);
+        put_bits(&mut all, &self.g.output_bits);
         put_locks(&mut all, &self.g.locks);
         put_words(&mut all, &[self.op]);
         match self.op {
             ADMIT | EDGES | WRITE => {
                 put_words(&mut all, &[self.g.inputs, self.g.nodes, self.g.outputs])
             }
-            CALLS => {
-                let lent = [self.calls.len(), self.list.len(), self.moves.len()];
-                assert!(lent.iter().all(|&length| length <= 128));
-                assert!(self.scratch <= 4_096 && self.result <= 128);
-                put_table(&mut all, &self.calls);
-                put_table(&mut all, &self.list);
-                put_words(&mut all, &[lent[2] as u32]);
-                all.extend(&self.moves);
-                put_words(&mut all, &lent.map(|length| length as u32));
-                put_words(&mut all, &[self.scratch, self.result]);
-            }
+            CALLS => self.put_calls(&mut all),
             _ => {}
         }
         all
     }
+
+    /// What a list of calls reads by itself.
+    fn put_calls(&self, all: &mut Vec<u8>) {
+        let lent = [self.calls.len(), self.list.len(), self.moves.len()];
+        assert!(lent.iter().all(|&length| length <= 128));
+        assert!(self.scratch <= 4_096 && self.result <= 128);
+        put_table(all, &self.calls);
+        put_table(all, &self.list);
+        put_words(all, &[lent[2] as u32]);
+        all.extend(&self.moves);
+        put_words(all, &lent.map(|length| length as u32));
+        put_words(all, &[self.scratch, self.result]);
+    }
 }
 
-/// A list of calls on the file of a graph, loaded into tables and locks as long as the graph's, with so many words for the answers.
+/// Slices of these lengths that a graph is to be loaded into: every bit is set.
+pub fn unfilled(lengths: Lengths) -> Packed {
+    Packed {
+        inputs: 0,
+        nodes: 0,
+        outputs: 0,
+        node_table: (1_000..).take(lengths.node_words).collect(),
+        node_bits: vec![u64::MAX; lengths.node_bits],
+        output_table: (2_000..).take(lengths.output_words).collect(),
+        output_bits: vec![u64::MAX; lengths.output_bits],
+        locks: (0..lengths.lock_bytes)
+            .map(|byte| 100 + byte as u8 % 100)
+            .collect(),
+    }
+}
+
+/// A list of calls on the file of a graph, loaded into slices as long as the graph's, with so many words for the answers.
 pub fn list_of(g: &Graph, calls: Vec<u32>, scratch: u32, result: u32) -> Case {
-    let mut tables = of(0, &[], &[]);
-    tables.node_table = vec![1_000; g.node_table.len()];
-    tables.output_table = vec![2_000; g.output_table.len()];
-    tables.locks = vec![9; g.locks.len()];
+    let lengths = Lengths::of(g.nodes as usize, g.outputs as usize);
     Case {
         bytes: file_of(g),
         calls,
         scratch,
         result,
-        ..Case::new(CALLS, &tables)
+        ..Case::lent(CALLS, unfilled(lengths))
     }
 }
 
 /// Up to the last that is not zero: what is not given reads as zero.
-fn given<T: Copy + Into<u32>>(slice: &[T]) -> &[T] {
+fn given<T: Copy + Into<u64>>(slice: &[T]) -> &[T] {
     let last = slice.iter().rposition(|&element| element.into() != 0);
     &slice[..last.map_or(0, |last| last + 1)]
 }
@@ -149,6 +188,13 @@ fn put_table(all: &mut Vec<u8>, table: &[u32]) {
     let given = given(table);
     put_words(all, &[given.len() as u32]);
     put_words(all, given);
+}
+
+/// How many words of bits are given, and these, the upper half of each first.
+fn put_bits(all: &mut Vec<u8>, bits: &[u64]) {
+    let given = given(bits);
+    put_words(all, &[given.len() as u32]);
+    given.iter().for_each(|word| all.extend(word.to_be_bytes()));
 }
 
 /// How many bytes are given, and these.

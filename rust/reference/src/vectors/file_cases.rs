@@ -2,7 +2,8 @@
 
 use crate::file::file_of;
 use crate::generate::{graph, locked_one_in, SHAPES};
-use crate::graph::{Graph, Room, MARK};
+use crate::graph::{Graph, MARK};
+use crate::packed::{words_for, Lengths};
 use crate::random::Random;
 use crate::vectors::case::*;
 use crate::vectors::samples::*;
@@ -65,25 +66,24 @@ pub fn field_cases(random: &mut Random) -> Vec<Case> {
         .collect()
 }
 
-fn load_into(file: &[u8], room: Room) -> Case {
-    let mut tables = no_graph();
-    tables.node_table = (1_000..).take(room.node_words).collect();
-    tables.output_table = (2_000..).take(room.output_words).collect();
-    tables.locks = (100..).take(room.lock_bytes).collect();
+/// Over bits that are all set.
+pub fn load_into(file: &[u8], lengths: Lengths) -> Case {
     Case {
         bytes: file.to_vec(),
-        ..Case::new(LOAD, &tables)
+        ..Case::lent(LOAD, unfilled(lengths))
     }
 }
 
-/// With a lock byte for each node that the table has begun to have room for.
+/// With a bit for each word, and a lock byte for each node that the table has begun to have room for.
 fn load_case(file: &[u8], node_words: usize, output_words: usize) -> Case {
-    let room = Room {
+    let lengths = Lengths {
         node_words,
+        node_bits: words_for(node_words),
         output_words,
+        output_bits: words_for(output_words),
         lock_bytes: node_words.div_ceil(3),
     };
-    load_into(file, room)
+    load_into(file, lengths)
 }
 
 fn lock_field(index: u32) -> Vec<u8> {
@@ -100,11 +100,11 @@ fn p2_with(between: &[u8]) -> Vec<u8> {
 /// Locks that a file says in order, and in no order; fields 06 where none may be, of other lengths and cut; and too few lock bytes.
 fn locked_load_cases() -> Vec<Case> {
     let load = |file: &[u8], lock_bytes| {
-        let room = Room {
+        let lengths = Lengths {
             lock_bytes,
-            ..Room::of(2, 1)
+            ..Lengths::of(2, 1)
         };
-        load_into(file, room)
+        load_into(file, lengths)
     };
     let mut all = Vec::new();
     for named in [
@@ -179,9 +179,8 @@ pub fn load_cases(random: &mut Random) -> Vec<Case> {
         }
     }
     let wide: Vec<u32> = (0..4_096).map(|output| 2 * output + 3).collect();
-    let mut case = load_case(&file_of(&of(4_096, &[], &wide)), 0, 0);
+    let mut case = load_case(&file_of(&of(4_096, &[], &wide)), 0, 4_097);
     case.bytes[15 + 7 * 4_095 + 6] ^= 3;
-    case.g.output_table = vec![0; 4_097];
     all.push(case.clone());
     case.g.output_table.truncate(4_095);
     case.bytes.truncate(50);
@@ -237,10 +236,7 @@ pub fn load_cases(random: &mut Random) -> Vec<Case> {
     for shape in SHAPES {
         let g = graph(random, shape, 30, 60, 20);
         let g = locked_one_in(random, g, 4);
-        let mut case = load_case(&file_of(&g), 0, 0);
-        case.g.node_table = vec![0; 183];
-        case.g.output_table = vec![0; 30];
-        case.g.locks = vec![0; 61];
+        let mut case = load_case(&file_of(&g), 183, 30);
         all.push(case.clone());
         case.bytes = damaged_file(random, case.bytes);
         all.push(case);

@@ -3,20 +3,22 @@
 //! How a case stands in the stream is said in crates/vectors/src/main.rt.
 //!
 //! A line has the answer's number (0 where it is accepted), three values of the answer, 0 where it has none, and then slices, each
-//! by its length and a checksum: the bytes, both tables and the locks. The field op shows the payload before all this, and writing the length
-//! after the values. A list of calls shows how many words of answers it has there. A list that is not replayed has the number 1, and shows
-//! scratch before that.
+//! by its length and a checksum: the bytes, both tables, each with its words of bits, and the locks. The field op shows the payload
+//! before all this, and writing the length after the values. A list of calls shows how many words of answers it has there. A list
+//! that is not replayed has the number 1, and shows scratch before that.
 //!
 //! The program makes a node, pair, tree, settling or many call as a list of one; on graphs that no file has, with scratch looked at after a
 //! refusal, and evaluation, the same cases are run through the C interface, by rust/differential.
 
 use crate::random::Random;
+use bit_cases::*;
 use call_cases::*;
 use case::Case;
 use file_cases::*;
 use many_cases::*;
 
 pub mod answer;
+pub mod bit_cases;
 pub mod call_cases;
 pub mod case;
 pub mod file_cases;
@@ -41,7 +43,14 @@ pub fn cases(seed: u64) -> (Vec<Case>, Vec<Case>) {
     stored.extend(many.iter().filter_map(Case::as_list));
     stored.extend(many_list_cases(&mut random));
     direct.extend(many);
-    (stored, direct)
+    let packed = packed_cases();
+    stored.extend(packed.0);
+    direct.extend(packed.1);
+    let mut lengthen = |cases: Vec<Case>| -> Vec<Case> {
+        let all = cases.into_iter();
+        all.map(|case| case.lengthened(&mut random)).collect()
+    };
+    (lengthen(stored), lengthen(direct))
 }
 
 /// The seed of the stored cases.

@@ -1,6 +1,6 @@
 //! Graphs that the cases share.
 
-use crate::generate::{small, with_locks, with_tails};
+use crate::generate::{small, with_locks};
 use crate::graph::{Graph, MARK};
 use crate::random::Random;
 
@@ -147,11 +147,6 @@ pub fn at_the_edges() -> Vec<Graph> {
     let mut short = bad.clone();
     short.output_table.clear();
     all.push(short);
-    // The tails are no part of the graph.
-    let mut longer = of(3, &[[3, 5, 7]], &[9]);
-    longer.node_table.extend([MARK, MARK, 99, 12]);
-    longer.output_table.extend([MARK, 10]);
-    all.push(longer);
     all
 }
 
@@ -183,8 +178,7 @@ pub fn random_graphs(random: &mut Random, many: u32, most_nodes: u32) -> Vec<Gra
     (0..many)
         .map(|_| {
             let g = small(random, 9, most_nodes, 6);
-            let g = with_locks(random, g);
-            with_tails(random, g, 4)
+            with_locks(random, g)
         })
         .collect()
 }

@@ -1,0 +1,72 @@
+//! The same calls in plain Rust.
+
+use reference::packed::Packed;
+
+use super::samples::{as_one, part, Lent};
+use crate::plain::{aiger, calls, complemented_edges, evaluate, file, many, preview, settle, sweeps, tree};
+use crate::tables::{filled, tables, view};
+
+type Sample = super::samples::Sample<Packed>;
+
+pub fn load(s: &mut Sample, _: &mut Lent) -> u64 {
+    file::load(&s.file, filled(&mut s.g)).unwrap().1.into()
+}
+
+pub fn write(s: &mut Sample, l: &mut Lent) -> u64 {
+    file::write(&view(&s.g), &mut l.buffer).unwrap() as u64
+}
+
+pub fn import(s: &mut Sample, _: &mut Lent) -> u64 {
+    aiger::import(s.text.as_bytes(), filled(&mut s.g)).unwrap().1.into()
+}
+
+pub fn export(s: &mut Sample, l: &mut Lent) -> u64 {
+    aiger::export(&view(&s.g), &mut l.scratch, &mut l.buffer).unwrap() as u64
+}
+
+pub fn evaluate(s: &mut Sample, l: &mut Lent) -> u64 {
+    evaluate::evaluate(&view(&s.g), &l.words, &mut l.long_scratch, &mut l.results).unwrap();
+    l.results[0]
+}
+
+pub fn count(s: &mut Sample, _: &mut Lent) -> u64 {
+    complemented_edges(&view(&s.g)).unwrap().into()
+}
+
+pub fn node(s: &mut Sample, _: &mut Lent) -> u64 {
+    let mut t = tables(&mut s.g);
+    s.nodes.iter().map(|&v| as_one(calls::node_call(&mut t, v).unwrap())).sum()
+}
+
+pub fn pair(s: &mut Sample, _: &mut Lent) -> u64 {
+    let mut t = tables(&mut s.g);
+    s.nodes.iter().map(|&v| as_one(calls::pair_call(&mut t, v, 1).unwrap())).sum()
+}
+
+pub fn tree(s: &mut Sample, l: &mut Lent) -> u64 {
+    let mut t = tables(&mut s.g);
+    s.roots.iter().map(|&v| as_one(tree::tree_call(&mut t, v, l.scratch.len()).unwrap())).sum()
+}
+
+pub fn tree_by_sweeps(s: &mut Sample, l: &mut Lent) -> u64 {
+    let mut t = tables(&mut s.g);
+    s.roots.iter().map(|&v| as_one(sweeps::tree_call(&mut t, v, l.scratch.len()).unwrap())).sum()
+}
+
+pub fn preview(s: &mut Sample, l: &mut Lent) -> u64 {
+    let g = view(&s.g);
+    s.roots.iter().map(|&v| as_one(preview::preview(&g, v, &mut l.moves, l.scratch.len()).unwrap())).sum()
+}
+
+pub fn many(s: &mut Sample, _: &mut Lent) -> u64 {
+    part(many::many(&mut tables(&mut s.g), &s.all.0, &s.all.1).unwrap())
+}
+
+pub fn many_of_a_tenth(s: &mut Sample, _: &mut Lent) -> u64 {
+    part(many::many(&mut tables(&mut s.g), &s.tenth.0, &s.tenth.1).unwrap())
+}
+
+pub fn settle(s: &mut Sample, l: &mut Lent) -> u64 {
+    let settled = settle::settle(&mut tables(&mut s.g), l.scratch.len());
+    l.settled(settled.unwrap())
+}
