@@ -6,26 +6,54 @@ use Prim.Native.Nat.{ℕ, zero, suc}
 use native.Mathlib.Omega.{arith}
 use lib.IntN.{ℤ}
 use lib.ListN.{length, getD, take, drop}
-use Rattle.graph.specs.Graph.{graphOf}
-use Rattle.graph.specs.Answer.{Answer, accepted, unless, ScratchKept}
+use Rattle.graph.specs.Graph.{Graph, graphOf}
+use Rattle.graph.specs.Answer.{Answer, Outcome, LockedOutcome, outcome, lockedOutcome, accepted, unless, ScratchKept}
+use Rattle.tagged_file.specs.Write.{WriteOutcome, writeOutcome}
 use Rattle.graph.proofs.Tests.{equal}
 use Rattle.graph.proofs.Answers.{accepted-is}
 use Rattle.file_checks.specs.File.{be2, fieldNumber, fieldPayload}
 use Rattle.tagged_file.specs.declared.Loaded.{Loaded}
 use Rattle.tagged_file.specs.declared.Loaded.the-variants as loaded
 use Rattle.tagged_file.specs.Load.{loadedGraph}
-use Rattle.answers.specs.Told.{told}
-use Rattle.answers.proofs.Same.{same-told}
+use Rattle.answers.specs.Told.{told, toldOne, toldSigned}
+use Rattle.answers.proofs.Same.{same-told, same-one, same-signed}
 use Rattle.promises.specs.Demand.{Call, Locked, withLocks}
 use Rattle.replay.specs.declared.Replayed.{Replayed}
 use Rattle.replay.specs.declared.Replayed.the-variants as replayed
 use Rattle.replay.specs.declared.CallsFault.the-variants.{LeftOver, UnknownKind, PartOutside}
 use Rattle.replay.specs.Replay.{replayedAnswer, replayedGraph, DemandMet}
 use Rattle.graph.proofs.Answers.{number-some}
+use Rattle.reducer.specs.Interface.{SavingLeft, TextLeft, GraphLeft}
 
 -- equal answers keep the same scratch
 pub same-kept : {a b : Answer} (before after : List ℕ) → a ≡ b → ScratchKept a before after → ScratchKept b before after
 same-kept before after e k n = k (λ z. n (ap (λ (a : Answer). a .number) (sym e) ∙ z))
+
+-- an answer without values has the number that it is given
+pub number-is : (n : ℕ) → unless n (accepted []) .number ≡ n
+unfolding unless
+number-is zero = refl
+number-is (suc n) = refl
+
+-- what is left and told of an outcome o, from what a call answers and leaves, which is o
+module _ (r : ℕ) (a : Answer) (number : r ≡ a .number) where
+  pub saving-left : (o : Outcome) (k : Graph) (before after : List ℤ) → after ≡ toldSigned a before → outcome a k ≡ o → SavingLeft o r k before after
+  saving-left o k before after t e =
+      record { number = number ∙ ap (λ (x : Outcome). x .answer .number) e; graph = ap (λ (x : Outcome). x .graph) e; saving = t ∙ same-signed (ap (λ (x : Outcome). x .answer) e) refl }
+
+  pub text-left : (o : WriteOutcome) (buffer : List ℕ) (before after : ℕ) → after ≡ toldOne a before → writeOutcome a buffer ≡ o → TextLeft o r buffer before after
+  text-left o buffer before after t e =
+      record { number = number ∙ ap (λ (x : WriteOutcome). x .answer .number) e; bytes = ap (λ (x : WriteOutcome). x .buffer) e; size = t ∙ same-one _ (ap (λ (x : WriteOutcome). x .answer) e) }
+
+  pub graph-left : (o : LockedOutcome) (g : Graph) (ns os ls before after : List ℕ) → after ≡ told a before → ns ≡ g .nodes → os ≡ g .outputs → lockedOutcome a g ls ≡ o → GraphLeft o r ns os ls before after
+  graph-left o g ns os ls before after t p q e =
+      record {
+        number = number ∙ ap (λ (x : LockedOutcome). x .answer .number) e;
+        nodes = p ∙ ap (λ (x : LockedOutcome). x .graph .nodes) e;
+        outputs = q ∙ ap (λ (x : LockedOutcome). x .graph .outputs) e;
+        locks = ap (λ (x : LockedOutcome). x .locks) e;
+        numbers = t ∙ same-told _ (ap (λ (x : LockedOutcome). x .answer) e);
+      }
 
 -- the tables that an answered load leaves are those of its graph
 pub loaded-nodes : (r : Loaded) (ns os : List ℕ) → ns ≡ loadedGraph r ns os .nodes

@@ -22,13 +22,12 @@ ghost use Rattle.rounds.specs.Settle.{settleCall};
 ghost use Rattle.answers.specs.Told.{told, toldOne, toldSigned, toldGain};
 ghost use Rattle.promises.specs.Demand.{withLocks, left};
 ghost use Rattle.replay.specs.Replay.{lent, decode, replayCall, answersAfter, DemandMet};
-ghost use Rattle.reducer.specs.Interface.{fieldAnswer};
+ghost use Rattle.reducer.specs.Interface.{fieldAnswer, SavingLeft, GraphLeft, TextLeft};
 
 // Where the payload of the field at the front starts, and its length.
 #[no_mangle]
 pub extern "C" fn reducer_field(bytes: &[u8], payload: &mut [usize; 2]) -> u32
-    ensures answer { λ r. ⌜ r ≡ fieldNumber (now (bytes .entry)) ⌝ }
-    ensures payload { λ r. ⌜ now (payload .exit) ≡ told (fieldAnswer (now (bytes .entry))) (now (payload .entry)) ⌝ }
+    ensures answer { λ r. ⌜ (r ≡ fieldNumber (now (bytes .entry))) × (now (payload .exit) ≡ told (fieldAnswer (now (bytes .entry))) (now (payload .entry))) ⌝ }
     ensures stretch { λ r. ⌜ (r ≡ 0 → take (getD (now (payload .exit)) 1 0) (drop (getD (now (payload .exit)) 0 0) (now (bytes .entry))) ≡ fieldPayload (now (bytes .entry))) ⌝ }
 {
     let number = tagged_file::field_number(bytes);
@@ -47,26 +46,13 @@ pub extern "C" fn reducer_load(
     locks: &mut [u8],
     numbers: &mut [u32; 3],
 ) -> u32
-    ensures answer { λ r.
+    ensures { λ r.
         let ns = literals (now («node_table» .entry)) (now («node_bits» .entry)) in
         let os = literals (now («output_table» .entry)) (now («output_bits» .entry)) in
-        ⌜ r ≡ loadCall (now (file .entry)) ns os (now (locks .entry)) .answer .number ⌝ }
-    ensures nodes { λ r.
-        let ns = literals (now («node_table» .entry)) (now («node_bits» .entry)) in
-        let os = literals (now («output_table» .entry)) (now («output_bits» .entry)) in
-        ⌜ literals (now («node_table» .exit)) (now («node_bits» .exit)) ≡ loadCall (now (file .entry)) ns os (now (locks .entry)) .graph .nodes ⌝ }
-    ensures outputs { λ r.
-        let ns = literals (now («node_table» .entry)) (now («node_bits» .entry)) in
-        let os = literals (now («output_table» .entry)) (now («output_bits» .entry)) in
-        ⌜ literals (now («output_table» .exit)) (now («output_bits» .exit)) ≡ loadCall (now (file .entry)) ns os (now (locks .entry)) .graph .outputs ⌝ }
-    ensures locks { λ r.
-        let ns = literals (now («node_table» .entry)) (now («node_bits» .entry)) in
-        let os = literals (now («output_table» .entry)) (now («output_bits» .entry)) in
-        ⌜ now (locks .exit) ≡ loadCall (now (file .entry)) ns os (now (locks .entry)) .locks ⌝ }
-    ensures numbers { λ r.
-        let ns = literals (now («node_table» .entry)) (now («node_bits» .entry)) in
-        let os = literals (now («output_table» .entry)) (now («output_bits» .entry)) in
-        ⌜ now (numbers .exit) ≡ told (loadCall (now (file .entry)) ns os (now (locks .entry)) .answer) (now (numbers .entry)) ⌝ }
+        let ms = literals (now («node_table» .exit)) (now («node_bits» .exit)) in
+        let ps = literals (now («output_table» .exit)) (now («output_bits» .exit)) in
+        let o = loadCall (now (file .entry)) ns os (now (locks .entry)) in
+        ⌜ GraphLeft o r ms ps (now (locks .exit)) (now (numbers .entry)) (now (numbers .exit)) ⌝ }
 {
     let answer = tagged_file::load(
         file,
@@ -91,26 +77,13 @@ pub extern "C" fn reducer_import(
     locks: &mut [u8],
     numbers: &mut [u32; 3],
 ) -> u32
-    ensures answer { λ r.
+    ensures { λ r.
         let ns = literals (now («node_table» .entry)) (now («node_bits» .entry)) in
         let os = literals (now («output_table» .entry)) (now («output_bits» .entry)) in
-        ⌜ r ≡ importCall (now (text .entry)) ns os (now (locks .entry)) .answer .number ⌝ }
-    ensures nodes { λ r.
-        let ns = literals (now («node_table» .entry)) (now («node_bits» .entry)) in
-        let os = literals (now («output_table» .entry)) (now («output_bits» .entry)) in
-        ⌜ literals (now («node_table» .exit)) (now («node_bits» .exit)) ≡ importCall (now (text .entry)) ns os (now (locks .entry)) .graph .nodes ⌝ }
-    ensures outputs { λ r.
-        let ns = literals (now («node_table» .entry)) (now («node_bits» .entry)) in
-        let os = literals (now («output_table» .entry)) (now («output_bits» .entry)) in
-        ⌜ literals (now («output_table» .exit)) (now («output_bits» .exit)) ≡ importCall (now (text .entry)) ns os (now (locks .entry)) .graph .outputs ⌝ }
-    ensures locks { λ r.
-        let ns = literals (now («node_table» .entry)) (now («node_bits» .entry)) in
-        let os = literals (now («output_table» .entry)) (now («output_bits» .entry)) in
-        ⌜ now (locks .exit) ≡ importCall (now (text .entry)) ns os (now (locks .entry)) .locks ⌝ }
-    ensures numbers { λ r.
-        let ns = literals (now («node_table» .entry)) (now («node_bits» .entry)) in
-        let os = literals (now («output_table» .entry)) (now («output_bits» .entry)) in
-        ⌜ now (numbers .exit) ≡ told (importCall (now (text .entry)) ns os (now (locks .entry)) .answer) (now (numbers .entry)) ⌝ }
+        let ms = literals (now («node_table» .exit)) (now («node_bits» .exit)) in
+        let ps = literals (now («output_table» .exit)) (now («output_bits» .exit)) in
+        let o = importCall (now (text .entry)) ns os (now (locks .entry)) in
+        ⌜ GraphLeft o r ms ps (now (locks .exit)) (now (numbers .entry)) (now (numbers .exit)) ⌝ }
 {
     let answer = aiger_import::import(
         text,
@@ -138,15 +111,10 @@ pub extern "C" fn reducer_write(
     buffer: &mut [u8],
     length: &mut usize,
 ) -> u32
-    ensures answer { λ r.
+    ensures { λ r.
         let g = graphIn inputs nodes outputs (now («node_table» .entry)) (now («node_bits» .entry)) (now («output_table» .entry)) (now («output_bits» .entry)) in
-        ⌜ r ≡ writeCall g (now (locks .entry)) (now (buffer .entry)) .answer .number ⌝ }
-    ensures buffer { λ r.
-        let g = graphIn inputs nodes outputs (now («node_table» .entry)) (now («node_bits» .entry)) (now («output_table» .entry)) (now («output_bits» .entry)) in
-        ⌜ now (buffer .exit) ≡ writeCall g (now (locks .entry)) (now (buffer .entry)) .buffer ⌝ }
-    ensures size { λ r.
-        let g = graphIn inputs nodes outputs (now («node_table» .entry)) (now («node_bits» .entry)) (now («output_table» .entry)) (now («output_bits» .entry)) in
-        ⌜ now (length .exit) ≡ toldOne (writeCall g (now (locks .entry)) (now (buffer .entry)) .answer) (now (length .entry)) ⌝ }
+        let o = writeCall g (now (locks .entry)) (now (buffer .entry)) in
+        ⌜ TextLeft o r (now (buffer .exit)) (now (length .entry)) (now (length .exit)) ⌝ }
 {
     let answer = tagged_file::write(
         inputs,
@@ -178,18 +146,14 @@ pub extern "C" fn reducer_export(
     buffer: &mut [u8],
     length: &mut usize,
 ) -> u32
-    ensures answer { λ r.
+    ensures text { λ r.
         let g = graphIn inputs nodes outputs (now («node_table» .entry)) (now («node_bits» .entry)) (now («output_table» .entry)) (now («output_bits» .entry)) in
-        ⌜ r ≡ exportCall g (now (locks .entry)) (now (scratch .entry)) (now (buffer .entry)) .answer .number ⌝ }
-    ensures buffer { λ r.
-        let g = graphIn inputs nodes outputs (now («node_table» .entry)) (now («node_bits» .entry)) (now («output_table» .entry)) (now («output_bits» .entry)) in
-        ⌜ now (buffer .exit) ≡ exportCall g (now (locks .entry)) (now (scratch .entry)) (now (buffer .entry)) .buffer ⌝ }
-    ensures size { λ r.
-        let g = graphIn inputs nodes outputs (now («node_table» .entry)) (now («node_bits» .entry)) (now («output_table» .entry)) (now («output_bits» .entry)) in
-        ⌜ now (length .exit) ≡ toldOne (exportCall g (now (locks .entry)) (now (scratch .entry)) (now (buffer .entry)) .answer) (now (length .entry)) ⌝ }
+        let o = exportCall g (now (locks .entry)) (now (scratch .entry)) (now (buffer .entry)) in
+        ⌜ TextLeft o r (now (buffer .exit)) (now (length .entry)) (now (length .exit)) ⌝ }
     ensures scratch { λ r.
         let g = graphIn inputs nodes outputs (now («node_table» .entry)) (now («node_bits» .entry)) (now («output_table» .entry)) (now («output_bits» .entry)) in
-        ⌜ ScratchKept (exportCall g (now (locks .entry)) (now (scratch .entry)) (now (buffer .entry)) .answer) (now (scratch .entry)) (now (scratch .exit)) ⌝ }
+        let o = exportCall g (now (locks .entry)) (now (scratch .entry)) (now (buffer .entry)) in
+        ⌜ ScratchKept (o .answer) (now (scratch .entry)) (now (scratch .exit)) ⌝ }
 {
     let answer = aiger_export::export(
         inputs,
@@ -224,13 +188,15 @@ pub extern "C" fn reducer_evaluate(
 ) -> u32
     ensures answer { λ r.
         let g = graphIn inputs nodes outputs (now («node_table» .entry)) (now («node_bits» .entry)) (now («output_table» .entry)) (now («output_bits» .entry)) in
-        ⌜ r ≡ unless (evaluateNumber g (now (locks .entry)) (length (now («input_words» .entry))) (length (now (scratch .entry))) (length (now (results .entry)))) (accepted []) .number ⌝ }
+        let n = evaluateNumber g (now (locks .entry)) (length (now («input_words» .entry))) (length (now (scratch .entry))) (length (now (results .entry))) in
+        ⌜ r ≡ n ⌝ }
     ensures results { λ r.
         let g = graphIn inputs nodes outputs (now («node_table» .entry)) (now («node_bits» .entry)) (now («output_table» .entry)) (now («output_bits» .entry)) in
         ⌜ now (results .exit) ≡ resultsAfter g (now (locks .entry)) (now («input_words» .entry)) (length (now (scratch .entry))) (now (results .entry)) ⌝ }
     ensures scratch { λ r.
         let g = graphIn inputs nodes outputs (now («node_table» .entry)) (now («node_bits» .entry)) (now («output_table» .entry)) (now («output_bits» .entry)) in
-        ⌜ ScratchKept (unless (evaluateNumber g (now (locks .entry)) (length (now («input_words» .entry))) (length (now (scratch .entry))) (length (now (results .entry)))) (accepted [])) (now (scratch .entry)) (now (scratch .exit)) ⌝ }
+        let n = evaluateNumber g (now (locks .entry)) (length (now («input_words» .entry))) (length (now (scratch .entry))) (length (now (results .entry))) in
+        ⌜ ScratchKept (unless n (accepted [])) (now (scratch .entry)) (now (scratch .exit)) ⌝ }
 {
     answers::told::evaluated_number(evaluation::evaluate(
         inputs,
@@ -260,12 +226,10 @@ pub extern "C" fn reducer_count(
     locks: &[u8],
     count: &mut u32,
 ) -> u32
-    ensures answer { λ r.
+    ensures { λ r.
         let g = graphIn inputs nodes outputs (now («node_table» .entry)) (now («node_bits» .entry)) (now («output_table» .entry)) (now («output_bits» .entry)) in
-        ⌜ r ≡ unless (admissionNumber g (now (locks .entry))) (accepted (C g ∷ [])) .number ⌝ }
-    ensures count { λ r.
-        let g = graphIn inputs nodes outputs (now («node_table» .entry)) (now («node_bits» .entry)) (now («output_table» .entry)) (now («output_bits» .entry)) in
-        ⌜ now (count .exit) ≡ toldOne (unless (admissionNumber g (now (locks .entry))) (accepted (C g ∷ []))) (now (count .entry)) ⌝ }
+        let a = unless (admissionNumber g (now (locks .entry))) (accepted (C g ∷ [])) in
+        ⌜ (r ≡ a .number) × (now (count .exit) ≡ toldOne a (now (count .entry))) ⌝ }
 {
     let answer = graph::complemented_edges(
         inputs,
@@ -295,16 +259,11 @@ pub extern "C" fn reducer_node(
     node: u32,
     saving: &mut [i64; 2],
 ) -> u32
-    ensures answer { λ r.
-        let g = graphIn inputs nodes outputs (now («node_table» .entry)) (now («node_bits» .entry)) (now («output_table» .entry)) (now («output_bits» .entry)) in
-        ⌜ r ≡ nodeCall g (now (locks .entry)) node .answer .number ⌝ }
-    ensures graph { λ r.
+    ensures { λ r.
         let g = graphIn inputs nodes outputs (now («node_table» .entry)) (now («node_bits» .entry)) (now («output_table» .entry)) (now («output_bits» .entry)) in
         let k = graphIn inputs nodes outputs (now («node_table» .entry)) (now («node_bits» .exit)) (now («output_table» .entry)) (now («output_bits» .exit)) in
-        ⌜ k ≡ nodeCall g (now (locks .entry)) node .graph ⌝ }
-    ensures told { λ r.
-        let g = graphIn inputs nodes outputs (now («node_table» .entry)) (now («node_bits» .entry)) (now («output_table» .entry)) (now («output_bits» .entry)) in
-        ⌜ now (saving .exit) ≡ toldSigned (nodeCall g (now (locks .entry)) node .answer) (now (saving .entry)) ⌝ }
+        let o = nodeCall g (now (locks .entry)) node in
+        ⌜ SavingLeft o r k (now (saving .entry)) (now (saving .exit)) ⌝ }
 {
     let answer = node_call::node_call(
         inputs,
@@ -336,16 +295,11 @@ pub extern "C" fn reducer_pair(
     word: u32,
     saving: &mut [i64; 2],
 ) -> u32
-    ensures answer { λ r.
-        let g = graphIn inputs nodes outputs (now («node_table» .entry)) (now («node_bits» .entry)) (now («output_table» .entry)) (now («output_bits» .entry)) in
-        ⌜ r ≡ pairCall g (now (locks .entry)) node word .answer .number ⌝ }
-    ensures graph { λ r.
+    ensures { λ r.
         let g = graphIn inputs nodes outputs (now («node_table» .entry)) (now («node_bits» .entry)) (now («output_table» .entry)) (now («output_bits» .entry)) in
         let k = graphIn inputs nodes outputs (now («node_table» .entry)) (now («node_bits» .exit)) (now («output_table» .entry)) (now («output_bits» .exit)) in
-        ⌜ k ≡ pairCall g (now (locks .entry)) node word .graph ⌝ }
-    ensures told { λ r.
-        let g = graphIn inputs nodes outputs (now («node_table» .entry)) (now («node_bits» .entry)) (now («output_table» .entry)) (now («output_bits» .entry)) in
-        ⌜ now (saving .exit) ≡ toldSigned (pairCall g (now (locks .entry)) node word .answer) (now (saving .entry)) ⌝ }
+        let o = pairCall g (now (locks .entry)) node word in
+        ⌜ SavingLeft o r k (now (saving .entry)) (now (saving .exit)) ⌝ }
 {
     let answer = node_call::pair_call(
         inputs,
@@ -380,12 +334,10 @@ pub extern "C" fn reducer_trial(
     node_move: u32,
     gain: &mut i64,
 ) -> u32
-    ensures answer { λ r.
+    ensures { λ r.
         let g = graphIn inputs nodes outputs (now («node_table» .entry)) (now («node_bits» .entry)) (now («output_table» .entry)) (now («output_bits» .entry)) in
-        ⌜ r ≡ trialCall g (now (locks .entry)) node word «named_move» «node_move» .number ⌝ }
-    ensures told { λ r.
-        let g = graphIn inputs nodes outputs (now («node_table» .entry)) (now («node_bits» .entry)) (now («output_table» .entry)) (now («output_bits» .entry)) in
-        ⌜ now (gain .exit) ≡ toldGain (trialCall g (now (locks .entry)) node word «named_move» «node_move») (now (gain .entry)) ⌝ }
+        let a = trialCall g (now (locks .entry)) node word «named_move» «node_move» in
+        ⌜ (r ≡ a .number) × (now (gain .exit) ≡ toldGain a (now (gain .entry))) ⌝ }
 {
     let answer = node_call::trial(
         inputs,
@@ -422,16 +374,11 @@ pub extern "C" fn reducer_many(
     bytes: &[u8],
     saving: &mut i64,
 ) -> u32
-    ensures answer { λ r.
-        let g = graphIn inputs nodes outputs (now («node_table» .entry)) (now («node_bits» .entry)) (now («output_table» .entry)) (now («output_bits» .entry)) in
-        ⌜ r ≡ manyCall g (now (locks .entry)) (now (list .entry)) (now (bytes .entry)) .answer .number ⌝ }
-    ensures graph { λ r.
+    ensures { λ r.
         let g = graphIn inputs nodes outputs (now («node_table» .entry)) (now («node_bits» .entry)) (now («output_table» .entry)) (now («output_bits» .entry)) in
         let k = graphIn inputs nodes outputs (now («node_table» .entry)) (now («node_bits» .exit)) (now («output_table» .entry)) (now («output_bits» .exit)) in
-        ⌜ k ≡ manyCall g (now (locks .entry)) (now (list .entry)) (now (bytes .entry)) .graph ⌝ }
-    ensures told { λ r.
-        let g = graphIn inputs nodes outputs (now («node_table» .entry)) (now («node_bits» .entry)) (now («output_table» .entry)) (now («output_bits» .entry)) in
-        ⌜ now (saving .exit) ≡ toldGain (manyCall g (now (locks .entry)) (now (list .entry)) (now (bytes .entry)) .answer) (now (saving .entry)) ⌝ }
+        let o = manyCall g (now (locks .entry)) (now (list .entry)) (now (bytes .entry)) in
+        ⌜ (r ≡ o .answer .number) × (k ≡ o .graph) × (now (saving .exit) ≡ toldGain (o .answer) (now (saving .entry))) ⌝ }
 {
     let answer = many::many(
         inputs,
@@ -466,19 +413,15 @@ pub extern "C" fn reducer_tree(
     scratch: &mut [u32],
     saving: &mut [i64; 2],
 ) -> u32
-    ensures answer { λ r.
-        let g = graphIn inputs nodes outputs (now («node_table» .entry)) (now («node_bits» .entry)) (now («output_table» .entry)) (now («output_bits» .entry)) in
-        ⌜ r ≡ treeCall g (now (locks .entry)) (length (now (scratch .entry))) root .answer .number ⌝ }
-    ensures graph { λ r.
+    ensures saving { λ r.
         let g = graphIn inputs nodes outputs (now («node_table» .entry)) (now («node_bits» .entry)) (now («output_table» .entry)) (now («output_bits» .entry)) in
         let k = graphIn inputs nodes outputs (now («node_table» .entry)) (now («node_bits» .exit)) (now («output_table» .entry)) (now («output_bits» .exit)) in
-        ⌜ k ≡ treeCall g (now (locks .entry)) (length (now (scratch .entry))) root .graph ⌝ }
-    ensures told { λ r.
-        let g = graphIn inputs nodes outputs (now («node_table» .entry)) (now («node_bits» .entry)) (now («output_table» .entry)) (now («output_bits» .entry)) in
-        ⌜ now (saving .exit) ≡ toldSigned (treeCall g (now (locks .entry)) (length (now (scratch .entry))) root .answer) (now (saving .entry)) ⌝ }
+        let o = treeCall g (now (locks .entry)) (length (now (scratch .entry))) root in
+        ⌜ SavingLeft o r k (now (saving .entry)) (now (saving .exit)) ⌝ }
     ensures scratch { λ r.
         let g = graphIn inputs nodes outputs (now («node_table» .entry)) (now («node_bits» .entry)) (now («output_table» .entry)) (now («output_bits» .entry)) in
-        ⌜ ScratchKept (treeCall g (now (locks .entry)) (length (now (scratch .entry))) root .answer) (now (scratch .entry)) (now (scratch .exit)) ⌝ }
+        let o = treeCall g (now (locks .entry)) (length (now (scratch .entry))) root in
+        ⌜ ScratchKept (o .answer) (now (scratch .entry)) (now (scratch .exit)) ⌝ }
 {
     let answer = tree_call::tree_call(
         inputs,
@@ -512,18 +455,15 @@ pub extern "C" fn reducer_preview(
     scratch: &mut [u32],
     saving: &mut [i64; 2],
 ) -> u32
-    ensures answer { λ r.
+    ensures saving { λ r.
         let g = graphIn inputs nodes outputs (now («node_table» .entry)) (now («node_bits» .entry)) (now («output_table» .entry)) (now («output_bits» .entry)) in
-        ⌜ r ≡ previewAnswer g (now (locks .entry)) (length (now (moves .entry))) (length (now (scratch .entry))) root .number ⌝ }
-    ensures moves { λ r.
-        let g = graphIn inputs nodes outputs (now («node_table» .entry)) (now («node_bits» .entry)) (now («output_table» .entry)) (now («output_bits» .entry)) in
-        ⌜ now (moves .exit) ≡ previewBytes g (now (locks .entry)) (now (moves .entry)) (length (now (scratch .entry))) root ⌝ }
-    ensures told { λ r.
-        let g = graphIn inputs nodes outputs (now («node_table» .entry)) (now («node_bits» .entry)) (now («output_table» .entry)) (now («output_bits» .entry)) in
-        ⌜ now (saving .exit) ≡ toldSigned (previewAnswer g (now (locks .entry)) (length (now (moves .entry))) (length (now (scratch .entry))) root) (now (saving .entry)) ⌝ }
+        let a = previewAnswer g (now (locks .entry)) (length (now (moves .entry))) (length (now (scratch .entry))) root in
+        let bs = previewBytes g (now (locks .entry)) (now (moves .entry)) (length (now (scratch .entry))) root in
+        ⌜ (r ≡ a .number) × (now (moves .exit) ≡ bs) × (now (saving .exit) ≡ toldSigned a (now (saving .entry))) ⌝ }
     ensures scratch { λ r.
         let g = graphIn inputs nodes outputs (now («node_table» .entry)) (now («node_bits» .entry)) (now («output_table» .entry)) (now («output_bits» .entry)) in
-        ⌜ ScratchKept (previewAnswer g (now (locks .entry)) (length (now (moves .entry))) (length (now (scratch .entry))) root) (now (scratch .entry)) (now (scratch .exit)) ⌝ }
+        let a = previewAnswer g (now (locks .entry)) (length (now (moves .entry))) (length (now (scratch .entry))) root in
+        ⌜ ScratchKept a (now (scratch .entry)) (now (scratch .exit)) ⌝ }
 {
     let answer = preview::preview(
         inputs,
@@ -557,22 +497,15 @@ pub extern "C" fn reducer_settle(
     figures: &mut [u32; 3],
     savings: &mut [i64; 2],
 ) -> u32
-    ensures answer { λ r.
-        let g = graphIn inputs nodes outputs (now («node_table» .entry)) (now («node_bits» .entry)) (now («output_table» .entry)) (now («output_bits» .entry)) in
-        ⌜ r ≡ settleCall g (now (locks .entry)) (length (now (scratch .entry))) .answer .number ⌝ }
-    ensures graph { λ r.
+    ensures saving { λ r.
         let g = graphIn inputs nodes outputs (now («node_table» .entry)) (now («node_bits» .entry)) (now («output_table» .entry)) (now («output_bits» .entry)) in
         let k = graphIn inputs nodes outputs (now («node_table» .entry)) (now («node_bits» .exit)) (now («output_table» .entry)) (now («output_bits» .exit)) in
-        ⌜ k ≡ settleCall g (now (locks .entry)) (length (now (scratch .entry))) .graph ⌝ }
-    ensures told { λ r.
-        let g = graphIn inputs nodes outputs (now («node_table» .entry)) (now («node_bits» .entry)) (now («output_table» .entry)) (now («output_bits» .entry)) in
-        ⌜ now (figures .exit) ≡ told (settleCall g (now (locks .entry)) (length (now (scratch .entry))) .answer) (now (figures .entry)) ⌝ }
-    ensures savings { λ r.
-        let g = graphIn inputs nodes outputs (now («node_table» .entry)) (now («node_bits» .entry)) (now («output_table» .entry)) (now («output_bits» .entry)) in
-        ⌜ now (savings .exit) ≡ toldSigned (settleCall g (now (locks .entry)) (length (now (scratch .entry))) .answer) (now (savings .entry)) ⌝ }
+        let o = settleCall g (now (locks .entry)) (length (now (scratch .entry))) in
+        ⌜ SavingLeft o r k (now (savings .entry)) (now (savings .exit)) × (now (figures .exit) ≡ told (o .answer) (now (figures .entry))) ⌝ }
     ensures scratch { λ r.
         let g = graphIn inputs nodes outputs (now («node_table» .entry)) (now («node_bits» .entry)) (now («output_table» .entry)) (now («output_bits» .entry)) in
-        ⌜ ScratchKept (settleCall g (now (locks .entry)) (length (now (scratch .entry))) .answer) (now (scratch .entry)) (now (scratch .exit)) ⌝ }
+        let o = settleCall g (now (locks .entry)) (length (now (scratch .entry))) in
+        ⌜ ScratchKept (o .answer) (now (scratch .entry)) (now (scratch .exit)) ⌝ }
 {
     let answer = settling::settle(
         inputs,
@@ -606,31 +539,14 @@ pub extern "C" fn reducer_replay(
     answers: &mut [i64],
     numbers: &mut [u32; 3],
 ) -> u32
-    ensures answer { λ r.
+    ensures graph { λ r.
         let ns = literals (now («node_table» .entry)) (now («node_bits» .entry)) in
         let os = literals (now («output_table» .entry)) (now («output_bits» .entry)) in
+        let ms = literals (now («node_table» .exit)) (now («node_bits» .exit)) in
+        let ps = literals (now («output_table» .exit)) (now («output_bits» .exit)) in
         let l = lent (now (scratch .entry)) (now (list .entry)) (now (bytes .entry)) in
-        ⌜ r ≡ replayCall (now (file .entry)) (now (calls .entry)) l ns os (now (locks .entry)) (length (now (answers .entry))) .answer .number ⌝ }
-    ensures nodes { λ r.
-        let ns = literals (now («node_table» .entry)) (now («node_bits» .entry)) in
-        let os = literals (now («output_table» .entry)) (now («output_bits» .entry)) in
-        let l = lent (now (scratch .entry)) (now (list .entry)) (now (bytes .entry)) in
-        ⌜ literals (now («node_table» .exit)) (now («node_bits» .exit)) ≡ replayCall (now (file .entry)) (now (calls .entry)) l ns os (now (locks .entry)) (length (now (answers .entry))) .graph .nodes ⌝ }
-    ensures outputs { λ r.
-        let ns = literals (now («node_table» .entry)) (now («node_bits» .entry)) in
-        let os = literals (now («output_table» .entry)) (now («output_bits» .entry)) in
-        let l = lent (now (scratch .entry)) (now (list .entry)) (now (bytes .entry)) in
-        ⌜ literals (now («output_table» .exit)) (now («output_bits» .exit)) ≡ replayCall (now (file .entry)) (now (calls .entry)) l ns os (now (locks .entry)) (length (now (answers .entry))) .graph .outputs ⌝ }
-    ensures locks { λ r.
-        let ns = literals (now («node_table» .entry)) (now («node_bits» .entry)) in
-        let os = literals (now («output_table» .entry)) (now («output_bits» .entry)) in
-        let l = lent (now (scratch .entry)) (now (list .entry)) (now (bytes .entry)) in
-        ⌜ now (locks .exit) ≡ replayCall (now (file .entry)) (now (calls .entry)) l ns os (now (locks .entry)) (length (now (answers .entry))) .locks ⌝ }
-    ensures numbers { λ r.
-        let ns = literals (now («node_table» .entry)) (now («node_bits» .entry)) in
-        let os = literals (now («output_table» .entry)) (now («output_bits» .entry)) in
-        let l = lent (now (scratch .entry)) (now (list .entry)) (now (bytes .entry)) in
-        ⌜ now (numbers .exit) ≡ told (replayCall (now (file .entry)) (now (calls .entry)) l ns os (now (locks .entry)) (length (now (answers .entry))) .answer) (now (numbers .entry)) ⌝ }
+        let o = replayCall (now (file .entry)) (now (calls .entry)) l ns os (now (locks .entry)) (length (now (answers .entry))) in
+        ⌜ GraphLeft o r ms ps (now (locks .exit)) (now (numbers .entry)) (now (numbers .exit)) ⌝ }
     ensures answers { λ r.
         let ns = literals (now («node_table» .entry)) (now («node_bits» .entry)) in
         let os = literals (now («output_table» .entry)) (now («output_bits» .entry)) in
@@ -640,7 +556,8 @@ pub extern "C" fn reducer_replay(
         let ns = literals (now («node_table» .entry)) (now («node_bits» .entry)) in
         let os = literals (now («output_table» .entry)) (now («output_bits» .entry)) in
         let l = lent (now (scratch .entry)) (now (list .entry)) (now (bytes .entry)) in
-        ⌜ ScratchKept (replayCall (now (file .entry)) (now (calls .entry)) l ns os (now (locks .entry)) (length (now (answers .entry))) .answer) (now (scratch .entry)) (now (scratch .exit)) ⌝ }
+        let o = replayCall (now (file .entry)) (now (calls .entry)) l ns os (now (locks .entry)) (length (now (answers .entry))) in
+        ⌜ ScratchKept (o .answer) (now (scratch .entry)) (now (scratch .exit)) ⌝ }
     ensures demand { λ r.
         let ns = literals (now («node_table» .entry)) (now («node_bits» .entry)) in
         let os = literals (now («output_table» .entry)) (now («output_bits» .entry)) in

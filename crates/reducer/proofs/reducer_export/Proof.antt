@@ -1,8 +1,8 @@
 -- `reducer_export` meets its contract. From those of `export` and of its answer's number and value.
-use mathlib.Core.Path.{ap, _∙_}
+use mathlib.Core.Path.{ap}
 use Rattle.tagged_file.specs.Write.{WriteOutcome}
-use Rattle.answers.proofs.Same.{same-one}
-use Rattle.reducer.proofs.Left.{same-kept}
+use Rattle.reducer.proofs.Left.{same-kept, text-left}
+use Rattle.tagged_file.specs.Write.{WriteOutcome}
 use borrow.Author.Needs.{needs}
 use Rattle.reducer.proofs.reducer_export.Statement.{statement}
 use Rattle.reducer.proofs.reducer_export.Tie as tie
@@ -10,13 +10,7 @@ use Rattle.reducer.proofs.reducer_export.Tie as tie
 returns : tie.Need-returns
 returns c =
     let t = c .before .before .before .before .before .before .before .export .ensures in
-    let e = t .0 in (
-      c .written-number .ensures ∙ ap (λ (o : WriteOutcome). o .answer .number) e,
-      (
-        ap (λ (o : WriteOutcome). o .buffer) e,
-        (c .before .written-told .ensures ∙ same-one _ (ap (λ (o : WriteOutcome). o .answer) e), same-kept _ _ (ap (λ (o : WriteOutcome). o .answer) e) (t .1)),
-      ),
-    )
+    (text-left _ _ (c .written-number .ensures) _ _ _ _ (c .before .written-told .ensures) (t .0), same-kept _ _ (ap (λ (o : WriteOutcome). o .answer) (t .0)) (t .1))
 
 pub reducer-export-spec : {M : Type 1} → statement M
 reducer-export-spec =

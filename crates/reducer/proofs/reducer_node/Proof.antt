@@ -1,17 +1,11 @@
 -- `reducer_node` meets its contract. From those of `node_call` and of its answer's number and value.
-use mathlib.Core.Path.{refl, ap, _∙_}
-use Rattle.graph.specs.Answer.{Outcome}
-use Rattle.answers.proofs.Same.{same-signed}
+use Rattle.reducer.proofs.Left.{saving-left}
 use borrow.Author.Needs.{needs}
 use Rattle.reducer.proofs.reducer_node.Statement.{statement}
 use Rattle.reducer.proofs.reducer_node.Tie as tie
 
 returns : tie.Need-returns
-returns c =
-    let e = c .before .before .before .before .before .before .before .node-call .ensures in (
-      c .saving-number .ensures ∙ ap (λ (o : Outcome). o .answer .number) e,
-      (ap (λ (o : Outcome). o .graph) e, c .before .saving-told .ensures ∙ same-signed (ap (λ (o : Outcome). o .answer) e) refl),
-    )
+returns c = saving-left _ _ (c .saving-number .ensures) _ _ _ _ (c .before .saving-told .ensures) (c .before .before .before .before .before .before .before .node-call .ensures)
 
 pub reducer-node-spec : {M : Type 1} → statement M
 reducer-node-spec =

@@ -1,8 +1,7 @@
 -- `reducer_replay` meets its contract. From those of `replay` and of its answer's number and values.
 use mathlib.Core.Path.{sym, ap, _∙_}
 use Rattle.graph.specs.Answer.{LockedOutcome}
-use Rattle.answers.proofs.Same.{same-told}
-use Rattle.reducer.proofs.Left.{same-kept, replayed-nodes, replayed-outputs, replayed-demand}
+use Rattle.reducer.proofs.Left.{same-kept, replayed-nodes, replayed-outputs, replayed-demand, graph-left}
 use borrow.Author.Needs.{needs}
 use Rattle.reducer.proofs.reducer_replay.Statement.{statement}
 use Rattle.reducer.proofs.reducer_replay.Tie as tie
@@ -11,26 +10,13 @@ returns : tie.Need-returns
 returns c =
     let p = c .before .before .before .before .before .before .before .before .before .before .before .before .before .before .before .before .replay in
     let e = p .ensures .0 in
-    let s = ap (λ (o : LockedOutcome). o .answer) e in
     let t = c .before .replayed-told .ensures in (
-      c .replayed-number .ensures ∙ ap (λ (o : LockedOutcome). o .answer .number) e,
+      graph-left _ _ (c .replayed-number .ensures) _ _ _ _ _ _ _ t (replayed-nodes (p .result) _ _) (replayed-outputs (p .result) _ _) e,
       (
-        replayed-nodes (p .result) _ _ ∙ ap (λ (o : LockedOutcome). o .graph .nodes) e,
+        p .ensures .1 .0,
         (
-          replayed-outputs (p .result) _ _ ∙ ap (λ (o : LockedOutcome). o .graph .outputs) e,
-          (
-            ap (λ (o : LockedOutcome). o .locks) e,
-            (
-              t ∙ same-told _ s,
-              (
-                p .ensures .1 .0,
-                (
-                  same-kept _ _ s (p .ensures .1 .1 .0),
-                  λ z. replayed-demand (p .result) _ _ _ _ _ _ _ _ t (p .ensures .1 .1 .1) (sym (c .replayed-number .ensures) ∙ z),
-                ),
-              ),
-            ),
-          ),
+          same-kept _ _ (ap (λ (o : LockedOutcome). o .answer) e) (p .ensures .1 .1 .0),
+          λ z. replayed-demand (p .result) _ _ _ _ _ _ _ _ t (p .ensures .1 .1 .1) (sym (c .replayed-number .ensures) ∙ z),
         ),
       ),
     )

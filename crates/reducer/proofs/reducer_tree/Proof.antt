@@ -1,8 +1,7 @@
 -- `reducer_tree` meets its contract. From those of `tree_call` and of its answer's number and value.
-use mathlib.Core.Path.{refl, ap, _∙_}
+use mathlib.Core.Path.{ap}
 use Rattle.graph.specs.Answer.{Outcome}
-use Rattle.answers.proofs.Same.{same-signed}
-use Rattle.reducer.proofs.Left.{same-kept}
+use Rattle.reducer.proofs.Left.{same-kept, saving-left}
 use borrow.Author.Needs.{needs}
 use Rattle.reducer.proofs.reducer_tree.Statement.{statement}
 use Rattle.reducer.proofs.reducer_tree.Tie as tie
@@ -10,13 +9,7 @@ use Rattle.reducer.proofs.reducer_tree.Tie as tie
 returns : tie.Need-returns
 returns c =
     let t = c .before .before .before .before .before .before .before .before .before .tree-call .ensures in
-    let e = t .0 in (
-      c .saving-number .ensures ∙ ap (λ (o : Outcome). o .answer .number) e,
-      (
-        ap (λ (o : Outcome). o .graph) e,
-        (c .before .saving-told .ensures ∙ same-signed (ap (λ (o : Outcome). o .answer) e) refl, same-kept _ _ (ap (λ (o : Outcome). o .answer) e) (t .1)),
-      ),
-    )
+    (saving-left _ _ (c .saving-number .ensures) _ _ _ _ (c .before .saving-told .ensures) (t .0), same-kept _ _ (ap (λ (o : Outcome). o .answer) (t .0)) (t .1))
 
 pub reducer-tree-spec : {M : Type 1} → statement M
 reducer-tree-spec =
