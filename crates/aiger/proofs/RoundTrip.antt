@@ -1,4 +1,4 @@
--- Importing an export: it is refused by 3 or 4 or not at all, and then every output has its value under every assignment.
+-- Importing an export: it is refused by 3 or 4 or not at all, and then it has the graph's inputs and outputs, with their values.
 -- From the laws on the text and on values.
 use Prim.Native.Nat.{ℕ, _+_, _*_, _<_}
 use mathlib.Core.Path.{_≡_, refl, sym, ap, _∙_}
@@ -13,8 +13,9 @@ use Rattle.tagged_file.proofs.Whole.{guarded-number}
 use Rattle.aiger.specs.Lines.{number, skip, numberAt}
 use Rattle.aiger.specs.Import.{gateWord, graphImported, importNumber, importCall}
 use Rattle.aiger.specs.Export.{gatesBefore, exported, gates, exportText}
+use Rattle.aiger.specs.Promises.{BackAgain}
 use Rattle.aiger.proofs.Agree.{Carries, agree}
-use Rattle.aiger.proofs.Exported.{bodyText, output-line, gate-line, export-read, Allowed, import-three-or-four}
+use Rattle.aiger.proofs.Exported.{bodyText, output-line, gate-line, export-read, import-three-or-four}
 use Rattle.aiger.proofs.Imported.{skip-add, word-zero, word-other, imported-word, imported-out, import-is}
 
 place : (s : List ℕ) (at j d : ℕ) → numberAt s (at + (j + d)) ≡ numberAt (skip (at + j) s) d
@@ -64,7 +65,7 @@ module _ (g : Graph) (adm : Admitted g) (ns os : List ℕ) where
       imported-out (exportText g) ns os j (omega (arith, r .outputs))
       ∙ rw (r .after, r .inputs) (output-line g adm j h .one)
 
-  pub same-value : (a : ℕ → ℕ) (j : ℕ) → j < g .O → outputValue back a j ≡ outputValue g a j
+  same-value : (a : ℕ → ℕ) (j : ℕ) → j < g .O → outputValue back a j ≡ outputValue g a j
   unfolding outputValue
   same-value a j h =
       ap (λ (n : ℕ). literalValue (values back a n) (output back j)) back-nodes
@@ -76,14 +77,12 @@ import-answer : (s ns os ls : List ℕ) → importCall s ns os ls .answer .numbe
 unfolding importCall
 import-answer s ns os ls = guarded-number _ _ _ _ refl
 
-module _ (g : Graph) (adm : Admitted g) (ns os ls : List ℕ) where
-  pub import-refused : Allowed (importCall (exportText g) ns os ls .answer .number)
-  import-refused = rw (import-answer (exportText g) ns os ls) (import-three-or-four g adm (held ns) (held os) (length ls))
-
-  -- an import of an export that is accepted has the outputs of the graph
-  module _ (e : importCall (exportText g) ns os ls .answer .number ≡ 0) where
-    pub same-outputs : importCall (exportText g) ns os ls .graph .O ≡ g .O
-    same-outputs = rw (import-is (exportText g) ns os ls e) (back-outs g adm ns os)
-
-    pub same-values : (a : ℕ → ℕ) (j : ℕ) → j < g .O → outputValue (importCall (exportText g) ns os ls .graph) a j ≡ outputValue g a j
-    same-values a j h = rw (import-is (exportText g) ns os ls e) (same-value g adm ns os a j h)
+pub back-again : (g : Graph) → Admitted g → (ns os ls : List ℕ) → BackAgain g (importCall (exportText g) ns os ls)
+back-again g adm ns os ls =
+    let s : List ℕ = exportText g in
+    record {
+      import-refused = rw (import-answer s ns os ls) (import-three-or-four g adm (held ns) (held os) (length ls));
+      same-inputs = λ e. rw (import-is s ns os ls e) (back-inputs g adm ns os);
+      same-outputs = λ e. rw (import-is s ns os ls e) (back-outs g adm ns os);
+      same-values = λ e a j h. rw (import-is s ns os ls e) (same-value g adm ns os a j h);
+    }

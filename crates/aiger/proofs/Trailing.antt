@@ -15,6 +15,7 @@ use Rattle.graph.proofs.Finite.{tab-same}
 use Rattle.graph.proofs.Tests.{none, both, all-none, each-none}
 use Rattle.aiger.specs.Lines.{ifDigit, digits, worth, number, endedNumber, next, skip, numberAt, lineNumber}
 use Rattle.aiger.specs.Import.{headI, headO, headA, body, aagNumber, headerNumber, inputLineNumber, outputLineNumber, gateLineNumber, inputLinesNumber, outputLinesNumber, gateLinesNumber, bodyNumber, importNumber, gateWord, graphImported, importCall}
+use Rattle.aiger.specs.Promises.{ImportTrailing}
 use Rattle.aiger.proofs.Imported.{skip-add, no-fault}
 use Rattle.aiger.proofs.ReadNumber.{is-digit, no-digit}
 use Rattle.aiger.proofs.Walk.{high-digit, ended-inside}
@@ -260,6 +261,9 @@ module _ (s ns os ls : List ℕ) (e : importCall s ns os ls .answer .number ≡ 
   unfolding graphImported
   graph-is = rw (rest-is, number-is 1 (omega arith), number-is 3 (omega arith), number-is 4 (omega arith), gates-are, outputs-are)
 
-  pub import-trailing : importCall (s ++ t) ns os ls ≡ importCall s ns os ls
+  not-read : importCall (s ++ t) ns os ls ≡ importCall s ns os ls
   unfolding importCall
-  import-trailing = sym (accepted-locked _ _ _ _ more) ∙ rw (number-is 1 (omega arith), number-is 3 (omega arith), number-is 4 (omega arith), graph-is) (accepted-locked _ _ _ _ fault-free)
+  not-read = sym (accepted-locked _ _ _ _ more) ∙ rw (number-is 1 (omega arith), number-is 3 (omega arith), number-is 4 (omega arith), graph-is) (accepted-locked _ _ _ _ fault-free)
+
+pub import-trailing : (s t ns os ls : List ℕ) → ImportTrailing s t ns os ls
+import-trailing s t ns os ls e = not-read s ns os ls e t

@@ -16,6 +16,7 @@ use Rattle.graph.proofs.Admit.{admitted-by}
 use Rattle.graph.proofs.Answers.{ifLess-le, first-le, admission-le}
 use Rattle.graph.proofs.Values.{literal-bit}
 use Rattle.evaluation.specs.Evaluation.{assignmentAt, outputWord, sliceNumber, scratchNumber, evaluateNumber, resultsAfter}
+use Rattle.evaluation.specs.Promises.{ResultBit}
 use Rattle.evaluation.proofs.Gather.{bit-gather}
 
 -- a fault that is a number of its own
@@ -76,8 +77,7 @@ module _ (g : Graph) (words : List ℕ) where
   output-bit o j h =
       bit-gather (λ k. outputValue g (assignmentAt words k) o) (λ k. literal-bit (values g (assignmentAt words k) (g .N)) (output g o)) 64 j h
 
-  pub result-bit : (ls : List ℕ) (s : ℕ) (results : List ℕ) → evaluateNumber g ls (length words) s (length results) ≡ 0
-      → (o j : ℕ) → o < g .O → j < 64 → bit j (getD (resultsAfter g ls words s results) o 0) ≡ outputValue g (assignmentAt words j) o
+  pub result-bit : (ls : List ℕ) (s : ℕ) (results : List ℕ) → ResultBit g words ls s results
   unfolding resultsAfter
   result-bit ls s results e o j h k =
       let t = length-tab (g .O) (outputWord g words) in

@@ -5,3 +5,4 @@ pub mod Rows
 pub mod Outputs
 pub mod Call
 pub mod Worked
+pub mod Promises

@@ -1,3 +1,4 @@
 pub mod Word
 pub mod Inner
 pub mod Evaluation
+pub mod Promises

@@ -9,6 +9,7 @@ use lib.ListN.{length, getD}
 use Rattle.graph.specs.Graph.{Graph, word, output, isEdge, node}
 use Rattle.graph.specs.Admission.{roomNumber, tablesNumber, wordNumber, outputNumber, strayNumber, straysNumber, literalNumber, lockNumber, locksNumber, contentNumber, admissionNumber, Admitted, LockBytes}
 use Rattle.graph.specs.Literals.{held, strays}
+use Rattle.graph.specs.Promises.{JustAdmitted}
 use Rattle.graph.proofs.Cases.{true-or-false}
 use Rattle.graph.proofs.Literals.{held-le}
 use Rattle.graph.proofs.Tests.{off, on, both, no-less, less, none, all-none, each-none}
@@ -146,3 +147,6 @@ module _ (g : Graph) where
       pub admission-none : admissionNumber g ls ≡ 0
       unfolding admissionNumber contentNumber
       admission-none = sym (none _ _ tables-none (none _ _ literals-none (sym locks-none)))
+
+pub just-admitted : (g : Graph) (ls : List ℕ) → JustAdmitted g ls
+just-admitted g ls = record { admitted = admitted g ls; locks-admitted = locks-admitted g ls; admission-none = λ adm ok. admission-none g adm ls ok }

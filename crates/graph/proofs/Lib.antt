@@ -26,3 +26,4 @@ pub mod Admit
 pub mod Values
 pub mod Digits
 pub mod Worked
+pub mod Promises

@@ -9,3 +9,4 @@ pub mod Admission
 pub mod Difference
 pub mod Answer
 pub mod Decimal
+pub mod Promises

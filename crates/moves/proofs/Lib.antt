@@ -29,3 +29,4 @@ pub mod Rooted
 pub mod PairOthers
 pub mod Pair
 pub mod Made
+pub mod Promises

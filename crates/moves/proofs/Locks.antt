@@ -5,22 +5,20 @@ use mathlib.Core.Path.{_≡_, refl, ap, _∙_}
 use mathlib.Core.Bool.{true}
 use mathlib.Core.List.{List, [], _∷_, map}
 use mathlib.Core.Logic.{⊎-elim, _≢_}
-use Prim.Native.Nat.{ℕ, _/_, _≤_, _<_}
+use Prim.Native.Nat.{ℕ, _/_, _<_}
 use native.Mathlib.Omega.{arith}
 use lib.ListN.{getD}
 use Rattle.graph.specs.Graph.{Graph, node, word, isEdge}
-use Rattle.graph.specs.Count.{C}
 use Rattle.graph.specs.Value.{Assignment, value}
 use Rattle.graph.specs.Admission.{Admitted}
-use Rattle.graph.specs.Answer.{guarded}
 use Rattle.graph.proofs.Cases.{eq-or-ne}
 use Rattle.choice.specs.Choice.{Fits, zeros}
 use Rattle.choice.proofs.Best.{best-is}
 use Rattle.moves.specs.Rows.{kindMoves, lockAt, movesAt}
 use Rattle.moves.specs.Apply.{Choice, none, at, put, own, seen, turns, apply}
-use Rattle.moves.specs.Tree.{tree}
-use Rattle.moves.specs.Call.{moved, movedC, bestAt, rewrite, treeNumber, treeCall}
+use Rattle.moves.specs.Call.{moved, movedC, bestAt, rewrite}
 use Rattle.moves.specs.Free.{bestFree, rewriteFree}
+use Rattle.moves.specs.Promises.{LockedNode, Alone, LowestAlone, NoneLocked}
 use Rattle.moves.proofs.Apply.{turns-edge}
 use Rattle.moves.proofs.Changed.{at-same, at-other, seen-none, own-none}
 use Rattle.moves.proofs.Kept.{apply-idle, best-lowest}
@@ -34,20 +32,14 @@ value-bit g adm a i =
     omega (arith, e, value-turn-all g none adm a i)
 
 module _ (g : Graph) (ls : List ℕ) where
-  -- moves at the nodes us that leave locked ones alone
-  abbrev pub Alone : List ℕ → List ℕ → Type 0
-  Alone [] ms = Unit {0}
-  Alone (u ∷ us) [] = Unit {0}
-  Alone (u ∷ us) (k ∷ ms) = (lockAt g ls u ≡ 1 → k ≡ 0) × Alone us ms
-
   -- the choices are those of the kinds' moves that do
-  pub fits-alone : (us ms : List ℕ) → Fits (map (movesAt g ls) us) ms → Alone us ms
+  fits-alone : (us ms : List ℕ) → Fits (map (movesAt g ls) us) ms → Alone g ls us ms
   fits-alone [] [] h = tt
   fits-alone [] (k ∷ ms) h = absurd h
   fits-alone (u ∷ us) [] h = absurd h
   fits-alone (u ∷ us) (k ∷ ms) h = ((λ e. omega (arith, h .0, moves-locked g ls u e)), fits-alone us ms (h .1))
 
-  pub alone-fits : (us ms : List ℕ) → Fits (map (kindMoves g) us) ms → Alone us ms → Fits (map (movesAt g ls) us) ms
+  alone-fits : (us ms : List ℕ) → Fits (map (kindMoves g) us) ms → Alone g ls us ms → Fits (map (movesAt g ls) us) ms
   alone-fits [] [] h a = tt
   alone-fits [] (k ∷ ms) h a = absurd h
   alone-fits (u ∷ us) [] h a = absurd h
@@ -59,7 +51,7 @@ module _ (g : Graph) (ls : List ℕ) where
     alone-fits us ms (h .1) (a .1),
   )
 
-  put-locked : (us ms : List ℕ) (d : Choice) (u : ℕ) → Alone us ms → lockAt g ls u ≡ 1 → d u ≡ 0 → put d us ms u ≡ 0
+  put-locked : (us ms : List ℕ) (d : Choice) (u : ℕ) → Alone g ls us ms → lockAt g ls u ≡ 1 → d u ≡ 0 → put d us ms u ≡ 0
   unfolding put
   put-locked [] ms d u a e z = z
   put-locked (w ∷ us) [] d u a e z = z
@@ -77,10 +69,10 @@ module _ (g : Graph) (ls : List ℕ) where
     locked-move v h e = put-locked us (bestAt g ls us) none (node g v) (fits-alone us (bestAt g ls us) best-fits) (lock-of g ls v h ∙ e) refl
 
     -- it turns none of its words and no reader; an edge of its own turns only by the move of the node that it names
-    pub locked-readers : (v : ℕ) → v < g .N → getD ls v 0 ≡ 1 → seen g (put none us (bestAt g ls us)) (node g v) ≡ 0
+    locked-readers : (v : ℕ) → v < g .N → getD ls v 0 ≡ 1 → seen g (put none us (bestAt g ls us)) (node g v) ≡ 0
     locked-readers v h e = seen-none g (put none us (bestAt g ls us)) (node g v) (locked-move v h e)
 
-    pub locked-turns : (v j : ℕ) → v < g .N → getD ls v 0 ≡ 1 → j / 3 ≡ v → isEdge g j ≡ true
+    locked-turns : (v j : ℕ) → v < g .N → getD ls v 0 ≡ 1 → j / 3 ≡ v → isEdge g j ≡ true
         → turns g (put none us (bestAt g ls us)) j ≡ seen g (put none us (bestAt g ls us)) (word g j / 2)
     locked-turns v j h e q t =
         let m : Choice = put none us (bestAt g ls us) in
@@ -88,25 +80,33 @@ module _ (g : Graph) (ls : List ℕ) where
         turns-edge g m j (omega arith) t ∙ omega (arith, z)
 
     -- so its value is what it was
-    pub locked-value : Admitted g → (v : ℕ) → v < g .N → getD ls v 0 ≡ 1 → (a : Assignment) → value (moved g us (bestAt g ls us)) a (node g v) ≡ value g a (node g v)
+    locked-value : Admitted g → (v : ℕ) → v < g .N → getD ls v 0 ≡ 1 → (a : Assignment) → value (moved g us (bestAt g ls us)) a (node g v) ≡ value g a (node g v)
     unfolding moved
     locked-value adm v h e a =
         value-turn g (put none us (bestAt g ls us)) adm a (node g v) (omega arith) ∙ omega (arith, locked-readers v h e, value-bit g adm a (node g v))
 
+    pub locked-node : (v : ℕ) → v < g .N → getD ls v 0 ≡ 1 → LockedNode g ls us v
+    locked-node v h e =
+        record {
+          locked-move = locked-move v h e;
+          locked-readers = locked-readers v h e;
+          locked-turns = λ j. locked-turns v j h e;
+          locked-value = λ adm. locked-value adm v h e;
+        }
+
     -- the best is least among the choices that leave locked nodes alone
-    pub lowest-alone : Admitted g → (ms : List ℕ) → Fits (map (kindMoves g) us) ms → Alone us ms → C (moved g us (bestAt g ls us)) ≤ C (moved g us ms)
+    pub lowest-alone : LowestAlone g ls us
     lowest-alone adm ms f a = best-lowest g ls adm us ms (alone-fits us ms f a)
 
     -- and with no node locked it is the best of all, as before there were locks
-    pub best-free : ((v : ℕ) → v < g .N → getD ls v 0 ≡ 0) → bestAt g ls us ≡ bestFree g us
-    unfolding bestAt bestFree
-    best-free free = rw (all-free g ls free)
+    module _ (free : (v : ℕ) → v < g .N → getD ls v 0 ≡ 0) where
+      best-free : bestAt g ls us ≡ bestFree g us
+      unfolding bestAt bestFree
+      best-free = rw (all-free g ls free)
 
-    pub rewrite-free : ((v : ℕ) → v < g .N → getD ls v 0 ≡ 0) → rewrite g ls us ≡ rewriteFree g us
-    unfolding rewrite rewriteFree
-    rewrite-free free = rw (best-free free)
+      pub rewrite-free : rewrite g ls us ≡ rewriteFree g us
+      unfolding rewrite rewriteFree
+      rewrite-free = rw best-free
 
-  -- so is the tree call, on every graph
-  pub tree-free : (s r : ℕ) → ((v : ℕ) → v < g .N → getD ls v 0 ≡ 0) → treeCall g ls s r ≡ guarded (treeNumber g ls s r) g (rewriteFree g (tree g r))
-  unfolding treeCall
-  tree-free s r free = rw (rewrite-free (tree g r) free)
+      pub none-locked : NoneLocked g ls us
+      none-locked = record { best-free = best-free; rewrite-free = rewrite-free }

@@ -2,7 +2,7 @@
 -- first that saves most, and there is one such pair. From the law of two moves and the laws of differences.
 use mathlib.Core.Path.{_≡_, refl, sym, ap, _∙_}
 use mathlib.Core.Bool.{Bool, true, false}
-use mathlib.Core.List.{List, [], _∷_}
+use mathlib.Core.List.{List}
 use mathlib.Core.Logic.{⊎-elim}
 use Prim.Native.Nat.{ℕ, _+_, _-_, _*_, _/_, _%_, _≤_, _<_}
 use native.Mathlib.Omega.{arith}
@@ -25,6 +25,7 @@ use Rattle.moves.specs.Apply.{none, at, put, apply}
 use Rattle.moves.specs.Call.{moved, movedC}
 use Rattle.moves.specs.Decide.{MovesOf, given, others, costGiven, pairCost, Counted, FirstPair, numbersOf, naming}
 use Rattle.moves.specs.Pair.{pairSaving, FirstGreatest, costNumbered, savingNumbered, GreatestBelow}
+use Rattle.moves.specs.Promises.{PairSaving, OneWinner}
 use Rattle.moves.specs.Rows.{arity, flag}
 use Rattle.moves.specs.declared.decide.NodeNumbers.{NodeNumbers}
 use Rattle.moves.specs.declared.decide.Combination.{Combination}
@@ -33,8 +34,7 @@ use Rattle.moves.proofs.Moves.{moves-some}
 use Rattle.moves.proofs.NodeBest.{pair-cost-is, zeros-are}
 use Rattle.moves.proofs.Scan.{scan-one, scan-keep, scan-take}
 
-pub pair-saving : (g : Graph) (ls : List ℕ) → Admitted g → (p v : ℕ) → p < v → v < g .N → (a k : ℕ)
-    → pairSaving (numbersOf g ls p) (numbersOf g ls v) (naming g v (node g p)) a k ≡ difference (C g) (movedC g (node g p ∷ node g v ∷ []) (a ∷ k ∷ []))
+pub pair-saving : (g : Graph) (ls : List ℕ) → Admitted g → (p v : ℕ) → p < v → v < g .N → (a k : ℕ) → PairSaving g ls p v a k
 unfolding pairSaving movedC moved put
 pair-saving g ls adm p v l h a k =
     same-difference (pairCost (numbersOf g ls p) (numbersOf g ls v) (naming g v (node g p)) 0 0) (pairCost (numbersOf g ls p) (numbersOf g ls v) (naming g v (node g p)) a k) (C g)
@@ -87,18 +87,8 @@ one-pair f r s a k b l x y = (same, omega (arith, second-no-less x y same, secon
     same = omega (arith, first-no-less x y, first-no-less y x)
 
 -- deciding by two answers and deciding by all savings end in the same moves
-pub one-winner : (p n : NodeNumbers) (w : List ℕ) (r s a k b l : ℕ) → FirstPair (pairCost p n w) r s a k → FirstGreatest (pairSaving p n w) r s b l → (a ≡ b) × (k ≡ l)
+pub one-winner : (p n : NodeNumbers) (w : List ℕ) (r s a k b l : ℕ) → OneWinner p n w r s a k b l
 one-winner p n w r s a k b l x y = one-pair (pairCost p n w) r s a k b l x (least-of-greatest p n w r s b l y)
-
--- where nothing is saved, no move is made
-pub nothing-saved : (p n : NodeNumbers) (w : List ℕ) (r s a k : ℕ) → FirstGreatest (pairSaving p n w) r s a k → pairSaving p n w a k ≡ pos 0 → (a ≡ 0) × (k ≡ 0)
-unfolding pairSaving
-nothing-saved p n w r s a k h e =
-    let m = least-of-greatest p n w r s a k h in
-    let low : pairCost p n w a k ≤ pairCost p n w 0 0 = m .low 0 0 (omega (arith, m .below)) (omega (arith, m .fits)) in
-    let none : pairCost p n w 0 0 - pairCost p n w a k ≡ 0 = ap natAbs (sym (at-least (pairCost p n w 0 0) (pairCost p n w a k) (pairCost p n w 0 0 - pairCost p n w a k) (omega arith)) ∙ e) in
-    let first : a ≡ 0 = ⊎-elim (λ (q : 0 < a). absurd (omega (arith, none, m .first 0 0 q (omega (arith, m .fits))))) (λ (q : a ≤ 0). omega arith) (lt-or-le 0 a) in
-    (first, ⊎-elim (λ (q : 0 < k). absurd (omega (arith, none, m .second 0 q, ap (λ c. pairCost p n w c 0) first))) (λ (q : k ≤ 0). omega arith) (lt-or-le 0 k))
 
 -- the combinations one by one are those by the first move and then by the second
 module _ (f : ℕ → ℕ → ℕ) (r s c : ℕ) (quotient : (b l : ℕ) → l < s → (s * b + l) / s ≡ b) (rest : (b l : ℕ) → l < s → (s * b + l) % s ≡ l)

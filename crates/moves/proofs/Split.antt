@@ -4,7 +4,7 @@ use mathlib.Core.Bool.{Bool, true, false, cond}
 use mathlib.Core.List.{List, []}
 use Prim.Native.Nat.{ℕ, _+_, _*_, _/_}
 use native.Mathlib.Omega.{arith}
-use lib.IntN.{ℤ, pos, _+ℤ_}
+use lib.IntN.{ℤ, pos}
 use Rattle.graph.specs.Graph.{Graph, node}
 use Rattle.graph.specs.Count.{C, nodeAdds}
 use Rattle.graph.specs.Difference.{difference}
@@ -15,6 +15,7 @@ use Rattle.graph.proofs.Finite.{sum-same}
 use Rattle.moves.specs.Call.{moved, bestAt, rewrite}
 use Rattle.moves.specs.Outside.{savedBy}
 use Rattle.moves.specs.Split.{among, ownAdds, otherAdds, split}
+use Rattle.moves.specs.Promises.{SplitWhole}
 use Rattle.moves.proofs.Count.{sum-add}
 
 pub parts-whole : (g : Graph) (us : List ℕ) → ownAdds g us + otherAdds g us ≡ C g
@@ -29,7 +30,7 @@ parts-whole g us =
     go false x = omega arith
 
 -- M-104: the two numbers add to the saving
-pub split-whole : (us : List ℕ) (g h : Graph) → split us g h .own +ℤ split us g h .others ≡ difference (C g) (C h)
+pub split-whole : (us : List ℕ) (g h : Graph) → SplitWhole us g h
 unfolding split
 split-whole us g h =
     sum-is (ownAdds g us) (ownAdds h us) (otherAdds g us) (otherAdds h us) (C g) (C h) (omega (arith, parts-whole g us, parts-whole h us))

@@ -9,3 +9,4 @@ pub mod Decide
 pub mod Outside
 pub mod Pair
 pub mod Trial
+pub mod Promises

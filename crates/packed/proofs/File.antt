@@ -18,7 +18,8 @@ use Rattle.graph.proofs.Finite.{length-tab, getD-tab}
 use Rattle.graph.proofs.Literals.{bitAt-le, indexAt-le, index-is, literal-bit, held-at, held-all, held-literals, bit-at}
 use Rattle.tagged_file.specs.Load.{loadCall}
 use Rattle.tagged_file.specs.Write.{fileOf}
-use Rattle.tagged_file.proofs.RoundTrip.{SameGraph, file-same, loads-written}
+use Rattle.tagged_file.specs.Promises.{SameGraph}
+use Rattle.tagged_file.proofs.RoundTrip.{file-same, loads-written}
 use Rattle.packed.specs.File.{PackedGraph, asGraph, file, AdmittedPacked, SameWords, SamePacked, OneFile, FileKept}
 use Rattle.packed.specs.Slices.{Indices, BitWords}
 use Rattle.packed.proofs.Old.{old-is}

@@ -11,3 +11,4 @@ pub mod Corresponds
 pub mod Fills
 pub mod File
 pub mod Worked
+pub mod Promises

@@ -4,3 +4,4 @@ pub mod Corresponds
 pub mod Fills
 pub mod File
 pub mod Worked
+pub mod Promises

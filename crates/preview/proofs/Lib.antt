@@ -2,5 +2,5 @@ pub mod Choices
 pub mod ToldMoves
 pub mod Refusing
 pub mod SameCall
-pub mod Free
 pub mod AsList
+pub mod Promises

@@ -2,7 +2,7 @@
 use mathlib.Core.Path.{_≡_, refl, sym, ap, _∙_}
 use mathlib.Core.Bool.{Bool, true, false, cond}
 use mathlib.Core.List.{List, [], _∷_}
-use Prim.Native.Nat.{ℕ, zero, suc, _-_, _*_, _≤_}
+use Prim.Native.Nat.{ℕ, zero, suc, _*_, _≤_}
 use native.Mathlib.Omega.{arith}
 use lib.IntN.{ℤ, pos, _+ℤ_}
 use lib.ListN.{length}
@@ -25,7 +25,7 @@ use Rattle.many.proofs.EveryOrder.{every-order}
 use Rattle.rounds.specs.Settle.{settle, settled, settleNumber, settleCall}
 use Rattle.rounds.proofs.Calls.{Honest, node-honest, pair-honest, tree-honest}
 use Rattle.rounds.proofs.Rounds.{settle-ended}
-use Rattle.promises.specs.Demand.{Call, nodeAt, pairAt, treeAt, settling, manyAt, Locked, beside, step, fault, Beside, Made}
+use Rattle.promises.specs.Demand.{Call, nodeAt, pairAt, treeAt, settling, manyAt, Locked, beside, step, fault, Least, Beside, Made}
 
 -- a call guarded by k, that else answers a without a fault
 module _ (g : Graph) (o : Outcome) (fine : o .answer .number ≡ 0) where
@@ -78,13 +78,17 @@ module _ (d : Locked) (adm : Admitted (d .graph)) (ok : LockBytes (d .graph .N) 
 
   node-made : (u : ℕ) → Made d (nodeAt u)
   unfolding nodeCall nodeNumber rewrite
-  node-made u = made (nodeAt u) (nodeNumber g ls u) (rewrite g ls (u ∷ [])) refl refl (passed g adm ls ok (nodeFault g u)) (λ z. tt)
+  node-made u = made (nodeAt u) (nodeNumber g ls u) (rewrite g ls (u ∷ [])) refl refl (passed g adm ls ok (nodeFault g u)) (λ z ms f. best-lowest g ls adm (u ∷ []) ms f)
+
+  pair-least : (u k : ℕ) → Least d (namedBy g u k ∷ u ∷ []) (beside d (rewrite g ls (namedBy g u k ∷ u ∷ [])))
+  unfolding rewrite
+  pair-least u k ms f = best-lowest g ls adm (namedBy g u k ∷ u ∷ []) ms f
 
   pair-made : (u k : ℕ) → Made d (pairAt u k)
   unfolding pairCall pairNumber pairRewrite
   pair-made u k =
       made (pairAt u k) (pairNumber g ls u k) (pairRewrite g ls u k) refl (pair-fine u k (isNode g (namedBy g u k)))
-      (passed g adm ls ok (first (nodeFault g u) (wordFault g u k))) (λ z. tt)
+      (passed g adm ls ok (first (nodeFault g u) (wordFault g u k))) (λ z i. rw i (pair-least u k))
 
   tree-made : (r : ℕ) (scratch : List ℕ) → Made d (treeAt r scratch)
   unfolding treeCall treeNumber rewrite

@@ -10,7 +10,8 @@ use Rattle.graph.proofs.Difference.{at-least}
 use Rattle.graph.proofs.DifferenceSum.{sum-is, telescope, no-difference}
 use Rattle.graph.specs.Admission.{Admitted, LockBytes}
 use Rattle.tagged_file.specs.Load.{loadCall}
-use Rattle.tagged_file.proofs.RoundTrip.{Accepts, load-admitted, load-locks}
+use Rattle.tagged_file.specs.Promises.{Accepts}
+use Rattle.tagged_file.proofs.RoundTrip.{load-admitted, load-locks}
 use Rattle.aiger.specs.Import.{importCall}
 use Rattle.aiger.proofs.Imported.{import-admitted, import-locks}
 use Rattle.moves.proofs.Kept.{Stays, stays-none, stays-then}

@@ -1,5 +1,6 @@
 -- Demand 3, over every list of node, pair, tree, settling and many calls.
 use mathlib.Core.Path.{_≡_}
+use mathlib.Core.Bool.{true}
 use mathlib.Core.List.{List, [], _∷_, _++_, map, Perm}
 use Prim.Native.Nat.{ℕ, _+_, _-_, _≤_, _<_}
 use lib.IntN.{ℤ, pos, _+ℤ_}
@@ -13,7 +14,7 @@ use Rattle.graph.specs.Answer.{Outcome, LockedOutcome, lockedOutcome, savingOf}
 use Rattle.choice.specs.Choice.{Fits}
 use Rattle.moves.specs.Rows.{movesAt}
 use Rattle.moves.specs.Tree.{tree}
-use Rattle.moves.specs.Call.{moved, nodeFault, wordFault, rootFault, scratchFault, nodeCall, pairCall, treeCall}
+use Rattle.moves.specs.Call.{moved, isNode, namedBy, nodeFault, wordFault, rootFault, scratchFault, nodeCall, pairCall, treeCall}
 use Rattle.many.specs.Many.{Entry, entries, oneByOne, listNumber, manyCall}
 use Rattle.rounds.specs.Settle.{settle, settleCall, NothingLowers}
 
@@ -72,14 +73,16 @@ pub record RoundsReported (d : Locked) (scratch : List ℕ) (o : LockedOutcome) 
   pub signed : o .answer .signed ≡ settle (d .locks) (length scratch) (d .graph) .made .own ∷ settle (d .locks) (length scratch) (d .graph) .made .others ∷ []
   pub few : settle (d .locks) (length scratch) (d .graph) .rounds ≤ (C (d .graph) - C (o .graph)) + 1
 
--- what an accepted call on d promises beside: a tree call that every choice of moves at the tree's nodes that leaves locked nodes
--- alone, made on the graph before the call, has at least the C that it left; settling that no such choice at one node, on a pair or
--- on a tree lowers C then; many moves that one by one, in every order, they give the graph that it left
+-- no choice of moves at the nodes us that leaves locked nodes alone, made on d, has a lower C than o left
+abbrev pub Least : Locked → List ℕ → LockedOutcome → Type 0
+Least d us o = (ms : List ℕ) → Fits (map (movesAt (d .graph) (d .locks)) us) ms → C (o .graph) ≤ C (moved (d .graph) us ms)
+
+-- what an accepted call on d promises beside: a node, pair or tree call that it is least; settling that no such choice at one node, on a
+-- pair or on a tree lowers C then; many moves that one by one, in every order, they give the graph that it left
 abbrev pub Beside : Locked → Call → LockedOutcome → Type 0
-Beside d (nodeAt u) o = Unit
-Beside d (pairAt u k) o = Unit
-Beside d (treeAt r scratch) o =
-    (ms : List ℕ) → Fits (map (movesAt (d .graph) (d .locks)) (tree (d .graph) r)) ms → C (o .graph) ≤ C (moved (d .graph) (tree (d .graph) r) ms)
+Beside d (nodeAt u) o = Least d (u ∷ []) o
+Beside d (pairAt u k) o = isNode (d .graph) (namedBy (d .graph) u k) ≡ true → Least d (namedBy (d .graph) u k ∷ u ∷ []) o
+Beside d (treeAt r scratch) o = Least d (tree (d .graph) r) o
 Beside d (settling scratch) o = NothingLowers (o .graph) (o .locks) × RoundsReported d scratch o
 Beside d (manyAt us ms) o = (es : List Entry) → Perm (entries us ms) es → oneByOne (d .graph) es ≡ o .graph
 

@@ -1,3 +1,4 @@
 pub mod Demand
 pub mod Worked
 pub mod Trials
+pub mod Promises

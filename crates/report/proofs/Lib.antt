@@ -5,3 +5,4 @@ pub mod Outcomes
 pub mod Within
 pub mod Settles
 pub mod Worked
+pub mod Promises

@@ -17,7 +17,8 @@ use Rattle.tagged_file.specs.Load.{graphRead, loadCall}
 use Rattle.tagged_file.proofs.Whole.{passed}
 use Rattle.tagged_file.proofs.RoundTrip.{no-fault, read-is, load-admitted, load-locks}
 use Rattle.rounds.specs.Settle.{settleNumber, settleCall}
-use Rattle.report.specs.Report.{thenSettle, settledFile, reportNumber}
+use Rattle.report.specs.Report.{thenSettle, settledFile}
+use Rattle.report.specs.Promises.{AlwaysSettles}
 use Rattle.report.proofs.Room.{enough-is}
 
 settle-accepted : (g : Graph) (ls : List ℕ) (s : ℕ) → Admitted g → LockBytes (g .N) ls → 8 * g .N ≤ s → settleCall g ls s .answer .number ≡ 0
@@ -32,8 +33,7 @@ unfolding graphRead
 nodes-within file ns os ls e =
     rw (read-is file ns os ls e) (passed file (held ns) (held os) (length ls) (no-fault file ns os ls e) .head .rooms .long-nodes)
 
-pub always-settles : (file ns os ls : List ℕ) (s room : ℕ) → reportNumber (held ns) (held os) s room ≡ 0
-    → loadCall file ns os ls .answer .number ≡ 0 → settledFile file ns os ls s .answer .number ≡ 0
+pub always-settles : (file ns os ls : List ℕ) (s room : ℕ) → AlwaysSettles file ns os ls s room
 unfolding settledFile thenSettle
 always-settles file ns os ls s room k e =
     let l : LockedOutcome = loadCall file ns os ls in

@@ -24,17 +24,10 @@ use Rattle.file_checks.specs.File as file
 use Rattle.tagged_file.specs.Load.{graphRead, locksRead, loadCall}
 use Rattle.report.specs.Text.{inputsText, nodesText, outputsText, beforeText, afterText, roundsText, nodeText, majText, xorText, spaceText, outText, refusedText, numbered, line1, line2, line3, line4}
 use Rattle.report.specs.Report.{sizesLine, countsLine, nodeLine, outputLine, nodeLineAt, outputLineAt, settledText, textOf, thenSettle, settledFile}
+use Rattle.report.specs.Promises.{p1, P1Report}
 use Rattle.graph.specs.Literals.{bitOf, held, strays, evened, cleared, filled}
 
--- P1's file: I = 3, one node 3 5 7, one output 9
-abbrev p1 : List ℕ
-p1 =
-    1 ∷ 0 ∷ 12 ∷ 0 ∷ 0 ∷ 0 ∷ 3 ∷ 0 ∷ 0 ∷ 0 ∷ 1 ∷ 0 ∷ 0 ∷ 0 ∷ 1
-    ∷ 2 ∷ 0 ∷ 12 ∷ 0 ∷ 0 ∷ 0 ∷ 3 ∷ 0 ∷ 0 ∷ 0 ∷ 5 ∷ 0 ∷ 0 ∷ 0 ∷ 7
-    ∷ 4 ∷ 0 ∷ 4 ∷ 0 ∷ 0 ∷ 0 ∷ 9
-    ∷ 5 ∷ 0 ∷ 0 ∷ []
-
--- P1's with node 4 locked
+-- P1's file with node 4 locked
 abbrev p1Locked : List ℕ
 p1Locked =
     1 ∷ 0 ∷ 12 ∷ 0 ∷ 0 ∷ 0 ∷ 3 ∷ 0 ∷ 0 ∷ 0 ∷ 1 ∷ 0 ∷ 0 ∷ 0 ∷ 1
@@ -46,18 +39,6 @@ p1Locked =
 -- "inputs 3 nodes 1 outputs 1" and a newline
 abbrev text1 : List ℕ
 text1 = 105 ∷ 110 ∷ 112 ∷ 117 ∷ 116 ∷ 115 ∷ 32 ∷ 51 ∷ 32 ∷ 110 ∷ 111 ∷ 100 ∷ 101 ∷ 115 ∷ 32 ∷ 49 ∷ 32 ∷ 111 ∷ 117 ∷ 116 ∷ 112 ∷ 117 ∷ 116 ∷ 115 ∷ 32 ∷ 49 ∷ 10 ∷ []
-
--- "before 4 after 0 rounds 2" and a newline
-abbrev text2 : List ℕ
-text2 = 98 ∷ 101 ∷ 102 ∷ 111 ∷ 114 ∷ 101 ∷ 32 ∷ 52 ∷ 32 ∷ 97 ∷ 102 ∷ 116 ∷ 101 ∷ 114 ∷ 32 ∷ 48 ∷ 32 ∷ 114 ∷ 111 ∷ 117 ∷ 110 ∷ 100 ∷ 115 ∷ 32 ∷ 50 ∷ 10 ∷ []
-
--- "node 4 maj 2 4 6" and a newline
-abbrev text3 : List ℕ
-text3 = 110 ∷ 111 ∷ 100 ∷ 101 ∷ 32 ∷ 52 ∷ 32 ∷ 109 ∷ 97 ∷ 106 ∷ 32 ∷ 50 ∷ 32 ∷ 52 ∷ 32 ∷ 54 ∷ 10 ∷ []
-
--- "out 8" and a newline
-abbrev text4 : List ℕ
-text4 = 111 ∷ 117 ∷ 116 ∷ 32 ∷ 56 ∷ 10 ∷ []
 
 -- "before 4 after 4 rounds 1", "node 4 maj 3 5 7" and "out 9", a newline after each
 abbrev text5 : List ℕ
@@ -73,7 +54,7 @@ text7 = 111 ∷ 117 ∷ 116 ∷ 32 ∷ 57 ∷ 10 ∷ []
 abbrev refused6 : List ℕ
 refused6 = 114 ∷ 101 ∷ 102 ∷ 117 ∷ 115 ∷ 101 ∷ 100 ∷ 32 ∷ 54 ∷ 10 ∷ []
 
-pub p1-report : textOf (settledFile p1 (0 ∷ 0 ∷ 0 ∷ []) (0 ∷ []) (1 ∷ []) 8) ≡ text1 ++ (text2 ++ (text3 ++ text4))
+pub p1-report : P1Report
 unfolding flatMap tab sum count ifLess ifEqual first firstOf turn isXor isEdge adds wordAdds nodeAdds outputAdds C named outputNamed nodeReaders readers tablesNumber roomNumber wordNumber outputNumber literalNumber lockNumber locksNumber contentNumber admissionNumber guarded guardedLocks decimalIn decimal from choices unlessLess least best rows firstRow arity flag kindMoves lockAt movesAt at put seen own turns outputTurns turnedTable turnedBy apply isRoot last place reader rootIn rootOf members tree moved movedC bestAt rewrite isNode nodeFault wordFault rootFault scratchFault nodeNumber nodeCall namedBy pairNumber pairRewrite pairCall treeNumber treeCall difference among ownAdds otherAdds split start after each treeAt nodeAt pairAt pairsAt round settleIn settle settleNumber settleCall be2 be4 payloadOf dueNumber nodeSize third headNumber lockFieldNumber endNumber lockCount fileNumber locksFrom lockIndices file.nodeFieldNumber file.outputFieldNumber graphRead locksRead loadCall inputsText nodesText outputsText beforeText afterText roundsText nodeText majText xorText spaceText outText refusedText numbered line1 line2 line3 line4 sizesLine countsLine nodeLine outputLine nodeLineAt outputLineAt settledText textOf thenSettle settledFile held strays bitOf straysNumber strayNumber cleared evened filled
 p1-report = refl
 

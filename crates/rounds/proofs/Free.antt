@@ -10,7 +10,7 @@ use lib.ListN.{getD}
 use Rattle.graph.specs.Graph.{Graph, node}
 use Rattle.graph.specs.Count.{C}
 use Rattle.graph.specs.Admission.{Admitted, LockBytes}
-use Rattle.graph.specs.Answer.{Outcome, guarded}
+use Rattle.graph.specs.Answer.{Outcome}
 use Rattle.graph.proofs.Tests.{both, off}
 use Rattle.graph.proofs.Admit.{admitted, locks-admitted}
 use Rattle.moves.specs.Tree.{isRoot, tree}
@@ -20,6 +20,7 @@ use Rattle.moves.proofs.Locks.{rewrite-free}
 use Rattle.rounds.specs.Round.{Progress, start, after, each, treeAt, nodeAt, pairAt, pairsAt, round}
 use Rattle.rounds.specs.Settle.{settleIn, settle, settled, settleNumber, settleCall}
 use Rattle.rounds.specs.Free.{pairFree, treeFreeAt, nodeFreeAt, pairFreeAt, pairsFreeAt, roundFree, settleFreeIn, settleFree}
+use Rattle.rounds.specs.Promises.{SettleFree}
 use Rattle.rounds.proofs.Calls.{guarded-none, node-passes, pair-passes, tree-passes}
 use Rattle.rounds.proofs.Steps.{Sound, each-sound}
 use Rattle.rounds.proofs.Rounds.{tree-sound, node-sound, pair-sound, pairs-sound, round-moves}
@@ -121,8 +122,7 @@ module _ (n : ℕ) (ls : List ℕ) (ok : LockBytes n ls) (free : (v : ℕ) → v
       rw (← round-alike p f, ← settleIn-alike m q (record { adm = k .admitted; size = k .same-N ∙ f .size }))
 
 -- on every graph, refused or not
-pub settle-free : (g : Graph) (ls : List ℕ) (s : ℕ) → ((v : ℕ) → v < g .N → getD ls v 0 ≡ 0)
-    → settleCall g ls s ≡ guarded (settleNumber g ls s) g (settled g (settleFree g))
+pub settle-free : (g : Graph) (ls : List ℕ) (s : ℕ) → SettleFree g ls s
 unfolding settleCall settle settleFree settleNumber scratchFault start
 settle-free g ls s free =
     guarded-same g (settleNumber g ls s) _ _

@@ -6,3 +6,4 @@ pub mod Rest
 pub mod Scratch
 pub mod Free
 pub mod Worked
+pub mod Promises

@@ -14,6 +14,7 @@ use Rattle.graph.proofs.Admit.{admitted}
 use Rattle.moves.specs.Call.{scratchFault, treeNumber, treeCall}
 use Rattle.rounds.specs.Round.{Progress, start, after, each, treeAt, round}
 use Rattle.rounds.specs.Settle.{settleIn, settle, settled, settleNumber, settleCall}
+use Rattle.rounds.specs.Promises.{SettleSame}
 use Rattle.rounds.proofs.Rounds.{trees-sound, round-moves}
 
 enough : (g : Graph) (s : ℕ) → 8 * g .N ≤ s → scratchFault g s ≡ 0
@@ -57,7 +58,7 @@ unfolding settleNumber
 number-same g ls s l = ap (first (admissionNumber g ls)) (enough g s l)
 
 -- on every graph, for any two lengths of scratch that are long enough
-pub settle-same : (g : Graph) (ls : List ℕ) (s t : ℕ) → 8 * g .N ≤ s → 8 * g .N ≤ t → settleCall g ls s ≡ settleCall g ls t
+pub settle-same : (g : Graph) (ls : List ℕ) (s t : ℕ) → SettleSame g ls s t
 unfolding settleCall settle start
 settle-same g ls s t l m =
     rw (number-same g ls s l, number-same g ls t m)

@@ -11,7 +11,8 @@ use Rattle.graph.specs.Graph.{mark}
 use Rattle.graph.proofs.Tests.{both, on}
 use Rattle.file_checks.specs.File.{be4, nodeSize, third, outputFieldNumber, lockCount, lockFieldsNumber, outputFieldsNumber, nodeFieldsNumber, nodeWords, singleWords, afterNodes, afterSingles}
 use Rattle.tagged_file.specs.Write.{nodeFieldAt, outputFieldAt, inOrder}
-use Rattle.tagged_file.proofs.BigEndian.{Bytes, bytes-drop}
+use Rattle.tagged_file.specs.Promises.{Bytes}
+use Rattle.tagged_file.proofs.BigEndian.{bytes-drop}
 use Rattle.tagged_file.proofs.OneField.{Majority, Xor, NodeAccepted, node-accepted, node-back, output-back}
 
 -- the table l holds these words from place p on

@@ -7,10 +7,7 @@ use lib.ListN.{length, getD, drop}
 use lib.Seq.{drop-cons, getD-drop}
 use Rattle.file_checks.specs.File.{be4}
 use Rattle.tagged_file.specs.Write.{big}
-
--- a list of bytes
-abbrev pub Bytes : List ℕ → Type 0
-Bytes s = (i : ℕ) → getD s i 0 < 256
+use Rattle.tagged_file.specs.Promises.{Bytes}
 
 pub bytes-drop : (k : ℕ) (s : List ℕ) → Bytes s → Bytes (drop k s)
 bytes-drop k s h i = rw (getD-drop k s i 0) (h (k + i))

@@ -14,3 +14,4 @@ pub mod WrittenWalk
 pub mod LocksWritten
 pub mod RoundTrip
 pub mod Tried
+pub mod Promises

@@ -12,7 +12,8 @@ use Rattle.file_checks.specs.File.{be4, lockFieldNumber, lockCount, lockFieldsN
 use Rattle.file_checks.proofs.Checked.{no-lock, locks-step, locks-done, lock-passed}
 use Rattle.tagged_file.specs.Load.{among}
 use Rattle.tagged_file.specs.Write.{lockFieldAt, endField, inOrder}
-use Rattle.tagged_file.proofs.BigEndian.{Bytes, bytes-drop}
+use Rattle.tagged_file.specs.Promises.{Bytes}
+use Rattle.tagged_file.proofs.BigEndian.{bytes-drop}
 use Rattle.tagged_file.proofs.FieldBytes.{locked-field, free-field}
 use Rattle.tagged_file.proofs.Named.{among-first, among-past, indices-more}
 use Rattle.tagged_file.proofs.OneField.{lock-back, end-back}

@@ -5,8 +5,8 @@ use mathlib.Core.Path.{_≡_, refl, sym, _∙_}
 use mathlib.Core.List.{List, [], _∷_, _++_}
 use mathlib.Core.Logic.{⊎-elim, _≢_}
 use native.Mathlib.Omega.{arith}
-use lib.ListN.{length, getD, take, drop, set, length-set, length-append, List·getD-append}
-use lib.Seq.{ext-getD, getD-set-same, getD-set-other, take-at}
+use lib.ListN.{length, getD, drop, set, length-set, length-append, List·getD-append}
+use lib.Seq.{ext-getD, getD-set-same, getD-set-other}
 use Rattle.graph.specs.Finite.{first, tab}
 use Rattle.graph.specs.Admission.{LockBytes}
 use Rattle.graph.proofs.Answers.{ifEqual-le}
@@ -94,10 +94,6 @@ module _ (n : ℕ) (ls : List ℕ) where
   pub free-bytes : LockBytes n (freeLocks n ls)
   unfolding freeLocks
   free-bytes = record { enough = omega (arith, length-append (tab n (λ v. 0)) (drop n ls), long); bits = λ v h. omega (arith, free-at v h) }
-
-  pub free-front : take n (freeLocks n ls) ++ drop n ls ≡ freeLocks n ls
-  unfolding freeLocks
-  free-front = rw (take-at (tab n (λ v. 0)) (drop n ls) n long) refl
 
 -- the locks of n fields set over m free nodes
 pub all-locked : (n : ℕ) (s : List ℕ) (low m : ℕ) (ls : List ℕ) → Locks n s low (low + m) → m ≤ length ls

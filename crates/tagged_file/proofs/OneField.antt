@@ -10,7 +10,8 @@ use Rattle.graph.proofs.Cases.{eq-or-ne}
 use Rattle.graph.proofs.Tests.{equal, unequal, both, on, off}
 use Rattle.file_checks.specs.File.{be2, be4, payloadOf, nodeSize, third, dueNumber, headNumber, nodeFieldNumber, outputFieldNumber, lockFieldNumber, endNumber}
 use Rattle.tagged_file.specs.Write.{big, fieldOf, headField, nodeField, outputField, endField}
-use Rattle.tagged_file.proofs.BigEndian.{Bytes, next, four-bytes}
+use Rattle.tagged_file.specs.Promises.{Bytes}
+use Rattle.tagged_file.proofs.BigEndian.{next, four-bytes}
 use Rattle.tagged_file.proofs.FieldBytes.{node-xor, node-majority, end-is}
 use Rattle.file_checks.proofs.Checked.{due-is, size-at, payload-one, payload-two, payload-three, payload-four, payload-five, payload-six}
 

@@ -1,9 +1,4 @@
--- Loading and writing graphs with their locks are opposite to each other. From the laws on accepted files and on written ones:
--- `loads-written`: the file of an admitted graph with its locks loads as that graph with those locks;
--- `written-back`: an accepted file is the file of the graph and the locks read from it;
--- `load-admitted`, `load-locks`: what an accepted load reads is admitted;
--- `one-file`: each graph with its locks has one file;
--- `file-free`, `loads-free`: where no node is locked, the file is document 01's, and it loads with every node free.
+-- Loading and writing graphs with their locks are opposite to each other. From the laws on accepted files and on written ones.
 use Prim.Native.Nat.{ℕ, zero, suc, _+_, _*_, _/_, _%_, _<_, _≤_}
 use mathlib.Core.Path.{_≡_, refl, sym, ap, _∙_}
 use mathlib.Core.Bool.{true, false}
@@ -28,11 +23,12 @@ use Rattle.graph.proofs.Answers.{accepted-locked}
 use Rattle.file_checks.specs.File.{be4, lockCount, lockFieldsNumber, nodeFieldsNumber, fileNumber, nodeWords, singleWords, afterNodes, afterSingles, locksFrom, lockIndices}
 use Rattle.tagged_file.specs.Load.{among, graphRead, locksRead, freeLocks, loadCall}
 use Rattle.tagged_file.specs.Write.{headField, nodeFieldAt, outputFieldAt, lockFieldAt, endField, inOrder, fileOf}
-use Rattle.tagged_file.proofs.BigEndian.{Bytes, bytes-drop}
+use Rattle.tagged_file.specs.Promises.{Bytes, Accepts, AcceptedFile, SameGraph, OneFile, LoadsWritten, fileFree, WithoutLocks}
+use Rattle.tagged_file.proofs.BigEndian.{bytes-drop}
 use Rattle.file_checks.proofs.Checked.{head-passed}
 use Rattle.tagged_file.proofs.FieldBytes.{free-field}
 use Rattle.tagged_file.proofs.Filled.{length-nodeWords, length-singleWords}
-use Rattle.tagged_file.proofs.Named.{among-le, free-at, free-bytes, free-front}
+use Rattle.tagged_file.proofs.Named.{among-le, free-at, free-bytes}
 use Rattle.tagged_file.proofs.Whole.{guarded-number}
 use Rattle.tagged_file.proofs.OneField.{head-back}
 use Rattle.tagged_file.proofs.ReadBack.{HeadRead, head-read}
@@ -42,9 +38,6 @@ use Rattle.tagged_file.proofs.Accepted.{outputs-back, nodes-back, after
 use Rattle.tagged_file.proofs.LocksAccepted.{locks-back}
 
 -- a load is accepted just where no fault is found, and then its graph and its locks are those read
-abbrev pub Accepts : List ℕ → List ℕ → List ℕ → List ℕ → Type 0
-Accepts s ns os ls = loadCall s ns os ls .answer .number ≡ 0
-
 module _ (s ns os ls : List ℕ) where
   pub no-fault : Accepts s ns os ls → fileNumber s (held ns) (held os) (length ls) ≡ 0
   unfolding loadCall
@@ -164,14 +157,8 @@ module _ (s ns os ls : List ℕ) where
   pub written-back : Bytes s → Accepts s ns os ls → fileOf (loadCall s ns os ls .graph) (loadCall s ns os ls .locks) ≡ s
   written-back h e = rw (read-is s ns os ls e) (read-back h (no-fault s ns os ls e))
 
--- the same graph with the same locks, in tables and bytes whose tails may differ
-pub record SameGraph (g h : Graph) (ls ks : List ℕ) : Type 0 where
-  pub inputs : g .I ≡ h .I
-  pub nodes : g .N ≡ h .N
-  pub outputs : g .O ≡ h .O
-  pub words : (j : ℕ) → j < 3 * g .N → word g j ≡ word h j
-  pub output-words : (j : ℕ) → j < g .O → output g j ≡ output h j
-  pub locks : (v : ℕ) → v < g .N → getD ls v 0 ≡ getD ks v 0
+  pub accepted-file : AcceptedFile s ns os ls
+  accepted-file = record { load-admitted = load-admitted; load-locks = load-locks; written-back = written-back }
 
 inOrder-same : (f h : ℕ → List ℕ) (v n : ℕ) → ((j : ℕ) → j < v + n → f j ≡ h j) → inOrder f v n ≡ inOrder h v n
 inOrder-same f h v zero e = refl
@@ -200,8 +187,7 @@ module _ (g h : Graph) (ls ks : List ℕ) (same : SameGraph g h ls ks) where
       rw (a, b, c, same .inputs, same .nodes, same .outputs)
 
 -- each graph with its locks has one file: two accepted files that read the same are equal
-pub one-file : (s ns os ls s′ ns′ os′ ls′ : List ℕ) → Bytes s → Bytes s′ → Accepts s ns os ls → Accepts s′ ns′ os′ ls′
-    → SameGraph (loadCall s ns os ls .graph) (loadCall s′ ns′ os′ ls′ .graph) (loadCall s ns os ls .locks) (loadCall s′ ns′ os′ ls′ .locks) → s ≡ s′
+pub one-file : (s ns os ls s′ ns′ os′ ls′ : List ℕ) → OneFile s ns os ls s′ ns′ os′ ls′
 one-file s ns os ls s′ ns′ os′ ls′ h h′ e e′ same =
     sym (written-back s ns os ls h e) ∙ file-same _ _ _ _ same ∙ written-back s′ ns′ os′ ls′ h′ e′
 
@@ -311,10 +297,7 @@ module _ (g : Graph) (ks : List ℕ) (a : Admitted g) (k : LockBytes (g .N) ks) 
   unfolding locksRead locksFrom
   locks-is = let r = written-read in rw (r .inputs, r .nodes, r .outputs, r .after, after-is, outputs-after-is, locks-are) refl
 
-  pub loads-written : loadCall (fileOf g ks) ns os ls
-      ≡ lockedOutcome (accepted (g .I ∷ g .N ∷ g .O ∷ []))
-      (graphOf (g .I) (g .N) (g .O) (filled (take (3 * g .N) (g .nodes)) ns) (filled (take (g .O) (g .outputs)) os))
-      (take (g .N) ks ++ drop (g .N) ls)
+  pub loads-written : LoadsWritten g ks ns os ls
   unfolding loadCall
   loads-written = let r = written-read in sym (accepted-locked _ _ _ _ written-number) ∙ rw (r .inputs, r .nodes, r .outputs, graph-is, locks-is) refl
 
@@ -324,16 +307,16 @@ unlocked i ls v zero e = refl
 unlocked i ls v (suc n) e = rw (free-field i ls v (λ q. omega (arith, e v (omega arith))), unlocked i ls (v + 1) n (λ j l. e j (omega arith))) refl
 
 module _ (g : Graph) where
-  pub file-free : (ls : List ℕ) → ((v : ℕ) → v < g .N → getD ls v 0 ≡ 0)
-      → fileOf g ls ≡ headField (g .I) (g .N) (g .O) ++ (inOrder (nodeFieldAt (g .nodes)) 0 (g .N) ++ (inOrder (outputFieldAt (g .outputs)) 0 (g .O) ++ endField))
+  file-free : (ls : List ℕ) → ((v : ℕ) → v < g .N → getD ls v 0 ≡ 0) → fileOf g ls ≡ fileFree g
   unfolding fileOf
   file-free ls h = rw (unlocked (g .I + 1) ls 0 (g .N) (λ j l. h j (omega arith))) refl
 
   -- it loads as its graph, with every node free
-  pub loads-free : Admitted g → (ns os ls : List ℕ) → 3 * g .N ≤ held ns → g .O ≤ held os → g .N ≤ length ls
-      → loadCall (headField (g .I) (g .N) (g .O) ++ (inOrder (nodeFieldAt (g .nodes)) 0 (g .N) ++ (inOrder (outputFieldAt (g .outputs)) 0 (g .O) ++ endField))) ns os ls
-      ≡ lockedOutcome (accepted (g .I ∷ g .N ∷ g .O ∷ []))
-      (graphOf (g .I) (g .N) (g .O) (filled (take (3 * g .N) (g .nodes)) ns) (filled (take (g .O) (g .outputs)) os)) (freeLocks (g .N) ls)
-  loads-free a ns os ls x y z =
-      let ks : List ℕ = freeLocks (g .N) ls in
-      rw (← file-free ks (free-at (g .N) ls)) (loads-written g ks a (free-bytes (g .N) ls) ns os ls x y z ∙ rw (free-front (g .N) ls) refl)
+  pub without-locks : WithoutLocks g
+  without-locks =
+      record {
+        file-free = file-free;
+        loads-free = λ a ns os ls x y z.
+            let ks : List ℕ = freeLocks (g .N) ls in
+            rw (← file-free ks (free-at (g .N) ls)) (loads-written g ks a (free-bytes (g .N) ls) ns os ls x y z);
+      }

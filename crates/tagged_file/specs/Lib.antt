@@ -1,3 +1,4 @@
 pub mod Load
 pub mod Write
 pub mod Inner
+pub mod Promises

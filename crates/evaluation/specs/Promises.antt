@@ -1,0 +1,18 @@
+-- What an evaluation promises beside its definition.
+use mathlib.Core.Path.{_≡_}
+use mathlib.Core.List.{List}
+use Prim.Native.Nat.{ℕ, _<_}
+use lib.ListN.{length, getD}
+use Rattle.graph.specs.Graph.{Graph}
+use Rattle.graph.specs.Literals.{bit}
+use Rattle.graph.specs.Value.{outputValue}
+use Rattle.evaluation.specs.Evaluation.{assignmentAt, evaluateNumber, resultsAfter}
+
+-- where nothing is refused, bit j of result o is the output's value under the assignment of place j
+abbrev pub ResultBit : Graph → (words ls : List ℕ) → ℕ → List ℕ → Type 0
+ResultBit g words ls s results =
+    evaluateNumber g ls (length words) s (length results) ≡ 0
+    → (o j : ℕ) → o < g .O → j < 64 → bit j (getD (resultsAfter g ls words s results) o 0) ≡ outputValue g (assignmentAt words j) o
+
+pub record Promises : Type 0 where
+  pub result-bit : (g : Graph) (words ls : List ℕ) (s : ℕ) (results : List ℕ) → ResultBit g words ls s results

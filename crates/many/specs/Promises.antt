@@ -1,0 +1,8 @@
+-- What many moves promise beside their definition.
+use mathlib.Core.List.{List}
+use Prim.Native.Nat.{ℕ}
+use Rattle.graph.specs.Graph.{Graph}
+use Rattle.many.specs.Many.{EveryOrder}
+
+pub record Promises : Type 0 where
+  pub every-order : (g : Graph) (ls us ms : List ℕ) → EveryOrder g ls us ms

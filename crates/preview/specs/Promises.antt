@@ -1,0 +1,11 @@
+-- What a preview promises beside its definition.
+use mathlib.Core.Path.{_≡_}
+use mathlib.Core.List.{List}
+use Prim.Native.Nat.{ℕ}
+use lib.ListN.{length}
+use Rattle.graph.specs.Graph.{Graph}
+use Rattle.preview.specs.Preview.{previewNumber, AsTreeCall, AsList}
+
+pub record Promises : Type 0 where
+  pub as-tree-call : (g : Graph) (ls bs : List ℕ) (s r : ℕ) → AsTreeCall g ls bs s r
+  pub as-list : (g : Graph) (ls bs : List ℕ) (s r : ℕ) → previewNumber g ls (length bs) s r ≡ 0 → AsList g ls bs s r

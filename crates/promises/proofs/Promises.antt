@@ -1,0 +1,15 @@
+-- The promises of crate promises, each from its proof.
+use Rattle.promises.specs.Promises.{Promises}
+use Rattle.promises.proofs.Lists.{demand, after-load, after-import}
+use Rattle.promises.proofs.Worked as worked
+use Rattle.promises.proofs.Trials as trials
+
+pub promises : Promises
+promises =
+    record {
+      demand = demand;
+      after-load = after-load;
+      after-import = after-import;
+      worked-graphs = worked.right;
+      worked-trials = trials.right;
+    }
