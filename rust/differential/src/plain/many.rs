@@ -1,5 +1,5 @@
-//! Many moves together. A node's move is looked up by binary search in the rising list, so that nothing is kept beside the tables. Turned
-//! bits are gathered and stored a word at a time.
+//! Many moves together. Nodes go by rising index, and the list is walked beside them; the moves of the nodes that their words name are looked
+//! up by binary search, so that nothing is kept beside the tables. Turned bits are gathered and stored a word at a time.
 
 use super::bits::{bit, bits_of, words_for, Gather};
 use super::calls::{is_node, Tables};
@@ -61,15 +61,13 @@ struct Moves<'a> {
 }
 
 impl Moves<'_> {
-    /// What the move of a node turns.
-    fn turned(&self, node: u32) -> [u32; 4] {
-        match self.list.binary_search(&node) {
-            Ok(at) => {
-                let third = 3 * (node - self.inputs) as usize - 1;
-                *flags(self.node_table[third] == MARK, self.moves[at].into())
-            }
-            Err(_) => [0; 4],
+    /// What the move at a place of the list turns, if it is this node's.
+    fn turned_at(&self, node: u32, at: usize) -> Option<&[u32; 4]> {
+        if self.list.get(at) != Some(&node) {
+            return None;
         }
+        let third = 3 * (node - self.inputs) as usize - 1;
+        Some(flags(self.node_table[third] == MARK, self.moves[at].into()))
     }
 
     /// Whether the readers of an index are turned.
@@ -77,14 +75,17 @@ impl Moves<'_> {
         if index <= self.inputs || index == MARK {
             return 0;
         }
-        self.turned(index)[3]
+        self.list.binary_search(&index).ok().and_then(|at| self.turned_at(index, at)).map_or(0, |turned| turned[3])
     }
 }
 
 fn turn_nodes(moves: Moves, bits: &mut [u64]) {
     let mut gathered = Gather::new(bits);
+    let mut at = 0;
     for (v, indices) in moves.node_table.chunks_exact(3).enumerate() {
-        let own = moves.turned(moves.inputs + 1 + v as u32);
+        let turned = moves.turned_at(moves.inputs + 1 + v as u32, at);
+        at += turned.is_some() as usize;
+        let own = turned.unwrap_or(&[0; 4]);
         let [x, y, z] = [0, 1, 2].map(|k| own[k] ^ moves.read(indices[k]));
         gathered.three(bits_of(gathered.bits, v) ^ (x | y << 1 | z << 2));
     }

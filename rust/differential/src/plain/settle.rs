@@ -33,6 +33,10 @@ impl Kept {
     pub(super) fn own(&self) -> u32 {
         self.turns >> 1
     }
+
+    pub(super) fn pending(&self) -> u32 {
+        self.turns & PENDING
+    }
 }
 
 /// The wiring, and what is kept of each node.
@@ -134,7 +138,7 @@ impl<'a> State<'a> {
     /// What a word costs as it stands and turned: nothing where it is the mark.
     fn word_costs(&self, (index, bit): (u32, u32)) -> [u32; 2] {
         let counts = (index != MARK) as u32;
-        let pending = self.kept.get(self.node_of(index)).map_or(0, |node| node.turns & PENDING);
+        let pending = self.kept.get(self.node_of(index)).map_or(0, |node| node.pending());
         bit_costs(bit ^ pending).map(|cost| counts & cost)
     }
 
@@ -147,7 +151,7 @@ impl<'a> State<'a> {
     fn edge_costs(&self, (index, bit): (u32, u32)) -> [u32; 2] {
         match self.kept.get(self.node_of(index)) {
             Some(node) if node.place != MARK => {
-                let bit = bit ^ (node.turns & PENDING);
+                let bit = bit ^ node.pending();
                 [node.costs >> bit & 1, node.costs >> (1 - bit) & 1]
             }
             _ => self.word_costs((index, bit)),
@@ -179,7 +183,7 @@ impl<'a> State<'a> {
         self.kept[v].turns ^= 2 << k;
         let u = self.node_of(self.indices[v][k]);
         if let Some(node) = self.kept.get_mut(u) {
-            if bit ^ (node.turns & PENDING) == 1 {
+            if bit ^ node.pending() == 1 {
                 node.odd -= 1;
             } else {
                 node.odd += 1;
@@ -206,29 +210,12 @@ impl<'a> State<'a> {
         self.odd[1] += u64::from(odd[1]);
     }
 
-    /// Of all readers of the tree's nodes, only the root's are outside.
+    /// A tree decided, then its moves made. Of all readers of its nodes, only the root's are outside.
     fn tree_step(&mut self, root: usize) {
         let before = self.kept[root].odd;
-        self.make_tree(root);
+        self.decide_tree(root);
+        self.make_decided(root);
         self.add_odd([before, self.kept[root].odd]);
-    }
-
-    fn make_tree(&mut self, root: usize) {
-        self.store_tree_costs(root);
-        let lowest = self.kept[root].lowest as usize;
-        let mut v = root;
-        loop {
-            let own = self.own_numbers(v);
-            let number = Numbers { costs: self.tree_costs(v), ..own }.best().number;
-            if number != 0 {
-                self.count = self.count + own.cost(number) - own.cost(0);
-                self.make(v, number);
-            }
-            if v == lowest {
-                return;
-            }
-            v = self.kept[v].below as usize;
-        }
     }
 
     fn node_step(&mut self, v: usize) {

@@ -12,7 +12,8 @@ impl State<'_> {
     fn shown(&self, v: usize) -> u32 {
         let place = self.kept[v].place as usize;
         let (reader, k) = (place / 3, place % 3);
-        (self.kept[reader].own() >> k & 1) ^ flags(self.is_xor(reader), self.kept[reader].costs)[k]
+        let bit = self.kept[reader].own() >> k & 1 ^ self.kept[v].pending();
+        bit ^ flags(self.is_xor(reader), self.kept[reader].costs)[k]
     }
 
     /// A decided node's costs are looked at no more: its move takes their place.
