@@ -27,7 +27,7 @@
  *   free one. Every function that takes a graph takes its locks after its tables and tests them, also where nothing turns. A
  *   locked node has only move 0 in every call, and the best moves are the best of those that leave locked nodes at move 0; its
  *   own words may still turn, by moves of the nodes that they name. A call may name a locked node, and a tree call a locked root;
- *   reducer_many refuses a move other than 0 at one.
+ *   reducer_many and reducer_trial refuse a move other than 0 at one.
  *
  *   Moves turn bits alone. Only reducer_load, reducer_import and reducer_replay change indices and locks: they fill them.
  *
@@ -42,8 +42,8 @@
  *   results, moves, buffer, answers and that last number or those arrays are as they were. The first fault is returned, in the
  *   order of the numbers 3, 4, 5, 13, 7, 8, 9, all literals and bits being tested before any lock; loading meets its file from
  *   front to back, importing its text line by line, each line being tested for 10, 11, 12, 3, 4, 5 in that order, many moves their
- *   list entry by entry, after 3, 4, 5 and 13, each entry being tested for 7, 14, 15, 16 in that order, and a replay its calls and
- *   answers before its file.
+ *   list entry by entry, after 3, 4, 5 and 13, each entry being tested for 7, 14, 15, 16 in that order, a trial its two moves, each
+ *   for 15 and 16, after 7, and a replay its calls and answers before its file.
  *   Scratch holds nothing of use before or after a call.
  *
  *   A saving is two numbers, of which either may be below 0: how many complemented edges fewer there are, first among the words
@@ -284,7 +284,8 @@ uint32_t reducer_pair(uint32_t inputs, uint32_t nodes, uint32_t outputs,
 /*
  * What two moves would save, with nothing changed: named_move at the node that word 1, 2 or 3 of a node names, and node_move at
  * the node. gain is the number of complemented edges before less that after, below 0 where there would be more; 0 for a word that
- * names no node. A move that a node's kind lacks, or any at a locked node, turns nothing. Refusals: 3, 4, 5, 13, 7.
+ * names no node, and then named_move is not looked at. Refusals: 3, 4, 5, 13, 7, 15, 16, those of named_move before those of
+ * node_move.
  */
 uint32_t reducer_trial(uint32_t inputs, uint32_t nodes, uint32_t outputs,
                        const uint32_t *node_table, size_t node_table_length,

@@ -636,8 +636,8 @@ class Graph:
         return Saving(*saving)
 
     def trial(self, node: int, word: int, named_move: int, node_move: int) -> int:
-        """What a move at the node that a word (1 to 3) names and one at the node would save; less than 0 where they lose. A move that a
-        node's kind lacks, or any at a locked node, turns nothing."""
+        """What a move at the node that a word (1 to 3) names and one at the node would save; less than 0 where they lose, 0 for a word that
+        names no node. A move that a node's kind lacks is refused by 15, one other than 0 at a locked node by 16."""
         given = [("node", node), ("word", word), ("named_move", named_move), ("node_move", node_move)]
         numbers, gain = [_number(value, 32, what) for what, value in given], _I64()
         _call(_trial, *self._lent(), *numbers, ctypes.byref(gain))

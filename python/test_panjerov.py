@@ -199,8 +199,7 @@ class Good(unittest.TestCase):
             self.assertEqual(graph.settle(), (1, 4, 4, 0, 0))
             self.assertEqual(graph, Graph(5, p3, [15], locked))
         twice = Graph(2, [3, 5, 0, 7, 7, 3], [9], [3])
-        moves = [(0, 0), (0, 1), (1, 0), (1, 1)]
-        self.assertEqual([twice.trial(4, 1, *both) for both in moves], [0, 4, 0, 4])
+        self.assertEqual([twice.trial(4, 1, 0, move) for move in range(2)], [0, 4])
         graph = Graph(3, [3, 4, 6, 3, 5, 8], [9, 9, 11], [4])
         self.assertEqual(graph.settle(), (2, 6, 4, 1, 1))
         self.assertEqual(graph, Graph(3, [3, 4, 6, 2, 4, 9], [9, 9, 10], [4]))
@@ -284,12 +283,12 @@ class Good(unittest.TestCase):
 
     def test_trials(self) -> None:
         graph = Graph(5, [3, 5, 6, 12, 9, 10], [15])
-        moves = [(0, 0), (0, 1), (1, 0), (1, 1), (0, 2), (2**32 - 1, 1)]
-        self.assertEqual([graph.trial(7, 1, *both) for both in moves], [0, 0, 0, 2, 0, 0])
+        moves = [(0, 0), (0, 1), (1, 0), (1, 1)]
+        self.assertEqual([graph.trial(7, 1, *both) for both in moves], [0, 0, 0, 2])
         self.assertEqual(graph, Graph(5, [3, 5, 6, 12, 9, 10], [15]))
         graph = Graph(2, [2, 4, 0, 6, 2, MARK], [8])
         self.assertEqual([graph.trial(4, 1, 1, move) for move in range(4)], [-4, -4, -4, -6])
-        self.assertEqual(graph.trial(4, 2, 1, 1), 0)
+        self.assertEqual(graph.trial(4, 2, 2**32 - 1, 3), 0)
 
     def test_settling(self) -> None:
         graph = p1()
@@ -460,6 +459,14 @@ class Bad(unittest.TestCase):
             getattr(graph, call)(*arguments)
         self.assertEqual(caught.exception.number, number)
         self.assertEqual(repr(graph), before)
+
+    def test_refused_trials(self) -> None:
+        graph = Graph(5, [3, 5, 6, 12, 9, 10], [15], [6])
+        told = [(15, 2, 0), (16, 1, 0), (16, 1, 2), (15, 0, 2), (15, 2**32 - 1, 1), (15, 0, 2**32 - 1)]
+        for number, named_move, node_move in told:
+            self.refused(number, graph, "trial", 7, 1, named_move, node_move)
+        self.refused(15, graph, "trial", 7, 2, 0, 2)
+        self.refused(7, graph, "trial", 7, 4, 2, 2)
 
     def test_refusals(self) -> None:
         self.refused(7, p1(), "node_call", 3)

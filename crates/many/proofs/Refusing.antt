@@ -1,41 +1,24 @@
 -- What refuses an entry, met by the tests on the way; that every number is a refusal's; and what an accepted list has. From the laws on
 -- tests and on admission.
 use mathlib.Core.Path.{_≡_, refl}
-use mathlib.Core.Bool.{Bool, true, false}
 use mathlib.Core.List.{List}
 use mathlib.Core.Logic.{_≢_}
 use Prim.Native.Nat.{ℕ, zero, suc, _+_, _-_, _≤_, _<_}
 use native.Mathlib.Omega.{arith}
 use lib.ListN.{length, getD}
-use Rattle.graph.specs.Finite.{ifLess, ifEqual, first}
-use Rattle.graph.specs.Graph.{Graph, node, isXor}
+use Rattle.graph.specs.Finite.{ifLess, first}
+use Rattle.graph.specs.Graph.{Graph, node}
 use Rattle.graph.specs.Admission.{Admitted, tablesNumber, contentNumber}
 use Rattle.graph.specs.Answer.{IsRefusal}
 use Rattle.graph.proofs.Tests.{less, no-less, none, both, on, off, each-none}
-use Rattle.graph.proofs.Answers.{ifLess-le, ifEqual-le, first-le, firstOf-le, tables-le, content-le}
+use Rattle.graph.proofs.Answers.{ifLess-le, first-le, firstOf-le, tables-le, content-le}
 use Rattle.graph.proofs.Admit.{admitted-by}
-use Rattle.moves.specs.Rows.{arity, kindMoves}
-use Rattle.moves.specs.Call.{nodeFault}
-use Rattle.moves.proofs.Known.{node-known, node-fault-le}
-use Rattle.moves.proofs.Moves.{kind-moves, lock-of}
-use Rattle.many.specs.Many.{risingFault, moveFault, lockedFault, entryNumber, listNumber, manyNumber}
+use Rattle.moves.specs.Rows.{kindMoves}
+use Rattle.moves.specs.Call.{nodeFault, moveNumber}
+use Rattle.moves.proofs.Known.{node-known, node-fault-le, move-number-le, kind-has}
+use Rattle.many.specs.Many.{risingFault, entryNumber, listNumber, manyNumber}
 use Rattle.many.specs.Making.{Listed}
 use Rattle.many.proofs.Halving.{rises-by}
-
--- a kind has two moves or four
-pub some-moves : (x : Bool) (m : ℕ) → m < 2 → _≡_ {A = ℕ} 0 (ifLess m (arity x) 0 15)
-unfolding arity
-some-moves true m h = less m 4 0 15 (omega arith) refl
-some-moves false m h = less m 2 0 15 h refl
-
-pub no-moves : (x : Bool) (m : ℕ) → 4 ≤ m → _≡_ {A = ℕ} 15 (ifLess m (arity x) 0 15)
-unfolding arity
-no-moves true m h = no-less m 4 0 15 h refl
-no-moves false m h = no-less m 2 0 15 (omega arith) refl
-
-pub moves-of-kind : (x : Bool) (m : ℕ) → m < 4 → 2 ≤ m → (x ≡ true → _≡_ {A = ℕ} 0 (ifLess m (arity x) 0 15)) × (x ≡ false → _≡_ {A = ℕ} 15 (ifLess m (arity x) 0 15))
-unfolding arity
-moves-of-kind x m h l = ((λ e. rw e (less m 4 0 15 h refl)), (λ e. rw e (no-less m 2 0 15 l refl)))
 
 -- an entry is above the one before
 pub first-rises : (us : List ℕ) (j : ℕ) → j ≡ 0 → 0 ≡ risingFault us j
@@ -74,20 +57,16 @@ module _ (g : Graph) (ls us ms : List ℕ) (j : ℕ) where
   entry-place zero (suc b) k p q e n = rw (← p, ← q) e
   entry-place (suc a) b k p q e n = rw (← p) e
 
-  pub entry-move : (v m x y k : ℕ) (b : Bool) → nodeFault g u ≡ 0 → risingFault us j ≡ 0 → v ≡ u - (g .I + 1) → b ≡ isXor g v → m ≡ getD ms j 0
-      → x ≡ ifLess m (arity b) 0 15 → y ≡ ifEqual (getD ls v 0) 1 (ifEqual m 0 0 16) 0 → k ≡ first x y → k ≡ entryNumber g ls us ms j
-  unfolding entryNumber moveFault lockedFault
-  entry-move v m x y k b n r e f s p q z =
-      let w = node-known g u n in
-      let i : u ≡ node g v = omega (arith, w .0) in
-      none _ _ n (none _ _ r (rw (← s, i, kind-moves g v, ← f, lock-of g ls v (omega (arith, w .1)), ← p, ← q) z))
+  pub entry-move : (m k : ℕ) → nodeFault g u ≡ 0 → risingFault us j ≡ 0 → m ≡ getD ms j 0 → k ≡ moveNumber g ls (node g (u - (g .I + 1))) m → k ≡ entryNumber g ls us ms j
+  unfolding entryNumber
+  entry-move m k n r s q =
+      let i : node g (u - (g .I + 1)) ≡ u = omega (arith, node-known g u n .0) in
+      none _ _ n (none _ _ r (rw (← s) (rw i at q)))
 
   -- every number is a refusal's
   entry-le : entryNumber g ls us ms j ≤ 16
-  unfolding entryNumber moveFault lockedFault
-  entry-le =
-      first-le _ _ 16 (omega (arith, node-fault-le g u))
-      (first-le _ _ 16 (rising-le us j) (first-le _ _ 16 (ifLess-le _ _ 0 15 16 (omega arith) (omega arith)) (ifEqual-le _ 1 _ 0 16 (ifEqual-le _ 0 0 16 16 (omega arith) (omega arith)) (omega arith))))
+  unfolding entryNumber
+  entry-le = first-le _ _ 16 (omega (arith, node-fault-le g u)) (first-le _ _ 16 (rising-le us j) (move-number-le g ls u (getD ms j 0)))
 
   -- what an accepted entry is
   pub entry-rises : entryNumber g ls us ms j ≡ 0 → risingFault us j ≡ 0
@@ -95,8 +74,8 @@ module _ (g : Graph) (ls us ms : List ℕ) (j : ℕ) where
   entry-rises e = both _ _ (both _ _ e .1) .0
 
   pub entry-has : entryNumber g ls us ms j ≡ 0 → getD ms j 0 < kindMoves g u
-  unfolding entryNumber moveFault
-  entry-has e = on _ _ 14 0 (both _ _ (both _ _ (both _ _ e .1) .1) .0) .0
+  unfolding entryNumber
+  entry-has e = kind-has g ls u (getD ms j 0) (both _ _ (both _ _ e .1) .1)
 
 module _ (g : Graph) (ls us ms : List ℕ) where
   pub many-range : (k : ℕ) → k ≡ manyNumber g ls us ms → k ≢ 0 → IsRefusal k

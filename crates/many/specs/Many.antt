@@ -3,34 +3,24 @@ use mathlib.Core.Path.{_≡_}
 use mathlib.Core.List.{List, [], _∷_, Perm}
 use Prim.Native.Nat.{ℕ, zero, suc}
 use lib.ListN.{length, getD}
-use Rattle.graph.specs.Finite.{ifLess, ifEqual, first, firstOf}
+use Rattle.graph.specs.Finite.{ifLess, first, firstOf}
 use Rattle.graph.specs.Graph.{Graph}
 use Rattle.graph.specs.Count.{C}
 use Rattle.graph.specs.Difference.{difference}
 use Rattle.graph.specs.Admission.{tablesNumber, contentNumber}
 use Rattle.graph.specs.Answer.{whole, Outcome, outcome, guarded}
-use Rattle.moves.specs.Rows.{kindMoves, lockAt}
-use Rattle.moves.specs.Call.{moved, nodeFault}
+use Rattle.moves.specs.Call.{moved, nodeFault, moveNumber}
 
 -- 14: the index of entry j of the nodes us is not above that of the entry before
 unfoldable pub risingFault : List ℕ → ℕ → ℕ
 risingFault us zero = 0
 risingFault us (suc j) = ifLess (getD us j 0) (getD us (suc j) 0) 0 14
 
--- 15: a move number that the node's kind lacks
-unfoldable pub moveFault : Graph → ℕ → ℕ → ℕ
-moveFault g u m = ifLess m (kindMoves g u) 0 15
-
--- 16: a move other than 0 at a locked node
-unfoldable pub lockedFault : Graph → List ℕ → ℕ → ℕ → ℕ
-lockedFault g ls u m = ifEqual (lockAt g ls u) 1 (ifEqual m 0 0 16) 0
-
 -- what refuses entry j of the nodes us with the moves ms, and the first entry that is refused
 unfoldable pub entryNumber : Graph → List ℕ → List ℕ → List ℕ → ℕ → ℕ
 entryNumber g ls us ms j =
     let u = getD us j 0 in
-    let m = getD ms j 0 in
-    first (nodeFault g u) (first (risingFault us j) (first (moveFault g u m) (lockedFault g ls u m)))
+    first (nodeFault g u) (first (risingFault us j) (moveNumber g ls u (getD ms j 0)))
 
 unfoldable pub listNumber : Graph → List ℕ → List ℕ → List ℕ → ℕ
 listNumber g ls us ms = firstOf (length us) (entryNumber g ls us ms)

@@ -3,18 +3,16 @@ ghost use mathlib.Core.Path.{_≡_};
 ghost use mathlib.Core.List.{List};
 ghost use Prim.Native.Nat.{ℕ, _≤_, _<_};
 ghost use lib.ListN.{length};
-ghost use Rattle.graph.specs.Finite.{ifLess, ifEqual};
 ghost use Rattle.graph.specs.Graph.{graphOf};
 ghost use Rattle.graph.specs.Literals.{graphIn, literals};
-ghost use Rattle.moves.specs.Rows.{arity};
 ghost use Rattle.many.specs.Many.{risingFault, entryNumber, listNumber, manyNumber};
 ghost use Rattle.many.specs.Making.{Rooms};
 use graph::faults::content_number;
 use graph::faults::first_fault;
 use graph::faults::tables_number;
 use graph::table::byte_at;
+use moves::faults::move_number;
 use moves::faults::node_fault;
-use moves::rows;
 
 // 14 where entry j is not above the entry before.
 pub fn rising_fault(list: &[u32], j: usize) -> u32
@@ -28,35 +26,6 @@ pub fn rising_fault(list: &[u32], j: usize) -> u32
         return 0;
     }
     14
-}
-
-// 15 where a kind lacks move m.
-pub fn move_fault(xor: bool, m: u32) -> u32
-    ensures { λ r. ⌜ r ≡ ifLess m (arity xor) 0 15 ⌝ }
-{
-    if m < 2 {
-        return 0;
-    }
-    if 4 <= m {
-        return 15;
-    }
-    if xor {
-        return 0;
-    }
-    15
-}
-
-// 16 where a locked node would have a move other than 0.
-pub fn locked_fault(lock: u8, m: u32) -> u32
-    ensures { λ r. ⌜ r ≡ ifEqual lock 1 (ifEqual m 0 0 16) 0 ⌝ }
-{
-    if lock != 1 {
-        return 0;
-    }
-    if m == 0 {
-        return 0;
-    }
-    16
 }
 
 pub fn entry_number(
@@ -82,10 +51,7 @@ pub fn entry_number(
     }
     let m = byte_at(bytes, j);
     let v = (u - (inputs + 1)) as usize;
-    first_fault(
-        move_fault(rows::is_xor(node_table, node_bits, v), m),
-        locked_fault(locks[v], m),
-    )
+    move_number(node_table, node_bits, locks, v, m)
 }
 
 pub fn list_number(

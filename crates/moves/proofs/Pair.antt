@@ -15,11 +15,9 @@ use mir.Val.{toZ, ofZ}
 use Rattle.graph.specs.Admission.{Admitted}
 use Rattle.graph.specs.Count.{C}
 use Rattle.graph.specs.Difference.{difference}
-use Rattle.graph.specs.Finite.{ifLess}
 use Rattle.graph.specs.Graph.{Graph, node}
 use Rattle.graph.proofs.Cases.{lt-or-le}
 use Rattle.graph.proofs.Difference.{at-least, same-difference, greater-is, read-back}
-use Rattle.graph.proofs.Tests.{less, no-less}
 use Rattle.choice.specs.Choice.{FirstBelow}
 use Rattle.moves.specs.Apply.{none, at, put, apply}
 use Rattle.moves.specs.Call.{moved, movedC}
@@ -217,11 +215,3 @@ module _ (p n : NodeNumbers) (w : List ℕ) (i : Counted p) (j : Counted n) wher
     pub won-saving : (r : ℕ) → r ≡ natAbs (toZ w64 (ofZ w64 (b .saving))) → pos r ≡ pairSaving p n w (b .number / n .moves) (b .number % n .moves)
     unfolding savingNumbered
     won-saving r e = ap pos e ∙ sym (not-negative .0) ∙ numbered-back (b .number) (b .saving) (h .saving)
-
--- a move that a node lacks is as move 0, which it has
-pub had-fits : (m s : ℕ) → 0 < s → ifLess m s m 0 < s
-had-fits m s z =
-    ⊎-elim
-    (λ (h : m < s). rw (← less {k = m} m s m 0 h refl) h)
-    (λ (h : s ≤ m). rw (← no-less {k = 0} m s m 0 h refl) z)
-    (lt-or-le m s)

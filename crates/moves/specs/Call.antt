@@ -4,13 +4,13 @@ use mathlib.Core.List.{List, [], _∷_, map}
 use Prim.Native.Nat.{ℕ, _+_, _-_, _*_}
 use lib.Dec.{ltb, leb}
 use lib.IntN.{pos}
-use Rattle.graph.specs.Finite.{ifLess, first}
+use Rattle.graph.specs.Finite.{ifLess, ifEqual, first}
 use Rattle.graph.specs.Graph.{Graph, node, word, index, isXor}
 use Rattle.graph.specs.Count.{C}
 use Rattle.graph.specs.Admission.{admissionNumber}
 use Rattle.graph.specs.Answer.{Answer, refused, gained, numberOf, Outcome, outcome, guarded}
 use Rattle.choice.specs.Choice.{best}
-use Rattle.moves.specs.Rows.{movesAt}
+use Rattle.moves.specs.Rows.{kindMoves, lockAt, movesAt}
 use Rattle.moves.specs.Apply.{none, put, apply}
 use Rattle.moves.specs.Tree.{isRoot, tree}
 use Rattle.moves.specs.Split.{split}
@@ -60,6 +60,18 @@ rootFault g r = cond (isRoot g r) 0 7
 -- 8: scratch of s words, where 8 × N are needed
 unfoldable pub scratchFault : Graph → ℕ → ℕ
 scratchFault g s = ifLess s (8 * g .N) 8 0
+
+-- 15: a move number that the node's kind lacks
+unfoldable pub moveFault : Graph → ℕ → ℕ → ℕ
+moveFault g u m = ifLess m (kindMoves g u) 0 15
+
+-- 16: a move other than 0 at a locked node
+unfoldable pub lockedFault : Graph → List ℕ → ℕ → ℕ → ℕ
+lockedFault g ls u m = ifEqual (lockAt g ls u) 1 (ifEqual m 0 0 16) 0
+
+-- what refuses move m at node u
+unfoldable pub moveNumber : Graph → List ℕ → ℕ → ℕ → ℕ
+moveNumber g ls u m = first (moveFault g u m) (lockedFault g ls u m)
 
 -- the node call
 unfoldable pub nodeNumber : Graph → List ℕ → ℕ → ℕ

@@ -3,7 +3,6 @@ ghost use mathlib.Core.Path.{_≡_};
 ghost use mathlib.Core.List.{List, []};
 ghost use Prim.Native.Nat.{ℕ, _+_, _≤_, _<_};
 ghost use lib.ListN.{length, getD};
-ghost use Rattle.graph.specs.Finite.{ifLess};
 ghost use Rattle.graph.specs.Graph.{graphOf, isXor};
 ghost use Rattle.graph.specs.Inner.{Readable};
 ghost use Rattle.graph.specs.Literals.{literals};
@@ -67,14 +66,4 @@ pub fn flag_of(xor: bool, m: u32, k: usize) -> u32
     ensures { λ r. ⌜ (r ≡ flag xor m k) × (r ≤ 1) ⌝ }
 {
     row_flag(first_row(xor) + m as usize, k)
-}
-
-// Move m of a node that has so many; one that it lacks turns nothing, as move 0.
-pub fn had(moves: u32, m: u32) -> u32
-    ensures { λ r. ⌜ r ≡ ifLess m moves m 0 ⌝ }
-{
-    if m < moves {
-        return m;
-    }
-    0
 }

@@ -10,7 +10,6 @@ use lib.ListN.{getD}
 use Rattle.graph.specs.Answer.{Answer, gained, Outcome, outcome}
 use Rattle.graph.specs.Count.{C}
 use Rattle.graph.specs.Difference.{difference}
-use Rattle.graph.specs.Finite.{ifLess}
 use Rattle.graph.specs.Graph.{Graph, node}
 use Rattle.graph.proofs.Difference.{at-least}
 use Rattle.choice.specs.Choice.{FirstBelow}
@@ -21,17 +20,17 @@ use Rattle.moves.specs.Outside.{NodeOdds, PairOdds, savedBy}
 use Rattle.moves.specs.Pair.{pairSaving, FirstGreatest}
 use Rattle.moves.specs.Rows.{kindMoves, movesAt}
 use Rattle.moves.specs.Split.{split}
-use Rattle.moves.specs.Trial.{moveHad, trialSaving}
+use Rattle.moves.specs.Trial.{trialSaving}
 use Rattle.moves.specs.declared.decide.NodeNumbers.{NodeNumbers}
 use Rattle.moves.specs.declared.gains.Odds.{Odds}
 use Rattle.moves.proofs.Deciding.{numbers-low, naming-le}
 use Rattle.moves.proofs.NodeBest.{node-cost, node-best, zero-is, pair-cost-is, pair-best, zeros-are}
-use Rattle.moves.proofs.Pair.{least-of-greatest, pair-saving, had-fits}
-use Rattle.moves.proofs.Moves.{moves-some, moves-no-more}
+use Rattle.moves.proofs.Pair.{least-of-greatest, pair-saving}
+use Rattle.moves.proofs.Moves.{moves-no-more}
 use Rattle.moves.proofs.PairOthers.{pair-others}
 use Rattle.moves.proofs.Rooted.{node-others}
 use Rattle.moves.proofs.Split.{saved-outcome}
-use Rattle.node_call.proofs.Refusing.{AcceptedWord, named-below}
+use Rattle.node_call.proofs.Refusing.{AcceptedWord, AcceptedTrial, named-below}
 
 -- the numbers are such as can be
 pub counted : (g : Graph) (ls : List ℕ) (v : ℕ) (n : NodeNumbers) → Admitted g → n ≡ numbersOf g ls v → Counted n
@@ -93,18 +92,14 @@ module _ (g : Graph) (ls : List ℕ) (adm : Admitted g) (p v : ℕ) (l : p < v) 
       ap (λ (z : Answer). outcome z t) y ∙
       saved-outcome g ls (node g p ∷ node g v ∷ []) t s 0 (o .before) (o .after) (q ∙ rw (← pair-best g ls adm p v l h k m both-by-numbers)) (rw q (omega (arith, both-fall, saved-is s r))) (rw q (both-odds o d))
 
--- a trial from the numbers of both nodes, a move that a node lacks being as move 0
-module _ (g : Graph) (ls : List ℕ) (adm : Admitted g) (p v : ℕ) (l : p < v) (h : v < g .N) (a n : NodeNumbers) (w : List ℕ) (f : a ≡ numbersOf g ls p) (e : n ≡ numbersOf g ls v) (i : w ≡ naming g v (node g p))
-    (k m x y : ℕ) (d : x ≡ ifLess k (a .moves) k 0) (u : y ≡ ifLess m (n .moves) m 0) where
-  pub tried-fit : (x < a .moves) × (y < n .moves)
-  tried-fit =
-      let j = counted g ls p a adm f in
-      let o = counted g ls v n adm e in
-      rw (d, u) (had-fits k (a .moves) (moves-some (a .xor) (a .moves) (j .has)), had-fits m (n .moves) (moves-some (n .xor) (n .moves) (o .has)))
+-- a trial from the numbers of both nodes, which have these moves
+module _ (g : Graph) (ls : List ℕ) (adm : Admitted g) (p v : ℕ) (l : p < v) (h : v < g .N) (a n : NodeNumbers) (w : List ℕ) (f : a ≡ numbersOf g ls p) (e : n ≡ numbersOf g ls v) (i : w ≡ naming g v (node g p)) (k m : ℕ) where
+  pub tried-fit : k < movesAt g ls (node g p) → m < movesAt g ls (node g v) → (k < a .moves) × (m < n .moves)
+  unfolding numbersOf
+  tried-fit x y = rw (f, e) (x, y)
 
-  pub tried-saving : pairSaving a n w x y ≡ difference (C g) (movedC g (node g p ∷ node g v ∷ []) (moveHad g ls (node g p) k ∷ moveHad g ls (node g v) m ∷ []))
-  unfolding moveHad numbersOf
-  tried-saving = rw (d, u, f, e, i) (pair-saving g ls adm p v l h _ _)
+  pub tried-saving : pairSaving a n w k m ≡ difference (C g) (movedC g (node g p ∷ node g v ∷ []) (k ∷ m ∷ []))
+  tried-saving = rw (f, e, i) (pair-saving g ls adm p v l h k m)
 
 -- the word of a pair names a node, or none
 module _ (g : Graph) (ls : List ℕ) (u k n : ℕ) (e : n ≡ namedBy g u k) where
@@ -112,20 +107,28 @@ module _ (g : Graph) (ls : List ℕ) (u k n : ℕ) (e : n ≡ namedBy g u k) whe
   unfolding pairRewrite isNode
   no-node h = rw (← e, le-ltb (g .I) n h)
 
-  pub no-gain : (a m : ℕ) → n ≤ g .I → pos 0 ≡ trialSaving g ls u k a m
+  pub no-gain : (a m : ℕ) → n ≤ g .I → pos 0 ≡ trialSaving g u k a m
   unfolding trialSaving isNode
   no-gain a m h = rw (← e, le-ltb (g .I) n h)
 
-  pub a-gain : AcceptedWord g ls u k → g .I < n → (a m : ℕ) (z : ℤ)
-      → (let p : ℕ = g .I + 1 + (n - (g .I + 1)) in let v : ℕ = g .I + 1 + (u - (g .I + 1)) in z ≡ difference (C g) (movedC g (p ∷ v ∷ []) (moveHad g ls p a ∷ moveHad g ls v m ∷ [])))
-      → z ≡ trialSaving g ls u k a m
-  unfolding trialSaving isNode
-  a-gain w h a m z q =
-      let d = w .at-node in
-      let p : g .I + 1 + (n - (g .I + 1)) ≡ n = omega arith in
-      let v : g .I + 1 + (u - (g .I + 1)) ≡ u = omega (arith, d .after) in
-      let b : n < node g (g .N) = omega (arith, d .before, named-below g ls u k w) in
-      q ∙ rw (p, v, ← e, lt-ltb (g .I) n h, lt-ltb n (node g (g .N)) b)
+  -- moves that a trial accepts are ones that both nodes have, and what they save is its gain
+  module _ (a m : ℕ) (t : AcceptedTrial g ls u k a m) (h : g .I < n) where
+    there : n < node g (g .N)
+    there = omega (arith, t .at-word .at-node .before, named-below g ls u k (t .at-word))
+
+    pub both-had : (a < movesAt g ls (node g (n - (g .I + 1)))) × (m < movesAt g ls (node g (u - (g .I + 1))))
+    unfolding isNode
+    both-had =
+        let p : node g (n - (g .I + 1)) ≡ n = omega arith in
+        let v : node g (u - (g .I + 1)) ≡ u = omega (arith, t .at-word .at-node .after) in
+        rw (p, v, e) (t .named-has (rw (← e, lt-ltb (g .I) n h, lt-ltb n (node g (g .N)) there)), t .node-has)
+
+    pub a-gain : (z : ℤ) → z ≡ difference (C g) (movedC g (node g (n - (g .I + 1)) ∷ node g (u - (g .I + 1)) ∷ []) (a ∷ m ∷ [])) → z ≡ trialSaving g u k a m
+    unfolding trialSaving isNode
+    a-gain z q =
+        let p : node g (n - (g .I + 1)) ≡ n = omega arith in
+        let v : node g (u - (g .I + 1)) ≡ u = omega (arith, t .at-word .at-node .after) in
+        q ∙ rw (p, v, ← e, lt-ltb (g .I) n h, lt-ltb n (node g (g .N)) there)
 
   pub a-node : AcceptedWord g ls u k → g .I < n → (o : Outcome) → o ≡ rewrite g ls ((g .I + 1 + (n - (g .I + 1))) ∷ (g .I + 1 + (u - (g .I + 1))) ∷ []) → o ≡ pairRewrite g ls u k
   unfolding pairRewrite isNode

@@ -105,7 +105,8 @@ pub fn pair_call(
     )
 }
 
-// A trial: what a move at the node that a word names and a move at the node itself would save. Nothing is changed.
+// A trial: what a move at the node that a word names and a move at the node itself would save. Nothing is changed. A move that either
+// node cannot have is refused.
 pub fn trial(
     inputs: u32,
     nodes: u32,
@@ -124,7 +125,7 @@ pub fn trial(
         let g = graphIn inputs nodes outputs (now («node_table» .entry)) (now («node_bits» .entry)) (now («output_table» .entry)) (now («output_bits» .entry)) in
         ⌜ gainAnswer r ≡ trialCall g (now (locks .entry)) node word «named_move» «node_move» ⌝ }
 {
-    let number = faults::pair_number(
+    let number = faults::trial_number(
         inputs,
         nodes,
         outputs,
@@ -135,6 +136,8 @@ pub fn trial(
         locks,
         node,
         word,
+        named_move,
+        node_move,
     );
     if number != 0 {
         return Gain::Refused(graph::faults::refused_by(number));

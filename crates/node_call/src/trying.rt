@@ -7,12 +7,12 @@ ghost use Rattle.graph.specs.Admission.{Admitted};
 ghost use Rattle.graph.specs.Count.{C};
 ghost use Rattle.graph.specs.Difference.{difference};
 ghost use Rattle.graph.specs.Literals.{graphIn};
-ghost use Rattle.moves.specs.Call.{movedC, pairNumber};
-ghost use Rattle.moves.specs.Trial.{moveHad, trialSaving};
+ghost use Rattle.moves.specs.Call.{movedC};
+ghost use Rattle.moves.specs.Rows.{movesAt};
+ghost use Rattle.moves.specs.Trial.{trialNumber, trialSaving};
 use crate::rewrite;
 use moves::decide;
 use moves::reading;
-use moves::rows;
 use moves::words;
 
 // Move a at node p and move k at node v above it, both counted from 0.
@@ -31,10 +31,10 @@ pub fn pair_saving(
     k: u32,
 ) -> i64
     requires { let g = graphIn inputs nodes outputs (now «node_table») (now «node_bits») (now «output_table») (now «output_bits») in
-        ⌜ Admitted g × (p < v) × (v < nodes) × (nodes ≤ length (now locks)) ⌝ }
+        ⌜ Admitted g × (p < v) × (v < nodes) × (nodes ≤ length (now locks)) × (a < movesAt g (now locks) (inputs + 1 + p)) × (k < movesAt g (now locks) (inputs + 1 + v)) ⌝ }
     ensures { λ r.
         let g = graphIn inputs nodes outputs (now («node_table» .entry)) (now («node_bits» .entry)) (now («output_table» .entry)) (now («output_bits» .entry)) in
-        ⌜ r ≡ difference (C g) (movedC g ((inputs + 1 + p) ∷ (inputs + 1 + v) ∷ []) (moveHad g (now (locks .entry)) (inputs + 1 + p) a ∷ moveHad g (now (locks .entry)) (inputs + 1 + v) k ∷ [])) ⌝ }
+        ⌜ r ≡ difference (C g) (movedC g ((inputs + 1 + p) ∷ (inputs + 1 + v) ∷ []) (a ∷ k ∷ [])) ⌝ }
 {
     let named = reading::numbers_of(
         inputs,
@@ -59,9 +59,7 @@ pub fn pair_saving(
         v,
     );
     let which = words::which_name(node_table, node_bits, v as usize, inputs + 1 + p);
-    let first = rows::had(named.moves, a);
-    let second = rows::had(node.moves, k);
-    decide::pair_saving(named, node, which, first, second)
+    decide::pair_saving(named, node, which, a, k)
 }
 
 // Move a at the node that a word of a node names, if it names one, and move k at the node.
@@ -80,10 +78,10 @@ pub fn named_saving(
     k: u32,
 ) -> i64
     requires { let g = graphIn inputs nodes outputs (now «node_table») (now «node_bits») (now «output_table») (now «output_bits») in
-        ⌜ pairNumber g (now locks) node word ≡ 0 ⌝ }
+        ⌜ trialNumber g (now locks) node word a k ≡ 0 ⌝ }
     ensures { λ r.
         let g = graphIn inputs nodes outputs (now («node_table» .entry)) (now («node_bits» .entry)) (now («output_table» .entry)) (now («output_bits» .entry)) in
-        ⌜ r ≡ trialSaving g (now (locks .entry)) node word a k ⌝ }
+        ⌜ r ≡ trialSaving g node word a k ⌝ }
 {
     let named = rewrite::named_by(inputs, node_table, node_bits, node, word);
     if named <= inputs {

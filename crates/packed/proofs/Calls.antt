@@ -17,14 +17,14 @@ use Rattle.graph.proofs.Cases.{cond-le}
 use Rattle.graph.proofs.Tests.{both, passes}
 use Rattle.moves.specs.Rows.{lockAt}
 use Rattle.moves.specs.Tree.{tree}
-use Rattle.moves.specs.Call.{moved, movedC, isNode, nodeFault, wordFault, rootFault, scratchFault, nodeNumber, nodeCall, namedBy, pairNumber, pairRewrite, pairCall, treeNumber, treeCall}
-use Rattle.moves.specs.Trial.{moveHad, trialSaving, trialCall}
+use Rattle.moves.specs.Call.{moved, movedC, isNode, nodeFault, wordFault, rootFault, scratchFault, moveFault, lockedFault, moveNumber, nodeNumber, nodeCall, namedBy, pairNumber, pairRewrite, pairCall, treeNumber, treeCall}
+use Rattle.moves.specs.Trial.{trialNumber, trialSaving, trialCall}
 use Rattle.moves.proofs.Readers.{both-true}
-use Rattle.many.specs.Many.{moveFault, lockedFault, entryNumber, listNumber, manyNumber, manyCall}
+use Rattle.many.specs.Many.{risingFault, entryNumber, listNumber, manyNumber, manyCall}
 use Rattle.packed.specs.Old.{trimmed}
 use Rattle.packed.proofs.Admitting.{tables-in, content-in, admission-in}
 use Rattle.packed.proofs.Choosing.{trimmedOutcome, cond-when, first-when, firstOf-same, unless-when, guarded-when, cond-outcome}
-use Rattle.packed.proofs.Trimmed.{node-known, word-in, xor-in, root-in, tree-in, kind-in, moves-in, moved-in, C-in, rewrite-in, one-in, two-in, tree-moves}
+use Rattle.packed.proofs.Trimmed.{node-known, word-in, xor-in, root-in, tree-in, kind-in, moved-in, C-in, rewrite-in, one-in, two-in, tree-moves}
 
 -- what no node fault refuses is a node
 pub is-node-by : (g : Graph) (u : ℕ) → nodeFault g u ≡ 0 → isNode g u ≡ true
@@ -107,12 +107,16 @@ module _ (g : Graph) (adm : Admitted g) (ls : List ℕ) where
   unfolding treeCall
   tree-call-in s r = rw (tree-number-in s r, tree-in g r) (guarded-when (treeNumber g ls s r) g _ _ (λ e. rewrite-in g ls (tree g r) (tree-moves g ls r)))
 
+  move-number-in : (u m : ℕ) → isNode g u ≡ true → moveNumber (trimmed g) ls u m ≡ moveNumber g ls u m
+  unfolding moveNumber lockedFault lockAt moveFault
+  move-number-in u m n = rw (kind-in g u n)
+
   -- many moves together
   entry-in : (us ms : List ℕ) (j : ℕ) → entryNumber (trimmed g) ls us ms j ≡ entryNumber g ls us ms j
-  unfolding entryNumber lockedFault lockAt moveFault
+  unfolding entryNumber
   entry-in us ms j =
       let u : ℕ = getD us j 0 in
-      rw (node-fault-in g u) (first-when (nodeFault g u) _ _ (λ e. rw (kind-in g u (is-node-by g u e))))
+      rw (node-fault-in g u) (first-when (nodeFault g u) _ _ (λ e. ap (first (risingFault us j)) (move-number-in u (getD ms j 0) (is-node-by g u e))))
 
   list-in : (us ms : List ℕ) → listNumber (trimmed g) ls us ms ≡ listNumber g ls us ms
   unfolding listNumber
@@ -128,22 +132,31 @@ module _ (g : Graph) (adm : Admitted g) (ls : List ℕ) where
       rw (many-number-in us ms, moved-in g us ms, C-in g, C-in (moved g us ms)) (guarded-when (manyNumber g ls us ms) g _ _ (λ e. refl))
 
   -- a trial
-  had-in : (u m : ℕ) → isNode g u ≡ true → moveHad (trimmed g) ls u m ≡ moveHad g ls u m
-  unfolding moveHad
-  had-in u m e = rw (moves-in g ls u e)
+  trial-faults : (u k a m : ℕ) → trialNumber g ls u k a m ≡ 0 → (nodeFault g u ≡ 0) × (wordFault g u k ≡ 0)
+  unfolding trialNumber
+  trial-faults u k a m e = pair-faults u k (both _ _ e .0)
 
-  saving-in : (u k a m : ℕ) → isNode g u ≡ true → wordFault g u k ≡ 0 → trialSaving (trimmed g) ls u k a m ≡ trialSaving g ls u k a m
+  trial-number-in : (u k a m : ℕ) → trialNumber (trimmed g) ls u k a m ≡ trialNumber g ls u k a m
+  unfolding trialNumber
+  trial-number-in u k a m =
+      rw (pair-number-in u k)
+      (first-when (pairNumber g ls u k) _ _
+      (λ e.
+      let f = pair-faults u k e in
+      let n = is-node-by g u (f .0) in
+      let p : ℕ = namedBy g u k in
+      rw (named-by-in g u k n (f .1), is-node-in g p, move-number-in u m n)
+      (ap (λ (x : ℕ). first x (moveNumber g ls u m)) (cond-when (isNode g p) _ _ 0 (λ t. move-number-in p a t)))))
+
+  saving-in : (u k a m : ℕ) → isNode g u ≡ true → wordFault g u k ≡ 0 → trialSaving (trimmed g) u k a m ≡ trialSaving g u k a m
   unfolding trialSaving movedC
   saving-in u k a m n w =
       let p : ℕ = namedBy g u k in
-      rw (named-by-in g u k n w, is-node-in g p)
-      (cond-when (isNode g p) _ _ (pos 0)
-      (λ e.
-      let ms : List ℕ = moveHad g ls p a ∷ moveHad g ls u m ∷ [] in
-      rw (had-in p a e, had-in u m n, C-in g, moved-in g (p ∷ u ∷ []) ms, C-in (moved g (p ∷ u ∷ []) ms))))
+      let ms : List ℕ = a ∷ m ∷ [] in
+      rw (named-by-in g u k n w, is-node-in g p, C-in g, moved-in g (p ∷ u ∷ []) ms, C-in (moved g (p ∷ u ∷ []) ms))
 
   pub trial-in : (u k a m : ℕ) → trialCall (trimmed g) ls u k a m ≡ trialCall g ls u k a m
   unfolding trialCall
   trial-in u k a m =
-      rw (pair-number-in u k)
-      (unless-when (pairNumber g ls u k) _ _ (λ e. let f = pair-faults u k e in ap whole (saving-in u k a m (is-node-by g u (f .0)) (f .1))))
+      rw (trial-number-in u k a m)
+      (unless-when (trialNumber g ls u k a m) _ _ (λ e. let f = trial-faults u k a m e in ap whole (saving-in u k a m (is-node-by g u (f .0)) (f .1))))

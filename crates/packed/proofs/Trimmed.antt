@@ -116,7 +116,7 @@ module _ (g : Graph) where
   unfolding kindMoves
   kind-in u e = let k = node-known g u e in rw (xor-in (u - (g .I + 1)) (omega arith))
 
-  pub moves-in : (ls : List ℕ) (u : ℕ) → isNode g u ≡ true → movesAt (trimmed g) ls u ≡ movesAt g ls u
+  moves-in : (ls : List ℕ) (u : ℕ) → isNode g u ≡ true → movesAt (trimmed g) ls u ≡ movesAt g ls u
   unfolding movesAt lockAt
   moves-in ls u e = rw (kind-in u e)
 

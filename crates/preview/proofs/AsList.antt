@@ -19,12 +19,12 @@ use Rattle.choice.specs.Choice.{Fits}
 use Rattle.moves.specs.Apply.{apply}
 use Rattle.moves.specs.Apply as choices
 use Rattle.moves.specs.Rows.{lockAt, movesAt}
-use Rattle.moves.specs.Call.{moved, bestAt, isNode, nodeFault, treeNumber, treeCall}
+use Rattle.moves.specs.Call.{moved, bestAt, isNode, nodeFault, moveFault, lockedFault, moveNumber, treeNumber, treeCall}
 use Rattle.moves.specs.Tree.{tree}
 use Rattle.moves.proofs.Locks.{best-fits, locked-move}
 use Rattle.moves.proofs.Moves.{lock-of, moves-pos, moves-no-more}
 use Rattle.moves.proofs.Count.{clash}
-use Rattle.many.specs.Many.{risingFault, moveFault, lockedFault, entryNumber, listNumber, manyNumber, manyCall}
+use Rattle.many.specs.Many.{risingFault, entryNumber, listNumber, manyNumber, manyCall}
 use Rattle.many.specs.Making.{Rises, chosen}
 use Rattle.many.proofs.Halving.{put-out, move-here}
 use Rattle.many.proofs.Sweeping.{put-has}
@@ -115,7 +115,7 @@ module _ (g : Graph) (ls bs : List ℕ) (s r : ℕ) (e : previewNumber g ls (len
       (eq-or-ne (lockAt g ls (node g v)) 1)
 
   entry-fine : (j : ℕ) → j < g .N → entryNumber g ls (allNodes g) told j ≡ 0
-  unfolding entryNumber first
+  unfolding entryNumber moveNumber first
   entry-fine j h = rw (all-at g j h, byte-is j h, no-fault j h, rising-fine j h, move-fine j h) (locked-fine j h)
 
   list-fine : listNumber g ls (allNodes g) told ≡ 0

@@ -11,15 +11,15 @@ use Rattle.choice.specs.Choice.{from, choices, unlessLess, least, best}
 use Rattle.moves.specs.Rows.{rows, firstRow, arity, flag, kindMoves, lockAt, movesAt}
 use Rattle.moves.specs.Apply.{at, put, seen, own, turns, outputTurns, apply}
 use Rattle.moves.specs.Tree.{isRoot, last, place, reader, rootIn, rootOf, members, tree}
-use Rattle.moves.specs.Call.{moved, movedC, bestAt, rewrite, isNode, nodeFault, wordFault, rootFault, scratchFault, nodeNumber, nodeCall, namedBy, pairNumber, pairRewrite, pairCall, treeNumber, treeCall}
+use Rattle.moves.specs.Call.{moved, movedC, bestAt, rewrite, isNode, nodeFault, wordFault, rootFault, scratchFault, moveFault, lockedFault, moveNumber, nodeNumber, nodeCall, namedBy, pairNumber, pairRewrite, pairCall, treeNumber, treeCall}
 use Rattle.graph.specs.Difference.{difference}
 use Rattle.moves.specs.Split.{among, ownAdds, otherAdds, split}
-use Rattle.many.specs.Many.{risingFault, moveFault, lockedFault, entryNumber, listNumber, manyNumber, manyCall}
+use Rattle.many.specs.Many.{risingFault, entryNumber, listNumber, manyNumber, manyCall}
 use Rattle.rounds.specs.Round.{start, after, each, treeAt, nodeAt, pairAt, pairsAt, round}
 use Rattle.rounds.specs.Settle.{settleIn, settle, settleNumber, settleCall}
 use Rattle.promises.specs.Worked.{Right}
 use Rattle.graph.specs.Literals.{bitOf, held, strays}
 
 pub right : Right
-unfolding flatMap tab sum count ifLess ifEqual first firstOf turn isXor isEdge adds wordAdds nodeAdds outputAdds C named outputNamed nodeReaders readers tablesNumber roomNumber wordNumber outputNumber literalNumber lockNumber locksNumber contentNumber admissionNumber guarded from choices unlessLess least best rows firstRow arity flag kindMoves lockAt movesAt at put seen own turns outputTurns turnedTable turnedBy apply isRoot last place reader rootIn rootOf members tree moved movedC bestAt rewrite isNode nodeFault wordFault rootFault scratchFault nodeNumber nodeCall namedBy pairNumber pairRewrite pairCall treeNumber treeCall difference among ownAdds otherAdds split start after each treeAt nodeAt pairAt pairsAt round settleIn settle settleNumber settleCall risingFault moveFault lockedFault entryNumber listNumber manyNumber manyCall held strays bitOf straysNumber strayNumber
+unfolding flatMap tab sum count ifLess ifEqual first firstOf turn isXor isEdge adds wordAdds nodeAdds outputAdds C named outputNamed nodeReaders readers tablesNumber roomNumber wordNumber outputNumber literalNumber lockNumber locksNumber contentNumber admissionNumber guarded from choices unlessLess least best rows firstRow arity flag kindMoves lockAt movesAt at put seen own turns outputTurns turnedTable turnedBy apply isRoot last place reader rootIn rootOf members tree moved movedC bestAt rewrite isNode nodeFault wordFault rootFault scratchFault nodeNumber nodeCall namedBy pairNumber pairRewrite pairCall treeNumber treeCall difference among ownAdds otherAdds split start after each treeAt nodeAt pairAt pairsAt round settleIn settle settleNumber settleCall risingFault moveFault lockedFault moveNumber entryNumber listNumber manyNumber manyCall held strays bitOf straysNumber strayNumber
 right = (refl, refl, refl)

@@ -1,4 +1,4 @@
-//! Every call but the preview and many moves with every choice of some faults. Its number is known without any implementation: the first in the
+//! Every call but the preview and many moves with every choice of some faults, those of a trial's moves apart. Its number is known without any implementation: the first in the
 //! order 3, 4, 5, 13, 7, 8, 9 of those faults that the call can have. Each is lent what it must leave where it is refused.
 
 use crate::raw;
@@ -120,7 +120,7 @@ fn number(which: Which, asked: &Asked) -> Result<u32, String> {
         Write => raw::write(g, &mut buffer)?.map(|_| ()),
         Export => raw::export(g, scratch(3), &mut buffer)?.map(|_| ()),
         Evaluate => raw::evaluate(g, &words, scratch(3), &mut results)?,
-        Trial => raw::trial(g, (*node, *word), (1, 1))?.map(|_| ()),
+        Trial => raw::trial(g, (*node, *word), (0, 1))?.map(|_| ()),
         Node => return stepped(g, Call::Node(*node), 0),
         Pair => return stepped(g, Call::Pair(*node, *word), 0),
         Tree => return stepped(g, Call::Tree(*node), scratch(24)),

@@ -29,5 +29,6 @@ pub mod tables;
 pub mod text_limits;
 pub mod texts;
 pub mod timing;
+pub mod trial_faults;
 pub mod trials;
 pub mod words;

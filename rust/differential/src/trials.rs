@@ -7,14 +7,16 @@ use crate::lists::{differ, random_case};
 use crate::raw;
 use reference::entries;
 use reference::graph::index_of;
-use reference::moves::{self, rows, Saving};
+use reference::moves::{self, moves_at, rows, Saving};
 use reference::packed::{set_bit, Packed};
 use reference::random::Random;
 
-/// Trials that would save less than nothing; pairs whose node names the other more than once, and those with just one node locked.
+/// Trials that would save less than nothing; pairs whose node names the other more than once, and those with just one node locked;
+/// trials refused for a move.
 static LOST: AtomicU64 = AtomicU64::new(0);
 static NAMED_TWICE: AtomicU64 = AtomicU64::new(0);
 static LOCKED: AtomicU64 = AtomicU64::new(0);
+static REFUSED: AtomicU64 = AtomicU64::new(0);
 
 pub fn random_trials(seed: u64) -> Case {
     Case { steps: vec![], ..random_case(seed, 8, 1) }
@@ -51,19 +53,27 @@ fn same(lent: &Packed, pair: (u32, u32), both: (u32, u32)) -> Result<Result<i64,
     Ok(got)
 }
 
-/// Every trial on a pair: the pair call saves the greatest, and leaves the graph of the first that does. A locked node's moves are
-/// tried too: none turns anything, so that the first is move 0.
+/// Every trial on a pair: the pair call saves the greatest, and leaves the graph of the first that does. Moves that the nodes cannot have
+/// are tried too, one past those of the kind: just they are refused.
 fn check_pair(case: &Case, lent: &Packed, node: u32, word: u32) -> Result<u64, String> {
     let g = &case.graph;
     let named = index_of(g.word(node, word as usize - 1));
-    let moves_at = |index: u32| if g.is_node(index) { rows(g, index).len() as u32 } else { 1 };
+    let of_kind = |index: u32| if g.is_node(index) { rows(g, index).len() as u32 } else { 1 };
+    let had = |index: u32| if g.is_node(index) { moves_at(g, index).len() as u32 } else { u32::MAX };
     let locked = [named, node].map(|index| g.is_node(index) && g.is_locked(index));
     LOCKED.fetch_add(u64::from(locked[0] != locked[1] && g.is_node(named)), Ordering::Relaxed);
     let mut best = (0, 0, 0);
     let mut done = 0;
-    for a in 0..moves_at(named) {
-        for k in 0..moves_at(node) {
-            let gain = same(lent, (node, word), (a, k))?.map_err(|number| format!("refused by {number}"))?;
+    for a in 0..=of_kind(named) {
+        for k in 0..=of_kind(node) {
+            let told = same(lent, (node, word), (a, k))?;
+            differ(
+                &format!("whether the moves {:?} are refused", (a, k)),
+                &told.is_err(),
+                &(a >= had(named) || k >= had(node)),
+            )?;
+            let gain = told.unwrap_or(0);
+            REFUSED.fetch_add(u64::from(told.is_err()), Ordering::Relaxed);
             LOST.fetch_add(u64::from(gain < 0), Ordering::Relaxed);
             best = if gain > best.0 { (gain, a, k) } else { best };
             done += 1;
@@ -113,16 +123,19 @@ pub fn check_trials(case: &Case) -> Result<u64, String> {
     Ok(done)
 }
 
-/// Whether trials that lose, pairs with two edges between them, and pairs with one lock were among the cases.
+/// Whether trials that lose, trials refused for a move, pairs with two edges between them, and pairs with one lock were among the cases.
 pub fn all_met() -> Result<(), String> {
-    let [lost, twice, locked] = [&LOST, &NAMED_TWICE, &LOCKED].map(|count| count.load(Ordering::Relaxed));
+    let [lost, twice, locked, refused] =
+        [&LOST, &NAMED_TWICE, &LOCKED, &REFUSED].map(|count| count.load(Ordering::Relaxed));
     println!(
-        "trials that lose: {lost}; pairs whose node names the other more than once: {twice}; with one of both locked: {locked}"
+        "trials that lose: {lost}; refused for a move: {refused}; pairs whose node names the other more than once: {twice}; \
+         with one of both locked: {locked}"
     );
-    match (lost, twice, locked) {
-        (0, _, _) => Err("FAILED: no trial lost anything".into()),
-        (_, 0, _) => Err("FAILED: no node named the other twice".into()),
-        (_, _, 0) => Err("FAILED: no pair had one node locked".into()),
+    match (lost, twice, locked, refused) {
+        (0, _, _, _) => Err("FAILED: no trial lost anything".into()),
+        (_, 0, _, _) => Err("FAILED: no node named the other twice".into()),
+        (_, _, 0, _) => Err("FAILED: no pair had one node locked".into()),
+        (_, _, _, 0) => Err("FAILED: no trial was refused for a move".into()),
         _ => Ok(()),
     }
 }

@@ -339,7 +339,7 @@ pub fn pair_call(
 }
 
 /// What two moves would save: one at the node that a word (1 to 3) of a node names, one at the node; below 0 where they lose. A move
-/// that a node's kind lacks, or any at a locked node, turns nothing.
+/// that a node's kind lacks is refused by 15, one other than 0 at a locked node by 16.
 pub fn trial(
     size: Size,
     node_table: &[u32],

@@ -553,8 +553,8 @@ impl Graph {
     }
 
     /// What `named_move` at the node that a word (1 to 3) of a node names and `node_move` at the node would save: below 0 where
-    /// they lose, 0 where the word names no node. A move that a node's kind lacks, or any at a locked node, turns nothing. Nothing is
-    /// changed.
+    /// they lose, 0 where the word names no node, and then `named_move` may be any. Nothing is changed. A move that a node's kind lacks
+    /// is refused by 15, one other than 0 at a locked node by 16, those of `named_move` first.
     pub fn trial(&self, node: u32, word: u32, named_move: u32, node_move: u32) -> Result<i64, Refusal> {
         lent::trial(
             self.size,

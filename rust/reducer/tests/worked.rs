@@ -97,16 +97,27 @@ fn worked_trials() {
     assert_eq!(trials(&p3, 7, 1, (2, 2)), [0, 0, 0, 2]);
     assert_eq!(trials(&graph(2, &[3, 5, 0, 7, 7, 3], &[9]), 4, 1, (2, 2)), [0, 4, 3, 3]);
     assert_eq!(trials(&graph(2, &[2, 4, 0, 6, 2, MARK], &[8]), 4, 1, (2, 4)), [0, -2, -2, -2, -4, -4, -4, -6]);
-    // A word that names no node, and moves that a majority lacks.
-    assert_eq!(trials(&p3, 7, 2, (2, 2)), [0; 4]);
-    assert_eq!(p3.trial(7, 1, 4, u32::MAX), Ok(0));
-    assert_eq!(p3.trial(7, 4, 0, 0), Err(Refusal::NoSuchNode));
-    assert_eq!(p3.trial(5, 1, 0, 0), Err(Refusal::NoSuchNode));
-    assert_eq!(graph(3, &[8, 7, 7], &[]).trial(9, 1, 0, 0), Err(Refusal::BadLiteral));
-    // A move other than 0 at a locked node is as move 0.
-    let twice = graph(2, &[3, 5, 0, 7, 7, 3], &[9]);
-    assert_eq!(trials(&locked(twice.clone(), &[3]), 4, 1, (2, 2)), [0, 4, 0, 4]);
-    assert_eq!(trials(&locked(twice, &[4]), 4, 1, (2, 2)), [0, 0, 3, 3]);
+    // A word that names no node, where only the node's own move is asked for.
+    assert_eq!(trials(&p3, 7, 2, (9, 2)), [0; 18]);
+    assert_eq!(p3.trial(7, 2, u32::MAX, 2), Err(Refusal::NoSuchMove));
+}
+
+/// Moves that a majority lacks, and moves other than 0 at a locked node.
+#[test]
+fn refused_trials() {
+    let p3 = graph(5, &[3, 5, 6, 12, 9, 10], &[15]);
+    assert_eq!(graph(3, &[8, 7, 7], &[]).trial(9, 1, 9, 9), Err(Refusal::BadLiteral));
+    assert_eq!(p3.trial(7, 4, 9, 9), Err(Refusal::NoSuchNode));
+    assert_eq!(p3.trial(5, 1, 9, 9), Err(Refusal::NoSuchNode));
+    assert_eq!(p3.trial(7, 1, 2, 0), Err(Refusal::NoSuchMove));
+    assert_eq!(p3.trial(7, 1, 1, u32::MAX), Err(Refusal::NoSuchMove));
+    let lower = locked(p3.clone(), &[6]);
+    let told = [(0, 1), (1, 0), (1, 2), (2, 0), (0, 2)].map(|(a, k)| lower.trial(7, 1, a, k));
+    let (lacked, still) = (Err(Refusal::NoSuchMove), Err(Refusal::MoveOfLocked));
+    assert_eq!(told, [Ok(0), still, still, lacked, lacked]);
+    let upper = locked(p3, &[7]);
+    assert_eq!([(1, 0), (1, 1), (1, 2), (2, 1)].map(|(a, k)| upper.trial(7, 1, a, k)), [Ok(0), still, lacked, lacked]);
+    assert_eq!([0, 1, 2].map(|k| upper.trial(7, 2, 9, k)), [Ok(0), still, lacked]);
 }
 
 #[test]

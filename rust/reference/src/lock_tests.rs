@@ -115,29 +115,63 @@ fn previews_with_locks() {
     stays(&xors.locked_at(&[3, 4, 5, 6]), Call::Tree(6));
 }
 
-/// A move other than 0 at a locked node is as move 0.
+/// A move other than 0 at a locked node is refused by 16.
 #[test]
 fn trials_with_locks() {
-    let trials = |g: &Graph, moves: (u32, u32)| -> Vec<i64> {
+    let trials = |g: &Graph, moves: (u32, u32)| -> Vec<Result<i64, u32>> {
         let both = (0..moves.0).flat_map(|a| (0..moves.1).map(move |k| (a, k)));
-        both.map(|(a, k)| trial(g, 4, 1, a, k).unwrap()).collect()
+        both.map(|(a, k)| trial(g, 4, 1, a, k)).collect()
     };
+    const LOCKED: Result<i64, u32> = Err(16);
     let twice = of(2, &[[3, 5, 0], [7, 7, 3]], &[9]);
-    assert_eq!(trials(&twice, (2, 2)), [0, 4, 3, 3]);
-    assert_eq!(trials(&twice.clone().locked_at(&[3]), (2, 2)), [0, 4, 0, 4]);
-    assert_eq!(trials(&twice.clone().locked_at(&[4]), (2, 2)), [0, 0, 3, 3]);
-    assert_eq!(trials(&twice.locked_at(&[3, 4]), (2, 2)), [0; 4]);
+    assert_eq!(trials(&twice, (2, 2)), [0, 4, 3, 3].map(Ok));
+    assert_eq!(
+        trials(&twice.clone().locked_at(&[3]), (2, 2)),
+        [Ok(0), Ok(4), LOCKED, LOCKED]
+    );
+    assert_eq!(
+        trials(&twice.clone().locked_at(&[4]), (2, 2)),
+        [Ok(0), LOCKED, Ok(3), LOCKED]
+    );
+    assert_eq!(
+        trials(&twice.locked_at(&[3, 4]), (2, 2)),
+        [Ok(0), LOCKED, LOCKED, LOCKED]
+    );
     let xor = of(2, &[[2, 4, 0], [6, 2, MARK]], &[8]);
-    let free = [0, -2, -2, -2, -4, -4, -4, -6];
-    assert_eq!(trials(&xor, (2, 4)), free);
     assert_eq!(
-        trials(&xor.clone().locked_at(&[3]), (2, 4)),
-        [0, -2, -2, -2, 0, -2, -2, -2]
+        trials(&xor, (2, 4)),
+        [0, -2, -2, -2, -4, -4, -4, -6].map(Ok)
     );
     assert_eq!(
-        trials(&xor.locked_at(&[4]), (2, 4)),
-        [0, 0, 0, 0, -4, -4, -4, -4]
+        trials(&xor.clone().locked_at(&[3]), (1, 4)),
+        [0, -2, -2, -2].map(Ok)
     );
+    assert_eq!(
+        trials(&xor.clone().locked_at(&[4]), (2, 1)),
+        [0, -4].map(Ok)
+    );
+    // 15 before 16, and the named node's move before the node's.
+    for (locked, both, due) in [
+        (3, (2, 4), 15),
+        (3, (1, 4), 16),
+        (3, (0, 4), 15),
+        (4, (2, 1), 15),
+        (4, (1, 4), 15),
+        (4, (1, 3), 16),
+    ] {
+        let g = xor.clone().locked_at(&[locked]);
+        assert_eq!(
+            trial(&g, 4, 1, both.0, both.1),
+            Err(due),
+            "{locked} {both:?}"
+        );
+    }
+    // Word 2 names an input, which has no moves to be asked for.
+    let g = xor.locked_at(&[4]);
+    assert_eq!(trial(&g, 4, 2, 9, 0), Ok(0));
+    assert_eq!(trial(&g, 4, 2, 9, 1), Err(16));
+    assert_eq!(trial(&g, 4, 2, 9, 4), Err(15));
+    assert_eq!(trial(&g, 4, 3, 9, 4), Err(7));
 }
 
 /// Free, a tree call at node 5 saves 2 and then a node call at node 4 saves 2 more.

@@ -1,7 +1,7 @@
 //! Many moves together: a rising list of nodes with a move each, all made or none.
 
 use crate::graph::{admit, check_limits, check_room, Graph, Number};
-use crate::moves::{after, rows};
+use crate::moves::{after, check_move};
 
 /// 7, 14, 15 and 16 of each entry before those of the next.
 fn check_entries(g: &Graph, list: &[u32], moves: &[u8]) -> Result<(), Number> {
@@ -13,12 +13,7 @@ fn check_entries(g: &Graph, list: &[u32], moves: &[u8]) -> Result<(), Number> {
         if before.is_some_and(|last| node <= last) {
             return Err(14);
         }
-        if number as usize >= rows(g, node).len() {
-            return Err(15);
-        }
-        if g.is_locked(node) && number != 0 {
-            return Err(16);
-        }
+        check_move(g, node, number.into())?;
         before = Some(node);
     }
     Ok(())

@@ -174,8 +174,19 @@ pub fn pair_call(g: &mut Graph, node: u32, word: u32) -> Result<Saving, Number> 
     Ok(make_best(g, &[named, node], &list))
 }
 
-/// What two moves on a pair would save: both made on a copy, and C counted again. A move that the node lacks, for its kind or since it
-/// is locked, is none.
+/// 15 for a move that the node's kind lacks, 16 for one other than 0 at a locked node.
+pub fn check_move(g: &Graph, node: u32, number: usize) -> Result<(), Number> {
+    if number >= rows(g, node).len() {
+        return Err(15);
+    }
+    if g.is_locked(node) && number != 0 {
+        return Err(16);
+    }
+    Ok(())
+}
+
+/// What two moves on a pair would save: both made on a copy, and C counted again. The named node's move is tested first; where the word
+/// names no node only the other is, and nothing is made.
 pub fn trial(
     g: &Graph,
     node: u32,
@@ -188,15 +199,13 @@ pub fn trial(
         return Err(7);
     }
     let named = index_of(g.word(node, word as usize - 1));
+    let (first, second) = (named_move as usize, node_move as usize);
     if !g.is_node(named) {
-        return Ok(0);
+        return check_move(g, node, second).map(|()| 0);
     }
-    let mut next = g.clone();
-    for (at, number) in [(named, named_move as usize), (node, node_move as usize)] {
-        if number < moves_at(g, at).len() {
-            make(&mut next, at, number);
-        }
-    }
+    check_move(g, named, first)?;
+    check_move(g, node, second)?;
+    let next = after(g, &[named, node], &[first, second]);
     Ok(i64::from(g.c()) - i64::from(next.c()))
 }
 

@@ -5,9 +5,8 @@ use Rattle.graph.specs.Graph.{Graph, graphOf}
 use Rattle.graph.specs.Answer.{whole}
 use Rattle.graph.proofs.Answers.{refused-is, accepted-is}
 use Rattle.graph.proofs.Difference.{read-as}
-use Rattle.moves.specs.Call.{pairNumber}
-use Rattle.moves.specs.Trial.{trialCall, trialSaving}
-use Rattle.node_call.proofs.Refusing.{pair-range}
+use Rattle.moves.specs.Trial.{trialNumber, trialSaving, trialCall}
+use Rattle.node_call.proofs.Refusing.{trial-range}
 use Rattle.graph.specs.Literals.{literals}
 use Rattle.node_call.proofs.trial.Statement.{statement}
 use Rattle.node_call.proofs.trial.Tie as tie
@@ -18,17 +17,17 @@ graph s = let a = s .args in graphOf (a .inputs) (a .nodes) (a .outputs) (litera
 refused-by-requires : tie.Need-refused-by-requires
 refused-by-requires c κs =
     let s = c .before .before .before .before .before .before .before in
-    pair-range (graph s) (s .args .locks .now) (s .args .node) (s .args .word) _ (c .before .pair-number .ensures) (c .if1 .taken)
+    trial-range (graph s) (s .args .locks .now) (s .args .node) (s .args .word) (s .args .named-move) (s .args .node-move) _ (c .before .trial-number .ensures) (c .if1 .taken)
 
 returns : tie.Need-returns
 unfolding trialCall
 returns c =
     let n = c .before .before in
-    let e = n .pair-number .ensures in
+    let e = n .trial-number .ensures in
     refused-is _ _ _ (c .refused-by .ensures ∙ e) (λ z. c .before .if1 .taken (e ∙ z))
 
 named-saving-requires : tie.Need-named-saving-requires
-named-saving-requires c κs = sym (c .before .pair-number .ensures) ∙ c .if1 .left
+named-saving-requires c κs = sym (c .before .trial-number .ensures) ∙ c .if1 .left
 
 returns-2 : tie.Need-returns-2
 unfolding trialCall
@@ -37,7 +36,7 @@ returns-2 c =
     let s = n .before .before .before .before .before .before in
     let a = s .args in
     ap whole (read-as _ (c .named-saving .ok) ∙ c .named-saving .ensures)
-    ∙ accepted-is (pairNumber (graph s) (s .args .locks .now) (a .node) (a .word)) (whole (trialSaving (graph s) (s .args .locks .now) (a .node) (a .word) (a .named-move) (a .node-move))) (sym (n .pair-number .ensures) ∙ c .before .if1 .left)
+    ∙ accepted-is (trialNumber (graph s) (a .locks .now) (a .node) (a .word) (a .named-move) (a .node-move)) (whole (trialSaving (graph s) (a .node) (a .word) (a .named-move) (a .node-move))) (sym (n .trial-number .ensures) ∙ c .before .if1 .left)
 
 pub trial-spec : {M : Type 1} → statement M
 trial-spec =

@@ -10,7 +10,7 @@ use differential::extremes::{self, EXTREMES, LOCKED};
 use differential::shrink::hold;
 use differential::{
     bit_faults, call_faults, exports, faults, files, lengths, lists, lock_fields, many, many_faults, preview_faults,
-    previews, raw, replay_faults, replays, savings, stored, text_limits, texts, trials, words,
+    previews, raw, replay_faults, replays, savings, stored, text_limits, texts, trial_faults, trials, words,
 };
 use reference::calls::Call;
 use reference::generate::{graph, locked_one_in, moves_of, with_locks, Shape, SHAPES};
@@ -20,7 +20,7 @@ use reference::random::Random;
 /// What one kind of test does with a seed: how many cases it tried, or what failed.
 type Kind = (&'static str, u64, fn(u64) -> Result<u64, String>);
 
-const KINDS: [Kind; 42] = [
+const KINDS: [Kind; 43] = [
     ("stored cases of single calls and evaluation", 1, stored),
     ("the plain implementation, lists of calls", 30_000, plain_lists),
     ("lists of calls on small graphs", 80_000, small_lists),
@@ -34,6 +34,7 @@ const KINDS: [Kind; 42] = [
     ("all calls on thousands of nodes", 20, large),
     ("settling at the limits", EXTREMES.len() as u64, at_limits),
     ("trials of every two moves, and the pair call by them", 24_000, tried),
+    ("trials with every choice of faults of known numbers", 1, faulty_trials),
     ("lent slices of every length", 600, slices),
     ("limits", 1, limits),
     ("indices with bits in every place", 200, indices),
@@ -178,6 +179,10 @@ fn tried(seed: u64) -> Result<u64, String> {
         hold(seed, case, &|case| trials::check_trials(case).map(|_| ()))?;
     }
     count
+}
+
+fn faulty_trials(_: u64) -> Result<u64, String> {
+    trial_faults::check_faults()
 }
 
 fn slices(seed: u64) -> Result<u64, String> {

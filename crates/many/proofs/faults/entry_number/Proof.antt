@@ -1,5 +1,5 @@
 -- `entry_number` meets its contract: the tests of an entry, in their order. From the laws on an entry.
-use mathlib.Core.Path.{_≡_, refl, sym, _∙_}
+use mathlib.Core.Path.{_≡_, sym, _∙_}
 use mathlib.Core.List.{List, []}
 use Prim.Native.Nat.{ℕ, _+_, _-_, _<_}
 use native.Mathlib.Omega.{arith}
@@ -41,25 +41,19 @@ known c = let a = c .before .before .before .before .before .before .before .bef
 sub-v : tie.Need-sub-v
 sub-v c = omega (arith, known (c .before))
 
-is-xor-requires : tie.Need-is-xor-requires
-is-xor-requires c κs =
+move-number-requires : tie.Need-move-number-requires
+move-number-requires c κs =
     let s = c .before .before .before .before .before .before .before .before .before .before .before in
-    s .pre .0 .words (getD (s .args .list .now) (s .args .j) 0 - (s .args .inputs + 1)) (omega (arith, known (c .before)))
-
-lock-read : tie.Need-shared-slice-read-locked-fault
-lock-read c = omega (arith, known (c .before .before .before .before), c .before .before .before .before .before .before .before .before .before .before .before .before .before .before .pre .0 .enough-locks)
+    (s .pre .0 .words (getD (s .args .list .now) (s .args .j) 0 - (s .args .inputs + 1)) (omega (arith, known (c .before))), omega (arith, known (c .before), s .pre .0 .enough-locks))
 
 returns-2 : tie.Need-returns-2
 returns-2 c =
-    let l = c .before in
-    let m = l .before .before in
-    let x = m .before in
-    let b = x .before in
+    let b = c .before in
     let e = b .before in
     let a = e .before .before .before .before .before .before .before .before .before .before .args in
     λ o os.
-    entry-move (graphOf (a .inputs) (a .nodes) o (literals (a .node-table .now) (a .node-bits .now)) os) (a .locks .now) (a .list .now) (a .bytes .now) (a .j) _ _ _ _ _ _ (placed e o os .0) (placed e o os .1) refl
-    (x .is-xor .ensures (a .inputs) (a .nodes) o os) (b .byte-at .ensures) (m .move-fault .ensures) (l .locked-fault .ensures) (c .first-fault2 .ensures)
+    entry-move (graphOf (a .inputs) (a .nodes) o (literals (a .node-table .now) (a .node-bits .now)) os) (a .locks .now) (a .list .now) (a .bytes .now) (a .j) _ _ (placed e o os .0) (placed e o os .1)
+    (b .byte-at .ensures) (c .move-number .ensures (a .inputs) (a .nodes) o os (omega (arith, known e)))
 
 pub entry-number-spec : {M : Type 1} → statement M
 entry-number-spec =
@@ -75,9 +69,5 @@ entry-number-spec =
     (λ c. search needs)
     sub-v
     (λ c. omega (arith, known (c .before)))
-    is-xor-requires
-    (λ c κs. search needs)
-    lock-read
-    (λ c κs. search needs)
-    (λ c κs. search needs)
+    move-number-requires
     returns-2)

@@ -18,23 +18,21 @@ which-name-requires c κs =
 
 pair-saving-requires : tie.Need-pair-saving-requires
 pair-saving-requires c κs =
-    let three = c .before .before in
-    let two = three .before in
+    let two = c .before in
     let one = two .before in
     let s = one .before .before .before .before .before .before in
     let a = s .args in
     let g : Graph = graphOf (a .inputs) (a .nodes) (a .outputs) (literals (a .node-table .now) (a .node-bits .now)) (literals (a .output-table .now) (a .output-bits .now)) in
     let p = one .numbers-of in
     let n = two .numbers-of2 in
-    let w = three .which-name in
+    let w = c .which-name in
     let wn = w .ensures (a .inputs) (a .nodes) (a .outputs) (literals (a .output-table .now) (a .output-bits .now)) in
-    let f = tried-fit g (a .locks .now) (s .pre .0) (a .p) (a .v) (s .pre .1) (s .pre .2) (p .result) (n .result) (w .result) (p .ensures) (n .ensures) wn (a .a) (a .k) _ _ (c .before .had .ensures) (c .had2 .ensures) in
+    let f = tried-fit g (a .locks .now) (s .pre .0) (a .p) (a .v) (s .pre .1) (s .pre .2) (p .result) (n .result) (w .result) (p .ensures) (n .ensures) wn (a .a) (a .k) (s .pre .4) (s .pre .5) in
     (counted g (a .locks .now) (a .p) (p .result) (s .pre .0) (p .ensures), counted g (a .locks .now) (a .v) (n .result) (s .pre .0) (n .ensures), naming-bits g (a .v) _ (w .result) wn, f .0, f .1)
 
 returns : tie.Need-returns
 returns c =
-    let had = c .before in
-    let three = had .before .before in
+    let three = c .before in
     let two = three .before in
     let one = two .before in
     let s = one .before .before .before .before .before .before in
@@ -46,7 +44,7 @@ returns c =
     let wn = w .ensures (a .inputs) (a .nodes) (a .outputs) (literals (a .output-table .now) (a .output-bits .now)) in
     read-as _ (c .pair-saving .ok)
     ∙ c .pair-saving .ensures
-    ∙ tried-saving g (a .locks .now) (s .pre .0) (a .p) (a .v) (s .pre .1) (s .pre .2) (p .result) (n .result) (w .result) (p .ensures) (n .ensures) wn (a .a) (a .k) _ _ (had .before .had .ensures) (had .had2 .ensures)
+    ∙ tried-saving g (a .locks .now) (s .pre .0) (a .p) (a .v) (s .pre .1) (s .pre .2) (p .result) (n .result) (w .result) (p .ensures) (n .ensures) wn (a .a) (a .k)
 
 pub pair-saving-spec : {M : Type 1} → statement M
 pair-saving-spec =
@@ -57,7 +55,5 @@ pair-saving-spec =
     (λ c. search needs)
     (λ c. search needs)
     which-name-requires
-    (λ c κs. search needs)
-    (λ c κs. search needs)
     pair-saving-requires
     returns)

@@ -1,8 +1,8 @@
 -- `locked_fault` meets its contract. From the laws on tests.
 use mathlib.Core.Path.{refl}
 use Rattle.graph.proofs.Tests.{equal, unequal}
-use Rattle.many.proofs.faults.locked_fault.Statement.{statement}
-use Rattle.many.proofs.faults.locked_fault.Tie as tie
+use Rattle.moves.proofs.faults.locked_fault.Statement.{statement}
+use Rattle.moves.proofs.faults.locked_fault.Tie as tie
 
 pub locked-fault-spec : {M : Type 1} → statement M
 locked-fault-spec =

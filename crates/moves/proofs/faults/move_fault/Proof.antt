@@ -1,8 +1,8 @@
 -- `move_fault` meets its contract: a majority has two moves, an XOR four. From the laws on kinds.
 use native.Mathlib.Omega.{arith}
-use Rattle.many.proofs.Refusing.{some-moves, no-moves, moves-of-kind}
-use Rattle.many.proofs.faults.move_fault.Statement.{statement}
-use Rattle.many.proofs.faults.move_fault.Tie as tie
+use Rattle.moves.proofs.Known.{some-moves, no-moves, moves-of-kind}
+use Rattle.moves.proofs.faults.move_fault.Statement.{statement}
+use Rattle.moves.proofs.faults.move_fault.Tie as tie
 
 pub move-fault-spec : {M : Type 1} → statement M
 move-fault-spec =
