@@ -4,7 +4,7 @@ ghost use Prim.Native.Nat.{ℕ, _+_, _*_, _/_, _%_, _≤_, _<_};
 ghost use lib.ListN.{length, take, getD};
 ghost use Rattle.graph.specs.Value.{majority, exclusive, nodeValue};
 ghost use Rattle.graph.specs.Graph.{index};
-ghost use Rattle.graph.specs.Inner.{Readable, threeBits};
+ghost use Rattle.graph.specs.Inner.{threeBits};
 ghost use Rattle.graph.specs.Literals.{bit, bitOf, held, literals};
 ghost use Rattle.evaluation.specs.Word.{gather};
 ghost use Rattle.evaluation.specs.Inner.{byIndex, column, literalWord, nodesOf, NodeBelow, NodeWords, Filled};
@@ -115,14 +115,12 @@ fn joined_word(xor: bool, x: u64, y: u64, z: u64) -> u64
     a ^ (a ^ e) & xor as u64 * ONES
 }
 
-// The word of the next node, whose words have these bits, `node_words` being those of the nodes before it. Where a kind can be foreseen, an
-// XOR is left once its two words are known.
+// The word of the next node, whose words have these bits, `node_words` being those of the nodes before it.
 fn node_word(
     inputs: u32,
     node_table: &[u32],
     node_bits: &[u64],
     three: u32,
-    foreseen: bool,
     input_words: &[u64],
     node_words: &[u64],
 ) -> u64
@@ -153,11 +151,6 @@ fn node_word(
         input_words,
         node_words,
     );
-    if foreseen {
-        if xor {
-            return exclusive_word(x, y);
-        }
-    }
     let z = third_word(
         inputs,
         node_table,
@@ -178,7 +171,6 @@ fn fill_node(
     node_bits: &[u64],
     v: usize,
     three: u32,
-    foreseen: bool,
     input_words: &[u64],
     scratch: &mut [u64],
 )
@@ -193,7 +185,6 @@ fn fill_node(
         node_table,
         node_bits,
         three,
-        foreseen,
         input_words,
         &scratch[..v],
     );
@@ -206,7 +197,6 @@ fn fill_four(
     node_table: &[u32],
     node_bits: &[u64],
     v: usize,
-    foreseen: bool,
     input_words: &[u64],
     scratch: &mut [u64],
 )
@@ -223,7 +213,6 @@ fn fill_four(
         node_bits,
         v,
         b % 8,
-        foreseen,
         input_words,
         scratch,
     );
@@ -233,7 +222,6 @@ fn fill_four(
         node_bits,
         v + 1,
         b / 8 % 8,
-        foreseen,
         input_words,
         scratch,
     );
@@ -243,7 +231,6 @@ fn fill_four(
         node_bits,
         v + 2,
         b / 64 % 8,
-        foreseen,
         input_words,
         scratch,
     );
@@ -253,7 +240,6 @@ fn fill_four(
         node_bits,
         v + 3,
         b / 512 % 8,
-        foreseen,
         input_words,
         scratch,
     );
@@ -265,7 +251,6 @@ fn fill_fours(
     nodes: u32,
     node_table: &[u32],
     node_bits: &[u64],
-    foreseen: bool,
     input_words: &[u64],
     scratch: &mut [u64],
 )
@@ -276,15 +261,7 @@ fn fill_fours(
         ⌜ Filled inputs l (now («input_words» .entry)) (now (scratch .entry)) 0 (now (scratch .exit)) (4 * (nodes / 4)) ⌝ }
 {
     for j in 0..nodes as usize / 4 {
-        fill_four(
-            inputs,
-            node_table,
-            node_bits,
-            4 * j,
-            foreseen,
-            input_words,
-            scratch,
-        );
+        fill_four(inputs, node_table, node_bits, 4 * j, input_words, scratch);
     }
 }
 
@@ -294,7 +271,6 @@ fn fill_rest(
     nodes: u32,
     node_table: &[u32],
     node_bits: &[u64],
-    foreseen: bool,
     input_words: &[u64],
     scratch: &mut [u64],
 )
@@ -312,47 +288,10 @@ fn fill_rest(
             node_bits,
             v,
             three,
-            foreseen,
             input_words,
             scratch,
         );
     }
-}
-
-// 1 where node v is an XOR, else 0.
-fn one_if_xor(node_table: &[u32], node_bits: &[u64], v: usize) -> u32
-    requires { ⌜ Readable (literals (now «node_table») (now «node_bits»)) v ⌝ }
-    ensures { λ r. ⌜ r ≤ 1 ⌝ }
-{
-    if table::is_mark_at(node_table, node_bits, 3 * v + 2) {
-        return 1;
-    }
-    0
-}
-
-// At most 64.
-fn first_of(nodes: u32) -> u32
-    ensures { λ r. ⌜ (r ≤ nodes) × (r ≤ 64) ⌝ }
-{
-    if nodes < 64 {
-        return nodes;
-    }
-    64
-}
-
-// Whether most of the first nodes are XORs: then a processor foresees a node's kind. It decides how words are looked up, and nothing else.
-fn mostly_xor(nodes: u32, node_table: &[u32], node_bits: &[u64]) -> bool
-    requires { let l = literals (now «node_table») (now «node_bits») in
-        ⌜ (nodes ≤ 100000) × ((v : ℕ) → v < nodes → Readable l v) ⌝ }
-{
-    let end = first_of(nodes);
-    let mut c: u32 = 0;
-    let mut v: u32 = 0;
-    while v < end {
-        c += one_if_xor(node_table, node_bits, v as usize);
-        v += 1;
-    }
-    3 * end <= 4 * c
 }
 
 // Fills the nodes' words into the front of `scratch`, in one pass.
@@ -370,23 +309,6 @@ pub fn fill_nodes(
         let g = nodesOf inputs nodes (literals (now («node_table» .entry)) (now («node_bits» .entry))) in
         ⌜ NodeWords g (now («input_words» .entry)) (take nodes (now (scratch .exit))) nodes ⌝ }
 {
-    let foreseen = mostly_xor(nodes, node_table, node_bits);
-    fill_fours(
-        inputs,
-        nodes,
-        node_table,
-        node_bits,
-        foreseen,
-        input_words,
-        scratch,
-    );
-    fill_rest(
-        inputs,
-        nodes,
-        node_table,
-        node_bits,
-        foreseen,
-        input_words,
-        scratch,
-    );
+    fill_fours(inputs, nodes, node_table, node_bits, input_words, scratch);
+    fill_rest(inputs, nodes, node_table, node_bits, input_words, scratch);
 }

@@ -15,24 +15,12 @@ fn value(inputs: u32, input_words: &[u64], values: &[u64], index: u32, bit: u32)
     words[(index - first) as usize] ^ mask
 }
 
-/// Whether most of the first nodes are XORs: then a processor foresees a node's kind.
-fn mostly_xor(indices: &[u32]) -> bool {
-    let first = &indices[..indices.len().min(3 * 64)];
-    let xors = first.chunks_exact(3).filter(|words| words[2] == MARK).count();
-    first.len() <= 4 * xors
-}
-
-/// The value of a node by its indices and bits. An XOR looks up its first index twice, so that nothing jumps on the kind; where the kind can be
-/// foreseen, it is left before.
-fn node_value(inputs: u32, words: [&[u64]; 2], indices: &[u32], bits: u32, foreseen: bool) -> u64 {
+/// The value of a node by its indices and bits. An XOR looks up its first index twice, so that nothing jumps on the kind.
+fn node_value(inputs: u32, input_words: &[u64], values: &[u64], indices: &[u32], bits: u32) -> u64 {
     let xor = indices[2] == MARK;
     let third = if xor { indices[0] } else { indices[2] };
-    let of = |index: u32, k: u32| value(inputs, words[0], words[1], index, bits >> k & 1);
-    let (x, y) = (of(indices[0], 0), of(indices[1], 1));
-    if foreseen && xor {
-        return x ^ y;
-    }
-    let z = of(third, 2);
+    let of = |index: u32, k: u32| value(inputs, input_words, values, index, bits >> k & 1);
+    let (x, y, z) = (of(indices[0], 0), of(indices[1], 1), of(third, 2));
     if xor {
         x ^ y
     } else {
@@ -51,10 +39,9 @@ pub fn evaluate(g: &View, input_words: &[u64], scratch: &mut [u64], results: &mu
     if scratch.len() < g.nodes as usize {
         return Err(8);
     }
-    let foreseen = mostly_xor(g.indices());
     let mut fill = |v: usize, indices: &[u32], bits: u32| {
         let (values, rest) = scratch.split_at_mut(v);
-        rest[0] = node_value(g.inputs, [input_words, values], indices, bits, foreseen);
+        rest[0] = node_value(g.inputs, input_words, values, indices, bits);
     };
     // The bits of four nodes at once.
     let turns = g.indices().chunks_exact(12);

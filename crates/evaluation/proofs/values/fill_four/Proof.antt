@@ -36,7 +36,7 @@ fill-node-requires-2 c κs =
     let x = c .before .before .before in
     let t = x .before .before in
     let s = t .before .before .before .before .before in
-    (s .pre .0, omega (arith, s .pre .1, x .fill-node .kept .1 .1 .1 .1 .1 .1 .1 .0), below-at s (s .args .v + 1) (omega arith), t .twelve-at .ensures .second)
+    (s .pre .0, omega (arith, s .pre .1, x .fill-node .kept .1 .1 .1 .1 .1 .1 .0), below-at s (s .args .v + 1) (omega arith), t .twelve-at .ensures .second)
 
 fill-node-requires-3 : tie.Need-fill-node-requires-3
 fill-node-requires-3 c κs =
@@ -44,7 +44,7 @@ fill-node-requires-3 c κs =
     let x = y .before .before .before .before in
     let t = x .before .before in
     let s = t .before .before .before .before .before in
-    (s .pre .0, omega (arith, s .pre .1, x .fill-node .kept .1 .1 .1 .1 .1 .1 .1 .0, y .fill-node2 .kept .1 .1 .1 .1 .1 .1 .1 .0), below-at s (s .args .v + 2) (omega arith), t .twelve-at .ensures .third)
+    (s .pre .0, omega (arith, s .pre .1, x .fill-node .kept .1 .1 .1 .1 .1 .1 .0, y .fill-node2 .kept .1 .1 .1 .1 .1 .1 .0), below-at s (s .args .v + 2) (omega arith), t .twelve-at .ensures .third)
 
 fill-node-requires-4 : tie.Need-fill-node-requires-4
 fill-node-requires-4 c κs =
@@ -54,7 +54,7 @@ fill-node-requires-4 c κs =
     let t = x .before .before in
     let s = t .before .before .before .before .before in (
       s .pre .0,
-      omega (arith, s .pre .1, x .fill-node .kept .1 .1 .1 .1 .1 .1 .1 .0, y .fill-node2 .kept .1 .1 .1 .1 .1 .1 .1 .0, z .fill-node3 .kept .1 .1 .1 .1 .1 .1 .1 .0),
+      omega (arith, s .pre .1, x .fill-node .kept .1 .1 .1 .1 .1 .1 .0, y .fill-node2 .kept .1 .1 .1 .1 .1 .1 .0, z .fill-node3 .kept .1 .1 .1 .1 .1 .1 .0),
       below-at s (s .args .v + 3) (omega arith),
       t .twelve-at .ensures .fourth,
     )
@@ -71,11 +71,11 @@ returns c n h =
     let g : Graph = nodesOf (a .inputs) n (literals (a .node-table .now) (a .node-bits .now)) in
     let moved : (t : List ℕ) (k m : ℕ) → k ≡ m → NodeWords g (a .input-words .now) (take k t) k → NodeWords g (a .input-words .now) (take m t) m =
     λ t k m e p. subst (λ (i : ℕ). NodeWords g (a .input-words .now) (take i t) i) e p in
-    moved (u .fill-node4 .last .1 .1 .1 .1 .1 .1 .1 .0) (v + 3 + 1) (v + 4) (omega arith)
+    moved (u .fill-node4 .last .1 .1 .1 .1 .1 .1 .0) (v + 3 + 1) (v + 4) (omega arith)
     (u .fill-node4 .ensures n
-    (moved (z .fill-node3 .last .1 .1 .1 .1 .1 .1 .1 .0) (v + 2 + 1) (v + 3) (omega arith)
+    (moved (z .fill-node3 .last .1 .1 .1 .1 .1 .1 .0) (v + 2 + 1) (v + 3) (omega arith)
     (z .fill-node3 .ensures n
-    (moved (y .fill-node2 .last .1 .1 .1 .1 .1 .1 .1 .0) (v + 1 + 1) (v + 2) (omega arith) (y .fill-node2 .ensures n (x .fill-node .ensures n h))))))
+    (moved (y .fill-node2 .last .1 .1 .1 .1 .1 .1 .0) (v + 1 + 1) (v + 2) (omega arith) (y .fill-node2 .ensures n (x .fill-node .ensures n h))))))
 
 pub fill-four-spec : {M : Type 1} → statement M
 fill-four-spec =

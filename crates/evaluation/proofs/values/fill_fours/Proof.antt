@@ -10,11 +10,11 @@ use Rattle.evaluation.proofs.values.fill_fours.Statement.{statement}
 use Rattle.evaluation.proofs.values.fill_fours.Tie as tie
 
 abbrev Inv-loop : tie.InvT-loop
-Inv-loop inputs nodes node-table node-bits foreseen input-words scratch₀ j₀ j-end scratch j =
+Inv-loop inputs nodes node-table node-bits input-words scratch₀ j₀ j-end scratch j =
     (j ≤ j-end) × (j-end ≡ nodes / 4) × (length scratch ≡ length scratch₀) × Filled inputs (literals node-table node-bits) input-words scratch₀ 0 scratch (4 * j)
 
 abbrev μ-loop : tie.MeasureT-loop
-μ-loop inputs nodes node-table node-bits foreseen input-words scratch₀ j₀ j-end scratch j = j-end - j
+μ-loop inputs nodes node-table node-bits input-words scratch₀ j₀ j-end scratch j = j-end - j
 
 loop-holds : tie.Need-loop-holds Inv-loop μ-loop
 loop-holds c = (omega arith, refl, refl, λ n h. h)
@@ -34,8 +34,8 @@ loop-again c =
     let e : 4 * j + 4 ≡ 4 * (j + 1) = omega arith in (
       omega arith,
       l .loop .inv .1,
-      omega (arith, f .fill-four .kept .1 .1 .1 .1 .1 .1 .0, l .loop .inv .2),
-      λ n h. subst (λ (i : ℕ). NodeWords (nodesOf (a .inputs) n (literals (a .node-table .now) (a .node-bits .now))) (a .input-words .now) (take i (f .fill-four .last .1 .1 .1 .1 .1 .1 .0)) i) e (f .fill-four .ensures n (l .loop .inv .3 n h)),
+      omega (arith, f .fill-four .kept .1 .1 .1 .1 .1 .0, l .loop .inv .2),
+      λ n h. subst (λ (i : ℕ). NodeWords (nodesOf (a .inputs) n (literals (a .node-table .now) (a .node-bits .now))) (a .input-words .now) (take i (f .fill-four .last .1 .1 .1 .1 .1 .0)) i) e (f .fill-four .ensures n (l .loop .inv .3 n h)),
     )
 
 returns : tie.Need-returns Inv-loop μ-loop

@@ -11,11 +11,11 @@ use Rattle.evaluation.proofs.values.fill_rest.Statement.{statement}
 use Rattle.evaluation.proofs.values.fill_rest.Tie as tie
 
 abbrev Inv-loop : tie.InvT-loop
-Inv-loop inputs nodes node-table node-bits foreseen input-words scratch₀ v₀ v-end scratch v =
+Inv-loop inputs nodes node-table node-bits input-words scratch₀ v₀ v-end scratch v =
     (v ≤ nodes) × (v-end ≡ nodes) × (length scratch ≡ length scratch₀) × Filled inputs (literals node-table node-bits) input-words scratch₀ (4 * (nodes / 4)) scratch v
 
 abbrev μ-loop : tie.MeasureT-loop
-μ-loop inputs nodes node-table node-bits foreseen input-words scratch₀ v₀ v-end scratch v = nodes - v
+μ-loop inputs nodes node-table node-bits input-words scratch₀ v₀ v-end scratch v = nodes - v
 
 loop-holds : tie.Need-loop-holds Inv-loop μ-loop
 loop-holds c = (omega arith, refl, refl, λ n h. h)
@@ -36,7 +36,7 @@ loop-again : tie.Need-loop-again Inv-loop μ-loop
 loop-again c =
     let f = c .before .before in
     let l = f .before .before .before .before in
-    (omega arith, l .loop .inv .1, omega (arith, f .fill-node .kept .1 .1 .1 .1 .1 .1 .1 .0, l .loop .inv .2), λ n h. f .fill-node .ensures n (l .loop .inv .3 n h))
+    (omega arith, l .loop .inv .1, omega (arith, f .fill-node .kept .1 .1 .1 .1 .1 .1 .0, l .loop .inv .2), λ n h. f .fill-node .ensures n (l .loop .inv .3 n h))
 
 returns : tie.Need-returns Inv-loop μ-loop
 returns c n h =

@@ -1,17 +1,15 @@
 -- `values::node_word` meets its contract. From the laws on words by index.
 use mathlib.Core.Path.{_≡_, sym, _∙_}
-use mathlib.Core.Bool.{Bool, true, false, cond, true≢false}
 use mathlib.Core.List.{List}
-use Prim.Native.Nat.{ℕ, _+_, _*_, _/_, _%_, _^_, _≤_, _<_}
+use Prim.Native.Nat.{ℕ, _+_, _*_, _/_, _%_, _^_, _≤_}
 use native.Mathlib.Omega.{arith}
 use borrow.Author.Needs.{needs}
 use borrow.Author.Tests.{eqb-false}
 use lib.ListN.{length, getD}
 use Rattle.graph.specs.Graph.{isXor}
-use Rattle.graph.specs.Literals.{bit, literals, bitOf}
-use Rattle.graph.specs.Value.{majority, exclusive, nodeValue}
+use Rattle.graph.specs.Literals.{literals, bitOf}
 use Rattle.graph.proofs.Words.{three-apart}
-use Rattle.evaluation.specs.Inner.{byIndex, column, literalWord, nodesOf}
+use Rattle.evaluation.specs.Inner.{byIndex, nodesOf}
 use Rattle.evaluation.proofs.Index.{node-joined}
 use Rattle.evaluation.proofs.values.node_word.Statement.{statement}
 use Rattle.evaluation.proofs.values.node_word.Tie as tie
@@ -43,45 +41,23 @@ literal-word-requires-2 c κs =
 
 third-word-requires : tie.Need-third-word-requires
 third-word-requires c κs =
-    let k = c .before .before .before in
+    let k = c .before .before in
     let s = k .before .before .before .before .before in
     let b = s .pre .1 in
     (s .pre .0, omega (arith, b .few), b .there, b .first, λ e. b .third (eqb-false _ _ (sym (k .is-mark-at .ensures) ∙ e)), bit-of s 2 (omega arith), omega arith)
 
-where-true : (q : Bool) (a b r : ℕ) → q ≡ true → r ≡ a → r ≡ cond q a b
-where-true q a b r t e = rw t e
-
--- what is joined of its words, of which the third counts for a majority alone
-module _ (y : tie.After-literal-word2) where
-  abbrev x : tie.After-literal-word
-  x = y .before
-
-  abbrev k : tie.After-is-mark-at
-  k = x .before
-
-  value-is : (z r : ℕ) → let a = k .before .before .before .before .before .args in
-      let ws = byIndex (a .inputs) (a .input-words .now) (a .node-words .now) in
-      let l = literals (a .node-table .now) (a .node-bits .now) in
-      (k .is-mark-at .result ≡ false → z ≡ literalWord ws (getD l (3 * length (a .node-words .now) + 2) 0))
-      → (n j : ℕ) → j < 64
-      → bit j r ≡ cond (k .is-mark-at .result) (exclusive (bit j (x .literal-word .result)) (bit j (y .literal-word2 .result))) (majority (bit j (x .literal-word .result)) (bit j (y .literal-word2 .result)) (bit j z))
-      → bit j r ≡ nodeValue (nodesOf (a .inputs) n l) (column j ws) (length (a .node-words .now))
-  unfolding isXor
-  value-is z r t n j h e =
-      let a = k .before .before .before .before .before .args in
-      let ws : List ℕ = byIndex (a .inputs) (a .input-words .now) (a .node-words .now) in
-      node-joined (nodesOf (a .inputs) n (literals (a .node-table .now) (a .node-bits .now))) (length (a .node-words .now)) ws
-      (x .literal-word .result) (y .literal-word2 .result) r (x .literal-word .ensures) (y .literal-word2 .ensures)
-      (k .is-mark-at .result) z (k .is-mark-at .ensures) t j h e
-
 returns : tie.Need-returns
+unfolding isXor
 returns c n j h =
-    let y = c .before .before .before in
-    let t = c .before .if2 .taken in
-    value-is y 0 (c .exclusive-word .result) (λ e. absurd (true≢false (sym t ∙ e))) n j h (where-true _ _ _ _ t (c .exclusive-word .ensures j))
-
-returns-2 : tie.Need-returns-2
-returns-2 c n j h = value-is (c .before .before .before) (c .before .third-word .result) (c .joined-word .result) (c .before .third-word .ensures) n j h (c .joined-word .ensures j h)
+    let z = c .before in
+    let y = z .before in
+    let x = y .before in
+    let k = x .before in
+    let a = k .before .before .before .before .before .args in
+    let ws : List ℕ = byIndex (a .inputs) (a .input-words .now) (a .node-words .now) in
+    node-joined (nodesOf (a .inputs) n (literals (a .node-table .now) (a .node-bits .now))) (length (a .node-words .now)) ws
+    (x .literal-word .result) (y .literal-word2 .result) (c .joined-word .result) (x .literal-word .ensures) (y .literal-word2 .ensures)
+    (k .is-mark-at .result) (z .third-word .result) (k .is-mark-at .ensures) (z .third-word .ensures) j h (c .joined-word .ensures j h)
 
 pub node-word-spec : {M : Type 1} → statement M
 node-word-spec =
@@ -93,8 +69,6 @@ node-word-spec =
     literal-word-requires
     (λ c. search needs)
     literal-word-requires-2
-    (λ c κs. search needs)
-    returns
     third-word-requires
     (λ c κs. search needs)
-    returns-2)
+    returns)
