@@ -6,7 +6,7 @@ use crate::cases::Case;
 use crate::lists::{differ, random_case};
 use crate::raw;
 use reference::entries;
-use reference::graph::index_of;
+use reference::graph::{index_of, Graph};
 use reference::moves::{self, moves_at, rows, Saving};
 use reference::packed::{set_bit, Packed};
 use reference::random::Random;
@@ -53,32 +53,32 @@ fn same(lent: &Packed, pair: (u32, u32), both: (u32, u32)) -> Result<Result<i64,
     Ok(got)
 }
 
-/// Every trial on a pair: the pair call saves the greatest, and leaves the graph of the first that does. Moves that the nodes cannot have
-/// are tried too, one past those of the kind: just they are refused.
+/// Every trial on a pair: the greatest saving with the first moves that give it, and how many trials. Moves that the nodes cannot have are
+/// tried too, one past those of the kind: just they are refused.
+fn best_of_trials(g: &Graph, lent: &Packed, pair: (u32, u32), named: u32) -> Result<((i64, u32, u32), u64), String> {
+    let of_kind = |index: u32| if g.is_node(index) { rows(g, index).len() as u32 } else { 1 };
+    let lacks = |index: u32, number: u32| g.is_node(index) && number >= moves_at(g, index).len() as u32;
+    let (mut best, mut done) = ((0, 0, 0), 0);
+    for (a, k) in (0..=of_kind(named)).flat_map(|a| (0..=of_kind(pair.0)).map(move |k| (a, k))) {
+        let told = same(lent, pair, (a, k))?;
+        let due = lacks(named, a) || lacks(pair.0, k);
+        differ(&format!("whether the moves {:?} are refused", (a, k)), &told.is_err(), &due)?;
+        let gain = told.unwrap_or(0);
+        REFUSED.fetch_add(u64::from(told.is_err()), Ordering::Relaxed);
+        LOST.fetch_add(u64::from(gain < 0), Ordering::Relaxed);
+        best = if gain > best.0 { (gain, a, k) } else { best };
+        done += 1;
+    }
+    Ok((best, done))
+}
+
+/// The pair call saves the greatest of all trials on the pair, and leaves the graph of the first that does.
 fn check_pair(case: &Case, lent: &Packed, node: u32, word: u32) -> Result<u64, String> {
     let g = &case.graph;
     let named = index_of(g.word(node, word as usize - 1));
-    let of_kind = |index: u32| if g.is_node(index) { rows(g, index).len() as u32 } else { 1 };
-    let had = |index: u32| if g.is_node(index) { moves_at(g, index).len() as u32 } else { u32::MAX };
     let locked = [named, node].map(|index| g.is_node(index) && g.is_locked(index));
     LOCKED.fetch_add(u64::from(locked[0] != locked[1] && g.is_node(named)), Ordering::Relaxed);
-    let mut best = (0, 0, 0);
-    let mut done = 0;
-    for a in 0..=of_kind(named) {
-        for k in 0..=of_kind(node) {
-            let told = same(lent, (node, word), (a, k))?;
-            differ(
-                &format!("whether the moves {:?} are refused", (a, k)),
-                &told.is_err(),
-                &(a >= had(named) || k >= had(node)),
-            )?;
-            let gain = told.unwrap_or(0);
-            REFUSED.fetch_add(u64::from(told.is_err()), Ordering::Relaxed);
-            LOST.fetch_add(u64::from(gain < 0), Ordering::Relaxed);
-            best = if gain > best.0 { (gain, a, k) } else { best };
-            done += 1;
-        }
-    }
+    let (best, done) = best_of_trials(g, lent, (node, word), named)?;
     let mut after = lent.clone();
     let saving = raw::pair(&mut after, node, word)?;
     differ("the pair call's saving", &saving.map(Saving::total), &Ok(best.0))?;

@@ -146,11 +146,13 @@ fn trials_with_locks() {
         trials(&xor.clone().locked_at(&[3]), (1, 4)),
         [0, -2, -2, -2].map(Ok)
     );
-    assert_eq!(
-        trials(&xor.clone().locked_at(&[4]), (2, 1)),
-        [0, -4].map(Ok)
-    );
-    // 15 before 16, and the named node's move before the node's.
+    assert_eq!(trials(&xor.locked_at(&[4]), (2, 1)), [0, -4].map(Ok));
+}
+
+/// 15 before 16, and the named node's move before the node's.
+#[test]
+fn refused_trials() {
+    let xor = of(2, &[[2, 4, 0], [6, 2, MARK]], &[8]);
     for (locked, both, due) in [
         (3, (2, 4), 15),
         (3, (1, 4), 16),
