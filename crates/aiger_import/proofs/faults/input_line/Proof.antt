@@ -1,8 +1,10 @@
 -- `faults::input_line` tests what `inputLineNumber` does. From the laws on a line tested by its numbers.
-use mathlib.Core.Path.{refl, sym, _∙_}
+use mathlib.Core.Path.{refl}
+use Prim.Native.Nat.{_+_, _*_}
 use native.Mathlib.Omega.{arith}
 use borrow.Author.Needs.{needs}
 use Rattle.graph.proofs.Tests.{equal, unequal}
+use Rattle.aiger.specs.Lines.{number}
 use Rattle.aiger.specs.Import.{inputLineNumber}
 use Rattle.aiger_import.proofs.Tested.{line-fault, number-fault, number-none}
 use Rattle.aiger_import.proofs.faults.input_line.Statement.{statement}
@@ -18,7 +20,8 @@ returns-2 c =
     let e = c .before in
     let r = e .before .before .before in
     let n = r .read-line .ensures .numbers (e .if1 .left) 0 (omega arith) in
-    number-fault _ _ _ _ _ (r .read-line .ensures) _ (e .if1 .left) 12 (unequal _ _ _ _ (λ y. c .if2 .taken (n ∙ y)) refl) (λ y. omega arith)
+    let a = r .before .before .before .args in
+    number-fault _ _ _ _ _ (r .read-line .ensures) _ (e .if1 .left) 12 (unequal (number (a .s .now)) (2 * (1 + a .k)) _ _ (λ y. c .if2 .taken (omega (arith, n, y))) refl) (λ y. omega arith)
 
 returns-3 : tie.Need-returns-3
 unfolding inputLineNumber
@@ -26,7 +29,8 @@ returns-3 c =
     let e = c .before in
     let r = e .before .before .before in
     let n = r .read-line .ensures .numbers (e .if1 .left) 0 (omega arith) in
-    number-none _ _ _ _ _ (r .read-line .ensures) _ (e .if1 .left) (equal _ _ _ _ (sym n ∙ c .if2 .left) refl)
+    let a = r .before .before .before .args in
+    number-none _ _ _ _ _ (r .read-line .ensures) _ (e .if1 .left) (equal (number (a .s .now)) (2 * (1 + a .k)) _ _ (omega (arith, n, c .if2 .left)) refl)
 
 pub input-line-spec : {M : Type 1} → statement M
 input-line-spec =

@@ -20,7 +20,7 @@ room-held c = sym (c .before .tables-number .ensures) ∙ c .if1 .left
 slices-held : (c : tie.Else3) → let a = c .before .before .before .before .before .before .before .before .before .args in sliceNumber (graphOf (a .inputs) (a .nodes) (a .outputs) (literals (a .node-table .now) (a .node-bits .now)) (literals (a .output-table .now) (a .output-bits .now))) (a .words) (a .results) ≡ 0
 slices-held c =
     let a = c .before .before .before .before .before .before .before .before .before .args in
-    long-slices (graphOf (a .inputs) (a .nodes) (a .outputs) (literals (a .node-table .now) (a .node-bits .now)) (literals (a .output-table .now) (a .output-bits .now))) (a .words) (a .results) (c .before .if2 .left) (c .if3 .left)
+    long-slices (graphOf (a .inputs) (a .nodes) (a .outputs) (literals (a .node-table .now) (a .node-bits .now)) (literals (a .output-table .now) (a .output-bits .now))) (a .words) (a .results) (omega (arith, c .before .if2 .left)) (omega (arith, c .if3 .left))
 
 returns : tie.Need-returns
 unfolding evaluateNumber tablesNumber
@@ -32,7 +32,7 @@ returns-2 c =
     let t = c .before in
     let a = t .before .before .before .before .before .before .before .args in
     none _ _ (room-held t)
-    (met _ _ (omega arith) (short-words (graphOf (a .inputs) (a .nodes) (a .outputs) (literals (a .node-table .now) (a .node-bits .now)) (literals (a .output-table .now) (a .output-bits .now))) (a .words) (a .results) (c .if2 .taken)))
+    (met _ _ (omega arith) (short-words (graphOf (a .inputs) (a .nodes) (a .outputs) (literals (a .node-table .now) (a .node-bits .now)) (literals (a .output-table .now) (a .output-bits .now))) (a .words) (a .results) (omega (arith, c .if2 .taken))))
 
 returns-3 : tie.Need-returns-3
 unfolding evaluateNumber
@@ -40,7 +40,7 @@ returns-3 c =
     let t = c .before .before in
     let a = t .before .before .before .before .before .before .before .args in
     none _ _ (room-held t)
-    (met _ _ (omega arith) (short-results (graphOf (a .inputs) (a .nodes) (a .outputs) (literals (a .node-table .now) (a .node-bits .now)) (literals (a .output-table .now) (a .output-bits .now))) (a .words) (a .results) (c .before .if2 .left) (c .if3 .taken)))
+    (met _ _ (omega arith) (short-results (graphOf (a .inputs) (a .nodes) (a .outputs) (literals (a .node-table .now) (a .node-bits .now)) (literals (a .output-table .now) (a .output-bits .now))) (a .words) (a .results) (omega (arith, c .before .if2 .left)) (omega (arith, c .if3 .taken))))
 
 content-number-requires : tie.Need-content-number-requires
 content-number-requires c κs = room-held (c .before .before)
