@@ -1,32 +1,30 @@
--- Two moves at different nodes, made one after the other, are the pair's choice made at once; and the first least pair by both
--- nodes' numbers is the best of the pair. From the law of composition and the pair's decision.
-use mathlib.Core.Path.{_≡_, refl, sym, ap, _∙_, subst, fun-ext}
+-- The first least pair by both nodes' numbers is the best of the pair, and its two moves made one after the other are its choice. From the
+-- laws of two moves at different nodes and the pair's decision.
+use mathlib.Core.Path.{_≡_, refl, sym, ap, _∙_, subst}
 use mathlib.Core.Bool.{Bool, true, false, cond, _&&_}
 use mathlib.Core.List.{List, [], _∷_}
-use mathlib.Core.Logic.{⊎-elim, _≢_}
+use mathlib.Core.Logic.{⊎-elim}
 use Prim.Native.Nat.{ℕ, _+_, _-_, _*_, _/_, _≤_, _<_}
 use native.Mathlib.Omega.{arith}
 use borrow.Author.Tests.{lt-ltb, le-ltb, leb-true}
 use lib.Dec.{leb}
 use lib.IntN.{pos}
-use Rattle.graph.specs.Admission.{Admitted}
 use Rattle.graph.specs.Answer.{gained, outcome}
 use Rattle.graph.specs.Count.{C}
 use Rattle.graph.specs.Graph.{Graph, node, word, isEdge, isXor}
 use Rattle.graph.proofs.DifferenceSum.{no-difference}
-use Rattle.graph.proofs.Cases.{lt-or-le, eq-or-ne, true-or-false}
+use Rattle.graph.proofs.Cases.{lt-or-le, true-or-false}
 use Rattle.graph.proofs.Edge.{edge-early, third-majority}
-use Rattle.moves.specs.Apply.{none, at, put, apply, compose, Permitted}
+use Rattle.moves.specs.Apply.{none, at, put, apply}
 use Rattle.moves.specs.Call.{moved, bestAt, rewrite, isNode, namedBy, pairRewrite, wordFault}
 use Rattle.moves.specs.Decide.{numbersOf, naming, pairCost, FirstPair}
-use Rattle.moves.specs.Rows.{arity, kindMoves, movesAt, combined}
+use Rattle.moves.specs.Rows.{kindMoves, movesAt}
 use Rattle.moves.specs.declared.decide.NodeNumbers.{NodeNumbers}
-use Rattle.moves.proofs.Changed.{at-same, at-other}
-use Rattle.moves.proofs.Compose.{apply-apply}
 use Rattle.moves.proofs.Kept.{rewrite-graph}
+use Rattle.moves.proofs.Made.{pair-apply}
 use Rattle.moves.proofs.NodeBest.{pair-best}
 use Rattle.moves.proofs.Readers.{both-true}
-use Rattle.moves.proofs.Moves.{arity-pos, kind-pos, moves-no-more, node-row}
+use Rattle.moves.proofs.Moves.{moves-no-more}
 use Rattle.state.specs.State.{stands, Ordered}
 use Rattle.state.specs.Step.{Made, Parted}
 use Rattle.state.specs.declared.moving.Step.{Step}
@@ -34,50 +32,6 @@ use Rattle.state.proofs.Alike.{alike-kindMoves, alike-isNode}
 use Rattle.state.proofs.Stands.{stands-alike, stands-admitted}
 use Rattle.state.proofs.Stores.{kept-same, kept-then}
 use Rattle.state.proofs.Counting.{moves-now, node-now, within-now}
-
--- a move joined to none
-pub combined-left : (x : Bool) (m : ℕ) → m < arity x → combined x m 0 ≡ m
-unfolding combined arity
-combined-left true m h = omega arith
-combined-left false m h = omega arith
-
-pub combined-right : (x : Bool) (m : ℕ) → m < arity x → combined x 0 m ≡ m
-unfolding combined arity
-combined-right true m h = omega arith
-combined-right false m h = omega arith
-
-combined-none : (x : Bool) → combined x 0 0 ≡ 0
-combined-none x = combined-left x 0 (arity-pos x)
-
-module _ (h : Graph) where
-  permitted-at : (v m : ℕ) → m < kindMoves h (node h v) → Permitted h (at none (node h v) m)
-  permitted-at v m l w i =
-      ⊎-elim
-      (λ (e : w ≡ v). rw (e, at-same none (node h v) m) l)
-      (λ (e : w ≢ v). rw (at-other none (node h v) m (node h w) (λ z. e (omega arith))) (kind-pos h _))
-      (eq-or-ne w v)
-
-  module _ (adm : Admitted h) (p v a k : ℕ) (d : p ≢ v) (pa : a < kindMoves h (node h p)) (pk : k < kindMoves h (node h v)) where
-    kind-of : (w : ℕ) → isXor h (node h w - (h .I + 1)) ≡ isXor h w
-    kind-of w = let e : node h w - (h .I + 1) ≡ w = omega arith in rw e
-
-    both : (u : ℕ) → compose h (at none (node h p) a) (at none (node h v) k) u ≡ at (at none (node h p) a) (node h v) k u
-    unfolding compose
-    both u =
-        ⊎-elim
-        (λ (e : u ≡ node h v).
-        rw (e, at-same none (node h v) k, at-same (at none (node h p) a) (node h v) k, at-other none (node h p) a (node h v) (λ z. d (omega arith)), kind-of v)
-        (combined-right (isXor h v) k (node-row h v k pk)))
-        (λ (e : u ≢ node h v).
-        rw (at-other none (node h v) k u e, at-other (at none (node h p) a) (node h v) k u e)
-        (⊎-elim
-        (λ (q : u ≡ node h p). rw (q, at-same none (node h p) a, kind-of p) (combined-left (isXor h p) a (node-row h p a pa)))
-        (λ (q : u ≢ node h p). rw (at-other none (node h p) a u q) (combined-none (isXor h (u - (h .I + 1)))))
-        (eq-or-ne u (node h p))))
-        (eq-or-ne u (node h v))
-
-    pub pair-apply : apply (apply h (at none (node h p) a)) (at none (node h v) k) ≡ apply h (at (at none (node h p) a) (node h v) k)
-    pair-apply = apply-apply h (at none (node h p) a) (at none (node h v) k) (permitted-at p a pa) (permitted-at v k pk) adm ∙ ap (apply h) (fun-ext both)
 
 module _ (g : Graph) (ls sc : List ℕ) (o : Ordered g sc) (p v : ℕ) (d : p < v) (l : v < g .N) where
   abbrev h : Graph

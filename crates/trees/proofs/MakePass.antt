@@ -23,7 +23,7 @@ use Rattle.moves.proofs.Moves.{kind-pos, has-row, node-row}
 use Rattle.moves.proofs.Written.{within, put-tree}
 use Rattle.state.specs.State.{field, stands, Ordered}
 use Rattle.state.specs.Step.{TreesKept, Became}
-use Rattle.state.proofs.Pairs.{combined-left, combined-right}
+use Rattle.moves.proofs.Made.{combined-left, combined-right}
 use Rattle.trees.specs.Deciding.{movesIn, TreeDecided}
 use Rattle.trees.proofs.DecidePass.{moves-at}
 
