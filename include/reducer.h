@@ -349,8 +349,8 @@ uint32_t reducer_settle(uint32_t inputs, uint32_t nodes, uint32_t outputs,
  * every reader, its move 3 word 2 and every reader; move 0 turns nothing, and an edge that two moves turn ends as it was. The graph
  * is the one that the moves give one by one, in every order. A locked node may stand in the list with move 0. The bytes that
  * reducer_preview tells, with all nodes as the list, make the moves of reducer_tree. moves may be longer than the list: the rest is
- * not read. saving is the number of complemented edges before less that after, below 0 where there are more. No scratch is needed.
- * Refusals: 3, 4 (tables, locks, or fewer moves than entries of the list), 5, 13, then entry by entry 7, 14, 15, 16.
+ * not read. saving is the number of complemented edges before less that after, below 0 where there are more. No scratch is needed,
+ * but 13 KB of stack. Refusals: 3, 4 (tables, locks, or fewer moves than entries of the list), 5, 13, then entry by entry 7, 14, 15, 16.
  */
 uint32_t reducer_many(uint32_t inputs, uint32_t nodes, uint32_t outputs,
                       const uint32_t *node_table, size_t node_table_length,

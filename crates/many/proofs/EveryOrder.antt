@@ -23,7 +23,7 @@ use Rattle.moves.proofs.Kept.{apply-idle}
 use Rattle.moves.proofs.Moves.{kind-pos}
 use Rattle.many.specs.Many.{Entry, entries, oneByOne, EveryOrder}
 use Rattle.many.specs.Making.{Listed, chosen}
-use Rattle.many.proofs.Halving.{put-out, rises-rest}
+use Rattle.many.proofs.Rising.{put-out, rises-rest}
 use Rattle.many.proofs.Refusing.{accepted-many}
 use Rattle.many.proofs.Sweeping.{put-has}
 
@@ -145,6 +145,11 @@ nothing : (g : Graph) (ms : List ℕ) → Admitted g → g ≡ moved g [] ms
 unfolding moved put
 nothing g ms adm = sym (apply-idle g none adm (λ u. refl))
 
+-- a move leaves the inputs
+made-above : (g : Graph) (u k w : ℕ) → g .I < w → moved g (u ∷ []) (k ∷ []) .I < w
+unfolding moved apply turnedBy
+made-above g u k w h = h
+
 module _ (g : Graph) (u k : ℕ) (us ms : List ℕ) (l : Listed g (u ∷ us) (k ∷ ms)) where
   rest-had : Had g (chosen us ms)
   rest-had = put-has (kindMoves g) us ms none (kind-pos g) (λ j h. l .have (suc j) (omega arith))
@@ -157,6 +162,7 @@ module _ (g : Graph) (u k : ℕ) (us ms : List ℕ) (l : Listed g (u ∷ us) (k 
       record {
         rises = rises-rest u us (l .rises);
         enough = omega (arith, l .enough);
+        nodes = λ j h. made-above g u k (getD us j 0) (l .nodes (suc j) (omega arith));
         have = λ j h. rw (made-moves g adm u k (getD us j 0)) (l .have (suc j) (omega arith));
       }
 

@@ -1,4 +1,4 @@
-pub mod Halving
+pub mod Rising
 pub mod Refusing
 pub mod Sweeping
 pub mod EveryOrder

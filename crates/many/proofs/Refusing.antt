@@ -18,7 +18,7 @@ use Rattle.moves.specs.Call.{nodeFault, moveNumber}
 use Rattle.moves.proofs.Known.{node-known, node-fault-le, move-number-le, kind-has}
 use Rattle.many.specs.Many.{risingFault, entryNumber, listNumber, manyNumber}
 use Rattle.many.specs.Making.{Listed}
-use Rattle.many.proofs.Halving.{rises-by}
+use Rattle.many.proofs.Rising.{rises-by}
 
 -- an entry is above the one before
 pub first-rises : (us : List ℕ) (j : ℕ) → j ≡ 0 → 0 ≡ risingFault us j
@@ -73,6 +73,10 @@ module _ (g : Graph) (ls us ms : List ℕ) (j : ℕ) where
   unfolding entryNumber
   entry-rises e = both _ _ (both _ _ e .1) .0
 
+  pub entry-node : entryNumber g ls us ms j ≡ 0 → g .I < u
+  unfolding entryNumber
+  entry-node e = node-known g u (both _ _ e .0) .0
+
   pub entry-has : entryNumber g ls us ms j ≡ 0 → getD ms j 0 < kindMoves g u
   unfolding entryNumber
   entry-has e = kind-has g ls u (getD ms j 0) (both _ _ (both _ _ e .1) .1)
@@ -103,6 +107,7 @@ module _ (g : Graph) (ls us ms : List ℕ) where
         record {
           rises = rises-by us (λ j h. above us j (entry-rises g ls us ms (suc j) (each (suc j) h)));
           enough = off _ _ 3 0 (b .0) .0;
+          nodes = λ j h. entry-node g ls us ms j (each j h);
           have = λ j h. entry-has g ls us ms j (each j h);
         },
       )

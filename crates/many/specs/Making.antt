@@ -1,14 +1,16 @@
 -- Moves looked up in a rising list and made word by word, in one sweep of each table: what the inner functions ask of each other, and
 -- no promise to a caller.
+use mathlib.Core.Path.{_≡_}
 use mathlib.Core.List.{List, []}
 use Prim.Native.Nat.{ℕ, _≤_, _<_}
 use lib.ListN.{length, getD}
-use Rattle.graph.specs.Graph.{Graph, graphOf}
+use Rattle.graph.specs.Graph.{Graph, graphOf, index}
 use Rattle.graph.specs.Inner.{Readable}
 use Rattle.graph.specs.Admission.{Admitted}
+use Rattle.graph.specs.Literals.{bitAt}
 use Rattle.graph.specs.Turned.{turnedTable, upTo}
 use Rattle.moves.specs.Rows.{kindMoves}
-use Rattle.moves.specs.Apply.{Choice, none, put, turns, outputTurns}
+use Rattle.moves.specs.Apply.{Choice, none, put, seen, turns}
 
 -- indices rise
 abbrev pub Rises : List ℕ → Type 0
@@ -20,10 +22,11 @@ pub record Stands (us : List ℕ) (u k : ℕ) : Type 0 where
   pub before : (i : ℕ) → i < k → getD us i 0 < u
   pub after : (i : ℕ) → k ≤ i → i < length us → u ≤ getD us i 0
 
--- a list that can be made: it rises, and each move is one that its node's kind has
+-- a list that can be made: it rises, names nodes, and each move is one that its node's kind has
 pub record Listed (g : Graph) (us ms : List ℕ) : Type 0 where
   pub rises : Rises us
   pub enough : length us ≤ length ms
+  pub nodes : (j : ℕ) → j < length us → g .I < getD us j 0
   pub have : (j : ℕ) → j < length us → getD ms j 0 < kindMoves g (getD us j 0)
 
 -- its moves as a choice
@@ -46,9 +49,16 @@ pub record Ready (i n : ℕ) (ns us ms : List ℕ) : Type 0 where
   pub admitted : Admitted (bare i n ns)
   pub listed : Listed (bare i n ns) us ms
 
--- both tables, with their words below place j turned as a choice turns them
+-- the node table, with its words below place j turned as a choice turns them
 unfoldable pub nodesTo : ℕ → ℕ → List ℕ → Choice → ℕ → List ℕ
 nodesTo i n ns m j = turnedTable ns (upTo j (turns (bare i n ns) m))
 
-unfoldable pub outputsTo : Graph → Choice → ℕ → List ℕ
-outputsTo g m j = turnedTable (g .outputs) (upTo j (outputTurns g m))
+-- bits that say of each index below u whether a choice turns its readers; the rest are 0
+pub record Noted (g : Graph) (m : Choice) (bs : List ℕ) (u : ℕ) : Type 0 where
+  pub room : length bs ≡ 1627
+  pub below : (w : ℕ) → w < u → bitAt bs w ≡ seen g m w
+  pub after : (w : ℕ) → u ≤ w → bitAt bs w ≡ 0
+
+-- what they say of the index that the word at place j of a table names
+unfoldable pub named : List ℕ → List ℕ → ℕ → ℕ
+named bs l j = bitAt bs (index (getD l j 0))

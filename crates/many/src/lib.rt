@@ -7,7 +7,7 @@ ghost use Rattle.many.specs.Many.{manyCall};
 
 mod faults;
 mod making;
-mod search;
+mod walk;
 
 use moves::Gain;
 

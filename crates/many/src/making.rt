@@ -1,109 +1,74 @@
-// A list of moves made by one sweep of each table. A move turns marks nowhere, so that the kind of a node can be read before its words
-// are turned and after.
+// A list of moves made by one sweep of each table. A node's words name indices below its own, so that when the sweep comes to a node it is
+// known of each of them whether its readers are turned: a bit an index says so, in words of this call's own.
 ghost use mathlib.Core.Path.{_≡_};
-ghost use mathlib.Core.Bool.{true};
 ghost use mathlib.Core.List.{List};
-ghost use Prim.Native.Nat.{ℕ, _+_, _*_, _≤_, _<_};
+ghost use Prim.Native.Nat.{ℕ, _+_, _*_, _%_, _≤_, _<_};
+ghost use lib.ListN.{length, getD};
 ghost use Rattle.graph.specs.Admission.{Admitted};
 ghost use Rattle.graph.specs.Count.{C};
 ghost use Rattle.graph.specs.Difference.{difference};
-ghost use Rattle.graph.specs.Graph.{isEdge};
-ghost use Rattle.graph.specs.Turned.{turnedTable, only};
-ghost use Rattle.graph.specs.Literals.{graphIn, literals};
-ghost use Rattle.moves.specs.Apply.{own, seen, turns};
+ghost use Rattle.graph.specs.Graph.{index, isXor};
+ghost use Rattle.graph.specs.Turned.{turnedTable, only, upTo};
+ghost use Rattle.graph.specs.Literals.{bitAt, graphIn, held, literals};
+ghost use Rattle.moves.specs.Apply.{Choice};
 ghost use Rattle.moves.specs.Call.{moved};
-ghost use Rattle.many.specs.Making.{Ready, Listed, bare, chosen, nodesTo, outputsTo};
-use crate::search;
+ghost use Rattle.moves.specs.Rows.{arity, kindMoves};
+ghost use Rattle.many.specs.Making.{Ready, Listed, Noted, bare, chosen, nodesTo, named};
+use crate::walk;
 use graph::table;
 use moves::rows;
 
-// Whether the readers of index u are turned.
-pub fn seen_by(
-    inputs: u32,
-    nodes: u32,
-    node_table: &[u32],
-    node_bits: &[u64],
-    list: &[u32],
-    bytes: &[u8],
-    u: u32,
-) -> u32
-    requires { ⌜ Ready inputs nodes (literals (now «node_table») (now «node_bits»)) (now list) (now bytes) × (u < inputs + 1 + nodes) ⌝ }
-    ensures { λ r.
-        let l = literals (now («node_table» .entry)) (now («node_bits» .entry)) in
-        let d = chosen (now (list .entry)) (now (bytes .entry)) in
-        ⌜ (r ≡ seen (bare inputs nodes l) d u) × (r ≤ 1) ⌝ }
+// Words for a bit of each index that a graph can have: 4,096 inputs, 100,000 nodes and the constant.
+const SEEN: usize = 1627;
+
+// Turns bit u t times.
+fn note(seen: &mut [u64], u: usize, t: u32)
+    requires { ⌜ u < 64 * length (now seen) ⌝ }
+    ensures { λ _. ⌜ ((w : ℕ) → bitAt (now (seen .exit)) w ≡ (bitAt (now (seen .entry)) w + only u t w) % 2) ⌝ }
 {
-    if u <= inputs {
-        return 0;
-    }
-    let m = search::move_of(list, bytes, u);
-    let v = (u - (inputs + 1)) as usize;
-    rows::flag_of(rows::is_xor(node_table, node_bits, v), m, 3)
+    let k = u / 64;
+    seen[k] = table::flipped(seen[k], u % 64, t);
 }
 
 // Turns the word at place j, which its own node's move turns f times.
-pub fn turn_place(
-    inputs: u32,
-    nodes: u32,
-    node_table: &[u32],
-    node_bits: &mut [u64],
-    list: &[u32],
-    bytes: &[u8],
-    j: usize,
-    f: u32,
-)
+fn turn_place(node_table: &[u32], node_bits: &mut [u64], seen: &[u64], j: usize, f: u32)
     requires { let l = literals (now «node_table») (now «node_bits») in
-        let d = chosen (now list) (now bytes) in
-        ⌜ Ready inputs nodes l (now list) (now bytes) × (j < 3 * nodes) × (isEdge (bare inputs nodes l) j ≡ true) × (f ≡ own (bare inputs nodes l) d j) ⌝ }
+        ⌜ (f ≤ 1) × (j < held l) × (index (getD l j 0) < 104128) × (length (now seen) ≡ 1627) ⌝ }
     ensures { λ _.
         let l = literals (now («node_table» .entry)) (now («node_bits» .entry)) in
         let k = literals (now («node_table» .entry)) (now («node_bits» .exit)) in
-        let d = chosen (now (list .entry)) (now (bytes .entry)) in
-        ⌜ k ≡ turnedTable l (only j (turns (bare inputs nodes l) d j)) ⌝ }
+        ⌜ k ≡ turnedTable l (only j (f + named (now (seen .entry)) l j)) ⌝ }
 {
     let u = table::index_at(node_table, node_bits, j);
-    let t = f + seen_by(inputs, nodes, node_table, node_bits, list, bytes, u);
+    let t = f + table::bit_at(seen, u as usize);
     table::turn_word(node_table, node_bits, j, t);
 }
 
 // Turns the words of node v, whose move is m: an XOR's two or a majority's three. A sweep that has come to the node goes past it.
-pub fn turn_node(
+fn turn_words(
     inputs: u32,
     nodes: u32,
     node_table: &[u32],
     node_bits: &mut [u64],
-    list: &[u32],
-    bytes: &[u8],
+    seen: &[u64],
     v: usize,
+    xor: bool,
     m: u32,
 )
-    requires { let l = literals (now «node_table») (now «node_bits») in
-        ⌜ Ready inputs nodes l (now list) (now bytes) × (v < nodes) × (m ≡ chosen (now list) (now bytes) (inputs + 1 + v)) ⌝ }
+    requires { let g = bare inputs nodes (literals (now «node_table») (now «node_bits»)) in
+        ⌜ Admitted g × (v < nodes) × (xor ≡ isXor g v) × (m < arity xor) × (length (now seen) ≡ 1627) ⌝ }
     ensures { λ _.
         let l = literals (now («node_table» .entry)) (now («node_bits» .entry)) in
         let k = literals (now («node_table» .entry)) (now («node_bits» .exit)) in
-        let d = chosen (now (list .entry)) (now (bytes .entry)) in
-        ⌜ ((ns : List ℕ) → Admitted (bare inputs nodes ns) → l ≡ nodesTo inputs nodes ns d (3 * v) → k ≡ nodesTo inputs nodes ns d (3 * v + 3)) ⌝ }
+        ⌜ ((d : Choice) (ns : List ℕ) → Admitted (bare inputs nodes ns) → Noted (bare inputs nodes ns) d (now (seen .entry)) (inputs + 1 + v)
+        → m ≡ d (inputs + 1 + v) → l ≡ nodesTo inputs nodes ns d (3 * v) → k ≡ nodesTo inputs nodes ns d (3 * v + 3)) ⌝ }
 {
-    let xor = rows::is_xor(node_table, node_bits, v);
     let at = 3 * v;
+    turn_place(node_table, node_bits, seen, at, rows::flag_of(xor, m, 0));
     turn_place(
-        inputs,
-        nodes,
         node_table,
         node_bits,
-        list,
-        bytes,
-        at,
-        rows::flag_of(xor, m, 0),
-    );
-    turn_place(
-        inputs,
-        nodes,
-        node_table,
-        node_bits,
-        list,
-        bytes,
+        seen,
         at + 1,
         rows::flag_of(xor, m, 1),
     );
@@ -111,78 +76,87 @@ pub fn turn_node(
         return;
     }
     turn_place(
-        inputs,
-        nodes,
         node_table,
         node_bits,
-        list,
-        bytes,
+        seen,
         at + 2,
         rows::flag_of(xor, m, 2),
     );
 }
 
-// The nodes go by rising index, and the list beside them.
-pub fn turn_nodes(
+// The same, and notes whether the node's readers are turned.
+fn turn_node(
     inputs: u32,
     nodes: u32,
     node_table: &[u32],
     node_bits: &mut [u64],
+    seen: &mut [u64],
+    v: u32,
+    m: u32,
+)
+    requires { let g = bare inputs nodes (literals (now «node_table») (now «node_bits»)) in
+        ⌜ Admitted g × (v < nodes) × (m < kindMoves g (inputs + 1 + v)) × (length (now seen) ≡ 1627) ⌝ }
+    ensures { λ _.
+        let l = literals (now («node_table» .entry)) (now («node_bits» .entry)) in
+        let k = literals (now («node_table» .entry)) (now («node_bits» .exit)) in
+        ⌜ ((d : Choice) (ns : List ℕ) → Admitted (bare inputs nodes ns) → Noted (bare inputs nodes ns) d (now (seen .entry)) (inputs + 1 + v)
+        → m ≡ d (inputs + 1 + v) → l ≡ nodesTo inputs nodes ns d (3 * v)
+        → (k ≡ nodesTo inputs nodes ns d (3 * v + 3)) × Noted (bare inputs nodes ns) d (now (seen .exit)) (inputs + 1 + v + 1)) ⌝ }
+{
+    let xor = rows::is_xor(node_table, node_bits, v as usize);
+    turn_words(
+        inputs,
+        nodes,
+        node_table,
+        node_bits,
+        seen,
+        v as usize,
+        xor,
+        m,
+    );
+    note(seen, (inputs + 1 + v) as usize, rows::flag_of(xor, m, 3));
+}
+
+// The nodes go by rising index, and the list beside them.
+fn turn_nodes(
+    inputs: u32,
+    nodes: u32,
+    node_table: &[u32],
+    node_bits: &mut [u64],
+    seen: &mut [u64],
     list: &[u32],
     bytes: &[u8],
 )
-    requires { ⌜ Ready inputs nodes (literals (now «node_table») (now «node_bits»)) (now list) (now bytes) ⌝ }
+    requires { let l = literals (now «node_table») (now «node_bits») in
+        ⌜ Ready inputs nodes l (now list) (now bytes) × Noted (bare inputs nodes l) (chosen (now list) (now bytes)) (now seen) (inputs + 1) ⌝ }
     ensures { λ _.
         let l = literals (now («node_table» .entry)) (now («node_bits» .entry)) in
         let k = literals (now («node_table» .entry)) (now («node_bits» .exit)) in
         let d = chosen (now (list .entry)) (now (bytes .entry)) in
-        ⌜ k ≡ nodesTo inputs nodes l d (3 * nodes) ⌝ }
+        ⌜ (k ≡ nodesTo inputs nodes l d (3 * nodes)) × Noted (bare inputs nodes l) d (now (seen .exit)) (inputs + 1 + nodes) ⌝ }
 {
     let mut v: u32 = 0;
-    let mut k = search::place_of(list, inputs + 1);
+    let mut k: usize = 0;
     while v < nodes {
         let u = inputs + 1 + v;
-        let m = search::move_at(list, bytes, u, k);
-        turn_node(
-            inputs,
-            nodes,
-            node_table,
-            node_bits,
-            list,
-            bytes,
-            v as usize,
-            m,
-        );
-        k = search::next_place(list, u, k);
+        let m = walk::move_at(list, bytes, u, k);
+        turn_node(inputs, nodes, node_table, node_bits, seen, v, m);
+        k = walk::next_place(list, u, k);
         v += 1;
     }
 }
 
-pub fn turn_outputs(
-    inputs: u32,
-    nodes: u32,
-    outputs: u32,
-    node_table: &[u32],
-    node_bits: &[u64],
-    output_table: &[u32],
-    output_bits: &mut [u64],
-    list: &[u32],
-    bytes: &[u8],
-)
-    requires { let g = graphIn inputs nodes outputs (now «node_table») (now «node_bits») (now «output_table») (now «output_bits») in
-        let l = literals (now «node_table») (now «node_bits») in
-        ⌜ Admitted g × Ready inputs nodes l (now list) (now bytes) ⌝ }
+fn turn_outputs(outputs: u32, output_table: &[u32], output_bits: &mut [u64], seen: &[u64])
+    requires { let l = literals (now «output_table») (now «output_bits») in
+        ⌜ (outputs ≤ held l) × ((j : ℕ) → j < outputs → index (getD l j 0) < 104128) × (length (now seen) ≡ 1627) ⌝ }
     ensures { λ _.
-        let g = graphIn inputs nodes outputs (now («node_table» .entry)) (now («node_bits» .entry)) (now («output_table» .entry)) (now («output_bits» .entry)) in
-        let d = chosen (now (list .entry)) (now (bytes .entry)) in
-        ⌜ literals (now («output_table» .entry)) (now («output_bits» .exit)) ≡ outputsTo g d outputs ⌝ }
+        let l = literals (now («output_table» .entry)) (now («output_bits» .entry)) in
+        ⌜ literals (now («output_table» .entry)) (now («output_bits» .exit)) ≡ turnedTable l (upTo outputs (named (now (seen .entry)) l)) ⌝ }
 {
     let end = outputs as usize;
     let mut j: usize = 0;
     while j < end {
-        let u = table::index_at(output_table, output_bits, j);
-        let t = seen_by(inputs, nodes, node_table, node_bits, list, bytes, u);
-        table::turn_word(output_table, output_bits, j, t);
+        turn_place(output_table, output_bits, seen, j, 0);
         j += 1;
     }
 }
@@ -218,18 +192,9 @@ pub fn make_all(
         output_table,
         output_bits,
     );
-    turn_nodes(inputs, nodes, node_table, node_bits, list, bytes);
-    turn_outputs(
-        inputs,
-        nodes,
-        outputs,
-        node_table,
-        node_bits,
-        output_table,
-        output_bits,
-        list,
-        bytes,
-    );
+    let mut seen = [0u64; SEEN];
+    turn_nodes(inputs, nodes, node_table, node_bits, &mut seen, list, bytes);
+    turn_outputs(outputs, output_table, output_bits, &seen);
     let after = graph::edges::complemented(
         inputs,
         nodes,

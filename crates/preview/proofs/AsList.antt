@@ -26,7 +26,7 @@ use Rattle.moves.proofs.Moves.{lock-of, moves-pos, moves-no-more}
 use Rattle.moves.proofs.Count.{clash}
 use Rattle.many.specs.Many.{risingFault, entryNumber, listNumber, manyNumber, manyCall}
 use Rattle.many.specs.Making.{Rises, chosen}
-use Rattle.many.proofs.Halving.{put-out, move-here}
+use Rattle.many.proofs.Rising.{put-out, move-here}
 use Rattle.many.proofs.Sweeping.{put-has}
 use Rattle.preview.specs.Preview.{treeMoves, movesTold, choiceIn, previewNumber, previewBytes, allNodes, AsList}
 use Rattle.preview.proofs.Choices.{choice-at, choice-none}

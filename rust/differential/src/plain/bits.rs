@@ -1,6 +1,6 @@
 //! Words of complement bits.
 
-pub fn words_for(places: usize) -> usize {
+pub const fn words_for(places: usize) -> usize {
     places.div_ceil(64)
 }
 

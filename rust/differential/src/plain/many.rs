@@ -1,11 +1,11 @@
-//! Many moves together. Nodes go by rising index, and the list is walked beside them; the moves of the nodes that their words name are looked
-//! up by binary search, so that nothing is kept beside the tables. Turned bits are gathered and stored a word at a time.
+//! Many moves together. Nodes go by rising index, and the list is walked beside them; whether the readers of an index are turned is noted in a
+//! bit, so that nothing is searched for. Turned bits are gathered and stored a word at a time.
 
 use super::bits::{bit, bits_of, words_for, Gather};
 use super::calls::{is_node, Tables};
 use super::decide::flags;
 use super::{check_limits, check_literals, check_locks, check_room, complemented, Number, View};
-use reducer::MARK;
+use reducer::{MARK, MOST_INPUTS, MOST_NODES};
 
 /// The moves that a kind has.
 fn moves_of_kind(xor: bool) -> u8 {
@@ -51,51 +51,44 @@ fn check(g: &View, list: &[u32], moves: &[u8]) -> Result<(), Number> {
     Ok(())
 }
 
-/// A list of moves, and what it takes to look one up.
-#[derive(Clone, Copy)]
-struct Moves<'a> {
-    inputs: u32,
-    node_table: &'a [u32],
-    list: &'a [u32],
-    moves: &'a [u8],
+const SEEN_WORDS: usize = words_for((1 + MOST_INPUTS + MOST_NODES) as usize);
+
+/// A bit of each index that a graph can have: whether its readers are turned.
+type Seen = [u64; SEEN_WORDS];
+
+/// The move of a node, if the list has it at this place.
+fn move_at(list: &[u32], moves: &[u8], node: u32, at: usize) -> Option<u8> {
+    (list.get(at) == Some(&node)).then(|| moves[at])
 }
 
-impl Moves<'_> {
-    /// What the move at a place of the list turns, if it is this node's.
-    fn turned_at(&self, node: u32, at: usize) -> Option<&[u32; 4]> {
-        if self.list.get(at) != Some(&node) {
-            return None;
-        }
-        let third = 3 * (node - self.inputs) as usize - 1;
-        Some(flags(self.node_table[third] == MARK, self.moves[at].into()))
-    }
-
-    /// Whether the readers of an index are turned.
-    fn read(&self, index: u32) -> u32 {
-        if index <= self.inputs || index == MARK {
-            return 0;
-        }
-        self.list.binary_search(&index).ok().and_then(|at| self.turned_at(index, at)).map_or(0, |turned| turned[3])
-    }
+/// What of a node's words the nodes turn that they name, the first lowest. An XOR has no third: its first is looked up in its place, so that nothing
+/// jumps by the kind.
+fn turned_by_others(seen: &Seen, indices: &[u32]) -> u32 {
+    let xor = indices[2] == MARK;
+    let third = if xor { indices[0] } else { indices[2] };
+    let [x, y, z] = [indices[0], indices[1], third].map(|index| bit(seen, index as usize));
+    x | y << 1 | (z & !xor as u32) << 2
 }
 
-fn turn_nodes(moves: Moves, bits: &mut [u64]) {
+/// The list is walked beside the nodes. A node's words name indices below its own, of which `seen` tells when the sweep comes to it.
+fn turn_nodes(inputs: u32, node_table: &[u32], bits: &mut [u64], list: &[u32], moves: &[u8], seen: &mut Seen) {
     let mut gathered = Gather::new(bits);
     let mut at = 0;
-    for (v, indices) in moves.node_table.chunks_exact(3).enumerate() {
-        let turned = moves.turned_at(moves.inputs + 1 + v as u32, at);
-        at += turned.is_some() as usize;
-        let own = turned.unwrap_or(&[0; 4]);
-        let [x, y, z] = [0, 1, 2].map(|k| own[k] ^ moves.read(indices[k]));
-        gathered.three(bits_of(gathered.bits, v) ^ (x | y << 1 | z << 2));
+    for (v, indices) in node_table.chunks_exact(3).enumerate() {
+        let node = inputs + 1 + v as u32;
+        let found = move_at(list, moves, node, at);
+        at += found.is_some() as usize;
+        let [x, y, z, readers] = *flags(indices[2] == MARK, found.unwrap_or(0).into());
+        gathered.three(bits_of(gathered.bits, v) ^ turned_by_others(seen, indices) ^ (x | y << 1 | z << 2));
+        seen[node as usize / 64] |= u64::from(readers) << (node % 64);
     }
     gathered.end();
 }
 
-fn turn_outputs(moves: Moves, outs: &[u32], bits: &mut [u64]) {
+fn turn_outputs(outs: &[u32], bits: &mut [u64], seen: &Seen) {
     let mut gathered = Gather::new(bits);
     for (o, &index) in outs.iter().enumerate() {
-        gathered.one(bit(gathered.bits, o) ^ moves.read(index));
+        gathered.one(bit(gathered.bits, o) ^ bit(seen, index as usize));
     }
     gathered.end();
 }
@@ -104,8 +97,8 @@ pub fn many(t: &mut Tables, list: &[u32], moves: &[u8]) -> Result<i64, Number> {
     check(&t.view(), list, moves)?;
     let before = complemented(&t.view());
     let (places, outputs) = (3 * t.nodes as usize, t.outputs as usize);
-    let moves = Moves { inputs: t.inputs, node_table: &t.node_table[..places], list, moves };
-    turn_nodes(moves, &mut t.node_bits[..words_for(places)]);
-    turn_outputs(moves, &t.output_table[..outputs], &mut t.output_bits[..words_for(outputs)]);
+    let mut seen: Seen = [0; SEEN_WORDS];
+    turn_nodes(t.inputs, &t.node_table[..places], &mut t.node_bits[..words_for(places)], list, moves, &mut seen);
+    turn_outputs(&t.output_table[..outputs], &mut t.output_bits[..words_for(outputs)], &seen);
     Ok(i64::from(before) - i64::from(complemented(&t.view())))
 }

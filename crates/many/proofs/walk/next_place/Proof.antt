@@ -1,9 +1,9 @@
 -- `next_place` meets its contract. From the laws of a rising list.
 use native.Mathlib.Omega.{arith}
 use borrow.Author.Needs.{needs}
-use Rattle.many.proofs.Halving.{stands-next, stands-still}
-use Rattle.many.proofs.search.next_place.Statement.{statement}
-use Rattle.many.proofs.search.next_place.Tie as tie
+use Rattle.many.proofs.Rising.{stands-next, stands-still}
+use Rattle.many.proofs.walk.next_place.Statement.{statement}
+use Rattle.many.proofs.walk.next_place.Tie as tie
 
 returns : tie.Need-returns
 returns c =

@@ -2,9 +2,9 @@
 use native.Mathlib.Omega.{arith}
 use mathlib.Core.Path.{_∙_}
 use borrow.Author.Needs.{needs}
-use Rattle.many.proofs.Halving.{move-here, move-none}
-use Rattle.many.proofs.search.move_at.Statement.{statement}
-use Rattle.many.proofs.search.move_at.Tie as tie
+use Rattle.many.proofs.Rising.{move-here, move-none}
+use Rattle.many.proofs.walk.move_at.Statement.{statement}
+use Rattle.many.proofs.walk.move_at.Tie as tie
 
 returns : tie.Need-returns
 returns c =
