@@ -5,8 +5,7 @@ use mathlib.Core.Logic.{⊎-elim}
 use mathlib.Core.List.{List, _∷_}
 use native.Mathlib.Omega.{arith}
 use lib.ListN.{length, length-append}
-use Rattle.graph.specs.Finite.{ifLess}
-use Rattle.graph.specs.Decimal.{decimal}
+use Rattle.graph.specs.Finite.{ifLess, decimal}
 use Rattle.graph.proofs.Answers.{ifLess-le}
 use Rattle.graph.proofs.Cases.{lt-or-le}
 use Rattle.graph.proofs.Digits.{length-small, length-more}

@@ -7,7 +7,7 @@ use native.Mathlib.Omega.{arith}
 use native.Mathlib.Nat.{not-suc-le-zero}
 use lib.ListN.{length, getD}
 use lib.Seq.{getD-append-seam, drop-append-add}
-use Rattle.graph.specs.Decimal.{decimal}
+use Rattle.graph.specs.Finite.{decimal}
 use Rattle.graph.proofs.Cases.{lt-or-le}
 use Rattle.graph.proofs.Digits.{decimal-small, decimal-more, length-small, length-more, length-some}
 use Rattle.graph.proofs.Tests.{less, no-less, equal, unequal}

@@ -2,10 +2,9 @@
 use mathlib.Core.Path.{_≡_, refl}
 use mathlib.Core.List.{List, [], _∷_}
 use Prim.Native.Nat.{ℕ}
-use Rattle.graph.specs.Finite.{ifLess, ifEqual, first, firstOf, sum, tab, count}
+use Rattle.graph.specs.Finite.{ifLess, ifEqual, first, firstOf, sum, tab, count, decimalIn, decimal}
 use Rattle.graph.specs.Literals.{literalOf, held, evened, cleared, filled}
 use Rattle.graph.specs.Graph.{graphOf, mark, isXor, turn}
-use Rattle.graph.specs.Decimal.{decimalIn, decimal}
 use Rattle.aiger.specs.Lines.{ifDigit, digits, worth, number, endedNumber, next, lineNumber}
 use Rattle.graph.specs.Admission.{roomNumber}
 use Rattle.graph.specs.Answer.{guardedLocks}

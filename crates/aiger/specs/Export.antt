@@ -1,13 +1,6 @@
 -- The ASCII AIGER text of a graph, and what exporting answers and leaves in the buffer.
-use Prim.Native.Nat.{ℕ, zero, suc, _+_, _-_, _*_, _%_}
-use mathlib.Core.Bool.{cond}
-use mathlib.Core.List.{List, [], _∷_, _++_}
-use lib.ListN.{length}
-use Rattle.graph.specs.Finite.{ifLess, first, sum, tab}
-use Rattle.graph.specs.Graph.{Graph, index, turn, word, output, isXor}
-use Rattle.graph.specs.Admission.{admissionNumber}
-use Rattle.graph.specs.Decimal.{decimal}
-use Rattle.tagged_file.specs.Write.{WriteOutcome, writeBy}
+use Rattle.graph.specs.All.{ℕ, zero, suc, _+_, _-_, _*_, _%_, cond, List, [], _∷_, _++_, length, ifLess, first, sum, tab, Graph, index, turn, word, output, isXor, admissionNumber, decimal}
+use Rattle.tagged_file.specs.All.{WriteOutcome, writeBy}
 
 -- how many ANDs a node takes, and all nodes below v
 unfoldable pub gatesOf : Graph → ℕ → ℕ

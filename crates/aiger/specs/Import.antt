@@ -1,13 +1,6 @@
 -- Importing ASCII AIGER: the first fault from front to back, and the graph, whose nodes are all free.
-use Prim.Native.Nat.{ℕ, _+_, _*_, _%_}
-use mathlib.Core.List.{List, [], _∷_}
-use lib.ListN.{length, getD, drop}
-use Rattle.graph.specs.Finite.{ifLess, ifEqual, first, firstOf, tab}
-use Rattle.graph.specs.Graph.{Graph, graphOf, index}
-use Rattle.graph.specs.Literals.{held, filled}
-use Rattle.graph.specs.Admission.{roomNumber}
-use Rattle.graph.specs.Answer.{accepted, LockedOutcome, lockedOutcome, guardedLocks}
-use Rattle.tagged_file.specs.Load.{blank, freeLocks}
+use Rattle.graph.specs.All.{ℕ, _+_, _*_, _%_, List, [], _∷_, length, getD, drop, ifLess, ifEqual, first, firstOf, tab, Graph, graphOf, index, held, filled, roomNumber, accepted, LockedOutcome, lockedOutcome, guardedLocks}
+use Rattle.tagged_file.specs.All.{blank, freeLocks}
 use Rattle.aiger.specs.Lines.{number, skip, numberAt, lineNumber}
 
 -- the numbers of the header "aag M I L O A", and what follows it

@@ -1,14 +1,6 @@
 -- What importing ASCII AIGER promises beside its definition (M-100).
-use mathlib.Core.Path.{_≡_}
-use mathlib.Core.List.{List, _++_}
-use mathlib.Core.Logic.{_⊎_}
-use Prim.Native.Nat.{ℕ, _<_}
-use Rattle.graph.specs.Graph.{Graph}
-use Rattle.graph.specs.Value.{Assignment, outputValue}
-use Rattle.graph.specs.Admission.{Admitted}
-use Rattle.graph.specs.Answer.{LockedOutcome}
-use Rattle.aiger.specs.Import.{importCall}
-use Rattle.aiger.specs.Export.{exportText}
+use Rattle.graph.specs.All.{ℕ, _<_, _≡_, List, _++_, _⊎_, Graph, Assignment, outputValue, Admitted, LockedOutcome}
+use Rattle.aiger.specs.{Import.importCall, Export.exportText}
 
 -- the outcome o of importing the export of g: it is refused by 3 or 4 only, and otherwise both graphs have as many inputs and outputs, and
 -- agree at every output under every assignment

@@ -7,7 +7,8 @@ use native.Mathlib.Omega.{arith}
 use lib.ListN.{length}
 use lib.Seq.{sets}
 use Rattle.graph.specs.Admission.{admissionNumber, Admitted}
-use Rattle.graph.specs.Answer.{IsRefusal, accepted, refused}
+use Rattle.graph.specs.Answer.{accepted, refused}
+use Rattle.graph.specs.Inner.{IsRefusal}
 use Rattle.graph.specs.Graph.{Graph}
 use Rattle.graph.proofs.Admit.{admitted}
 use Rattle.graph.proofs.Answers.{ifLess-le, first-le, admission-le}

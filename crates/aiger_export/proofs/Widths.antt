@@ -7,8 +7,7 @@ use mathlib.Core.List.{[]}
 use native.Mathlib.Nat.{add-zero}
 use native.Mathlib.Omega.{arith}
 use lib.ListN.{length}
-use Rattle.graph.specs.Finite.{ifLess}
-use Rattle.graph.specs.Decimal.{decimal}
+use Rattle.graph.specs.Finite.{ifLess, decimal}
 use Rattle.graph.specs.Admission.{Admitted}
 use Rattle.graph.specs.Graph.{Graph, turn, word, output, isXor}
 use Rattle.graph.proofs.Answers.{ifLess-le}

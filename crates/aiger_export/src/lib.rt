@@ -1,7 +1,7 @@
 // A graph as ASCII AIGER text.
 ghost use mathlib.Core.Path.{_≡_};
 ghost use Rattle.graph.specs.Answer.{ScratchKept};
-ghost use Rattle.graph.specs.Literals.{graphIn};
+ghost use Rattle.graph.specs.Literals.{before, after, graphBefore};
 ghost use Rattle.tagged_file.specs.Write.{writtenAnswer, writeOutcome};
 ghost use Rattle.aiger.specs.Export.{exportCall};
 
@@ -28,9 +28,9 @@ pub fn export(
     buffer: &mut [u8],
 ) -> Written
     ensures outcome { λ r.
-        let g = graphIn inputs nodes outputs (now («node_table» .entry)) (now («node_bits» .entry)) (now («output_table» .entry)) (now («output_bits» .entry)) in
-        ⌜ writeOutcome (writtenAnswer r) (now (buffer .exit)) ≡ exportCall g (now (locks .entry)) (now (scratch .entry)) (now (buffer .entry)) ⌝ }
-    ensures scratch { λ r. ⌜ ScratchKept (writtenAnswer r) (now (scratch .entry)) (now (scratch .exit)) ⌝ }
+        let g = graphBefore inputs nodes outputs «node_table» «node_bits» «output_table» «output_bits» in
+        ⌜ writeOutcome (writtenAnswer r) (after buffer) ≡ exportCall g (before locks) (before scratch) (before buffer) ⌝ }
+    ensures scratch { λ r. ⌜ ScratchKept (writtenAnswer r) (before scratch) (after scratch) ⌝ }
 {
     let number = faults::export_number(
         inputs,

@@ -9,7 +9,8 @@ use lib.ListN.{length, drop}
 use Rattle.graph.specs.Finite.{tab}
 use Rattle.graph.specs.Graph.{graphOf}
 use Rattle.graph.specs.Literals.{held, filled}
-use Rattle.graph.specs.Answer.{IsRefusal, accepted, refused, lockedOutcome}
+use Rattle.graph.specs.Answer.{accepted, refused, lockedOutcome}
+use Rattle.graph.specs.Inner.{IsRefusal}
 use Rattle.graph.proofs.Admit.{Rooms}
 use Rattle.graph.proofs.Answers.{ifLess-le, ifEqual-le, first-le, firstOf-le, room-le, refused-locked, accepted-locked}
 use Rattle.graph.proofs.Tests.{fault, none, both, each-none, on, is}

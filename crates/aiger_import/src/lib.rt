@@ -1,7 +1,7 @@
 // Importing a graph from ASCII AIGER.
 ghost use mathlib.Core.Path.{_≡_};
 ghost use Rattle.graph.specs.Answer.{lockedOutcome};
-ghost use Rattle.graph.specs.Literals.{literals};
+ghost use Rattle.graph.specs.Literals.{before, after, tableBefore, tableAfter};
 ghost use Rattle.tagged_file.specs.Load.{loadedAnswer, loadedGraph};
 ghost use Rattle.aiger.specs.Import.{importCall};
 
@@ -25,10 +25,10 @@ pub fn import(
     locks: &mut [u8],
 ) -> Loaded
     ensures { λ r.
-        let ns = literals (now («node_table» .entry)) (now («node_bits» .entry)) in
-        let os = literals (now («output_table» .entry)) (now («output_bits» .entry)) in
-        let g = loadedGraph r (literals (now («node_table» .exit)) (now («node_bits» .exit))) (literals (now («output_table» .exit)) (now («output_bits» .exit))) in
-        ⌜ lockedOutcome (loadedAnswer r) g (now (locks .exit)) ≡ importCall (now (text .entry)) ns os (now (locks .entry)) ⌝ }
+        let ns = tableBefore «node_table» «node_bits» in
+        let os = tableBefore «output_table» «output_bits» in
+        ⌜ lockedOutcome (loadedAnswer r) (loadedGraph r (tableAfter «node_table» «node_bits») (tableAfter «output_table» «output_bits»)) (after locks)
+        ≡ importCall (before text) ns os (before locks) ⌝ }
 {
     let header = header::read_header(
         text,

@@ -1,9 +1,5 @@
 -- What an answer leaves at a place that its caller lends.
-use Prim.Native.Nat.{ℕ}
-use lib.IntN.{ℤ}
-use mathlib.Core.List.{List, [], _∷_}
-use lib.ListN.{getD}
-use Rattle.graph.specs.Answer.{Answer}
+use Rattle.graph.specs.All.{ℕ, List, [], _∷_, getD, ℤ, Answer}
 
 -- numbers at that place afterwards: the values answered, or what was there where none are, as by a refused call
 abbrev pub toldBy : {A : Type 0} → List A → List A → List A

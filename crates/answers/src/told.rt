@@ -5,8 +5,7 @@ ghost use Rattle.graph.specs.Answer.{accepted, unless, countAnswer};
 ghost use Rattle.tagged_file.specs.Load.{loadedAnswer};
 ghost use Rattle.tagged_file.specs.Write.{writtenAnswer};
 ghost use Rattle.evaluation.specs.Evaluation.{evaluatedAnswer};
-ghost use Rattle.moves.specs.Call.{savingAnswer};
-ghost use Rattle.moves.specs.Trial.{gainAnswer};
+ghost use Rattle.moves.specs.Call.{savingAnswer, gainAnswer};
 ghost use Rattle.settling.specs.Settle.{settledAnswer};
 ghost use Rattle.answers.specs.Told.{told, toldOne, toldSigned, toldGain};
 

@@ -5,7 +5,8 @@ use mathlib.Core.Logic.{_⊎_, inl, inr, ⊎-elim}
 use mathlib.Core.Path.{_≡_, ap, sym}
 use native.Mathlib.Omega.{arith}
 use native.Mathlib.Nat.{eq-or-lt-of-le}
-use Rattle.choice.specs.Choice.{from, choices, least, best, Fits, _≺_, zeros, FirstBelow}
+use Rattle.choice.specs.Choice.{from, choices, least, best, Fits}
+use Rattle.choice.specs.Inner.{_≺_, zeros, FirstBelow}
 use Rattle.choice.proofs.Least.{First, here, there, first-mem, first-le, least-first}
 use Rattle.choice.proofs.Lex.{Ordered, one, ≺-irrefl, ≺-cases, ≺-zeros, fits-mem, mem-fits, choices-ordered, mem-from, from-mem}
 

@@ -6,7 +6,8 @@ use mathlib.Core.Path.{_≡_, refl, ap, sym, subst}
 use native.Mathlib.Omega.{arith}
 use native.Mathlib.Nat.{eq-or-lt-of-le}
 use lib.ListN.{length, getD}
-use Rattle.choice.specs.Choice.{from, choices, Fits, _≺_, zeros}
+use Rattle.choice.specs.Choice.{from, choices, Fits}
+use Rattle.choice.specs.Inner.{_≺_, zeros}
 
 -- no later list is lexicographically earlier
 pub data Ordered : List (List ℕ) → Type 0 where

@@ -1,9 +1,7 @@
 -- Lists of moves, one for each of several nodes, and the first of the least, by exhaustion.
-use Prim.Native.Nat.{ℕ, zero, suc, _≤_, _<_}
+use Prim.Native.Nat.{ℕ, zero, suc, _<_}
 use mathlib.Core.Bool.{cond}
 use mathlib.Core.List.{List, [], _∷_, map, flatMap}
-use mathlib.Core.Logic.{_⊎_}
-use mathlib.Core.Path.{_≡_}
 use lib.Dec.{leb}
 
 -- n numbers from k on: k, k + 1, ..
@@ -30,27 +28,9 @@ least f d (x ∷ y ∷ ys) = unlessLess f x (least f d (y ∷ ys))
 unfoldable pub best : (List ℕ → ℕ) → List ℕ → List ℕ
 best f ns = least f [] (choices ns)
 
--- m is the first number below n at which f is least
-pub record FirstBelow (f : ℕ → ℕ) (n m : ℕ) : Type 0 where
-  pub below : m < n
-  pub low : (k : ℕ) → k < n → f m ≤ f k
-  pub first : (k : ℕ) → k < m → f m < f k
-
--- no move anywhere
-abbrev pub zeros : List ℕ → List ℕ
-zeros ns = map (λ a. 0) ns
-
 -- l has a move below each number of moves
 abbrev pub Fits : List ℕ → List ℕ → Type 0
 Fits [] [] = Unit {0}
 Fits [] (m ∷ l) = ⊥
 Fits (n ∷ ns) [] = ⊥
 Fits (n ∷ ns) (m ∷ l) = (m < n) × Fits ns l
-
-infix 20 _≺_
--- the lexicographic order, of lists of one length: less at the first difference
-abbrev pub _≺_ : List ℕ → List ℕ → Type 0
-[] ≺ [] = ⊥
-[] ≺ (y ∷ ys) = ⊥
-(x ∷ xs) ≺ [] = ⊥
-(x ∷ xs) ≺ (y ∷ ys) = (x < y) ⊎ ((x ≡ y) × (xs ≺ ys))

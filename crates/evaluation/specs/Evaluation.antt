@@ -1,15 +1,6 @@
 -- What evaluation answers, and the result words that it leaves.
-use mathlib.Core.List.{List, [], _++_}
-use Prim.Native.Nat.{ℕ}
-use lib.ListN.{length, getD, drop}
-use Rattle.graph.specs.Finite.{tab, ifLess, ifEqual, first}
-use Rattle.graph.specs.Graph.{Graph}
-use Rattle.graph.specs.Value.{Assignment, outputValue}
-use Rattle.graph.specs.Literals.{bit}
-use Rattle.graph.specs.Admission.{tablesNumber, contentNumber}
-use Rattle.graph.specs.Answer.{Answer, accepted, refused, numberOf}
-use Rattle.evaluation.specs.Word.{gather}
-use Rattle.evaluation.specs.declared.Evaluated.{Evaluated}
+use Rattle.graph.specs.All.{ℕ, List, [], _++_, length, getD, drop, tab, ifLess, ifEqual, first, Graph, Assignment, outputValue, bit, tablesNumber, contentNumber, Answer, accepted, refused, numberOf}
+use Rattle.evaluation.specs.{Word.gather, declared.Evaluated.Evaluated}
 use Rattle.evaluation.specs.declared.Evaluated.the-variants.{Done, Refused}
 
 -- each bit place is an assignment of its own: under that of place j, input k + 1 has bit j of its word

@@ -1,4 +1,5 @@
 pub mod Word
 pub mod Inner
 pub mod Evaluation
+pub mod All
 pub mod Promises

@@ -1,11 +1,5 @@
 -- What an evaluation promises beside its definition.
-use mathlib.Core.Path.{_≡_}
-use mathlib.Core.List.{List}
-use Prim.Native.Nat.{ℕ, _<_}
-use lib.ListN.{length, getD}
-use Rattle.graph.specs.Graph.{Graph}
-use Rattle.graph.specs.Literals.{bit}
-use Rattle.graph.specs.Value.{outputValue}
+use Rattle.graph.specs.All.{ℕ, _<_, _≡_, List, length, getD, Graph, bit, outputValue}
 use Rattle.evaluation.specs.Evaluation.{assignmentAt, evaluateNumber, resultsAfter}
 
 -- where nothing is refused, bit j of result o is the output's value under the assignment of place j

@@ -2,7 +2,7 @@ ghost use mathlib.Core.Path.{_≡_};
 ghost use mathlib.Core.List.{[]};
 ghost use lib.ListN.{length};
 ghost use Rattle.graph.specs.Answer.{accepted, unless, ScratchKept};
-ghost use Rattle.graph.specs.Literals.{graphIn};
+ghost use Rattle.graph.specs.Literals.{before, after, graphBefore};
 ghost use Rattle.evaluation.specs.Evaluation.{evaluateNumber, resultsAfter, evaluatedAnswer};
 
 mod faults;
@@ -30,13 +30,13 @@ pub fn evaluate(
     results: &mut [u64],
 ) -> Evaluated
     ensures answer { λ r.
-        let g = graphIn inputs nodes outputs (now («node_table» .entry)) (now («node_bits» .entry)) (now («output_table» .entry)) (now («output_bits» .entry)) in
-        let number = evaluateNumber g (now (locks .entry)) (length (now («input_words» .entry))) (length (now (scratch .entry))) (length (now (results .entry))) in
+        let g = graphBefore inputs nodes outputs «node_table» «node_bits» «output_table» «output_bits» in
+        let number = evaluateNumber g (before locks) (length (before «input_words»)) (length (before scratch)) (length (before results)) in
         ⌜ evaluatedAnswer r ≡ unless number (accepted []) ⌝ }
     ensures results { λ r.
-        let g = graphIn inputs nodes outputs (now («node_table» .entry)) (now («node_bits» .entry)) (now («output_table» .entry)) (now («output_bits» .entry)) in
-        ⌜ now (results .exit) ≡ resultsAfter g (now (locks .entry)) (now («input_words» .entry)) (length (now (scratch .entry))) (now (results .entry)) ⌝ }
-    ensures scratch { λ r. ⌜ ScratchKept (evaluatedAnswer r) (now (scratch .entry)) (now (scratch .exit)) ⌝ }
+        let g = graphBefore inputs nodes outputs «node_table» «node_bits» «output_table» «output_bits» in
+        ⌜ after results ≡ resultsAfter g (before locks) (before «input_words») (length (before scratch)) (before results) ⌝ }
+    ensures scratch { λ r. ⌜ ScratchKept (evaluatedAnswer r) (before scratch) (after scratch) ⌝ }
 {
     let number = faults::evaluate_number(
         inputs,

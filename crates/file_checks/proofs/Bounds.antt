@@ -5,7 +5,7 @@ use native.Mathlib.Omega.{arith}
 use mathlib.Core.List.{List}
 use lib.Dec.{lit≤}
 use lib.ListN.{drop}
-use Rattle.graph.specs.Answer.{IsRefusal}
+use Rattle.graph.specs.Inner.{IsRefusal}
 use Rattle.graph.proofs.Answers.{ifLess-le, ifEqual-le, first-le, room-le}
 use Rattle.file_checks.specs.File.{be4, dueNumber, nodeSize, headNumber, nodeFieldNumber, outputFieldNumber, lockFieldNumber, endNumber, lockCount, lockFieldsNumber, outputFieldsNumber, nodeFieldsNumber, fileNumber}
 

@@ -1,11 +1,6 @@
 -- The tagged file of document 01, with document 02's locks: what a field is, the number that refuses it, and the walk of the
 -- loader.
-use Prim.Native.Nat.{ℕ, zero, suc, _+_, _*_}
-use mathlib.Core.List.{List, [], _∷_}
-use lib.ListN.{length, getD, take, drop}
-use Rattle.graph.specs.Finite.{ifLess, ifEqual, first}
-use Rattle.graph.specs.Graph.{mark, index}
-use Rattle.graph.specs.Admission.{roomNumber}
+use Rattle.graph.specs.All.{ℕ, zero, suc, _+_, _*_, List, [], _∷_, length, getD, take, drop, ifLess, ifEqual, first, mark, index, roomNumber}
 
 -- big-endian numbers of two and of four bytes, from this place on
 unfoldable pub be2 : List ℕ → ℕ → ℕ

@@ -11,7 +11,8 @@ use Rattle.graph.specs.Graph.{Graph, isEdge}
 use Rattle.graph.specs.Admission.{roomNumber, tablesNumber, wordNumber, outputNumber, strayNumber, straysNumber, literalNumber, lockNumber, locksNumber, contentNumber, admissionNumber}
 use Rattle.graph.proofs.Cases.{cond-le, eq-or-ne}
 use Rattle.graph.proofs.Tests.{equal, unequal}
-use Rattle.graph.specs.Answer.{Answer, Outcome, LockedOutcome, numberOf, IsRefusal, refused, outcome, lockedOutcome, unless, guarded, guardedLocks}
+use Rattle.graph.specs.Answer.{Answer, Outcome, LockedOutcome, numberOf, refused, outcome, lockedOutcome, unless, guarded, guardedLocks}
+use Rattle.graph.specs.Inner.{IsRefusal}
 use Rattle.graph.specs.declared.Refusal.{Refusal}
 use Rattle.graph.specs.declared.Refusal.the-variants.{MissingBytes, WrongField, OverLimit, ShortSlice, BadLiteral, ExtraBytes, NoSuchNode, ShortScratch, ShortBuffer, BadText, HasLatches, WrongNumbering, BadLock, NotRising, NoSuchMove, LockedNode}
 

@@ -12,7 +12,7 @@ use mir.Syntax.{w32, w64}
 use mir.Val.{Fits, SFits, toZ, ofZ}
 use mir.ValLaws.{toZ-pos, toZ-ofZ}
 use Rattle.graph.proofs.Cases.{lt-or-le}
-use Rattle.graph.specs.Difference.{difference}
+use Rattle.graph.specs.Finite.{difference}
 
 -- the two ways a difference can be
 pub at-least : (a b k : ℕ) → a ≡ b + k → difference a b ≡ pos k

@@ -6,7 +6,7 @@ use native.Mathlib.Omega.{arith}
 use lib.IntN.{ℤ, pos, subℕ, _+ℤ_, _-ℤ_, +ℤ-assoc, +ℤ-comm, +ℤ-negℤ-cancel}
 use Rattle.graph.proofs.Cases.{lt-or-le}
 use Rattle.graph.proofs.Difference.{at-least, below, same-difference}
-use Rattle.graph.specs.Difference.{difference}
+use Rattle.graph.specs.Finite.{difference}
 
 opened : (a b : ℕ) → subℕ a b ≡ difference a b
 unfolding difference

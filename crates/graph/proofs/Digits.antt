@@ -8,7 +8,7 @@ use native.Mathlib.Nat.{not-suc-le-zero}
 use native.Mathlib.Omega.{arith}
 use lib.ListN.{length, set, length-set, length-append}
 use lib.Seq.{sets, set-comm}
-use Rattle.graph.specs.Decimal.{decimalIn, decimal}
+use Rattle.graph.specs.Finite.{decimalIn, decimal}
 use Rattle.graph.proofs.Cases.{lt-or-le}
 use Rattle.graph.proofs.Tests.{less, no-less}
 

@@ -3,13 +3,12 @@
 use mathlib.Core.Path.{_≡_, refl}
 use mathlib.Core.List.{[], _∷_}
 use Prim.Native.Nat.{ℕ}
-use Rattle.graph.specs.Finite.{ifLess, ifEqual, first, firstOf, sum, count, tab}
+use Rattle.graph.specs.Finite.{ifLess, ifEqual, first, firstOf, sum, count, tab, decimalIn, decimal}
 use Rattle.graph.specs.Graph.{Graph, graphOf, mark, isXor, isEdge}
 use Rattle.graph.specs.Value.{majority, exclusive, literalValue, nodeValue, values, outputValue}
 use Rattle.graph.specs.Count.{C, adds, wordAdds, nodeAdds, outputAdds}
 use Rattle.graph.specs.Literals.{bitOf, held, strays}
 use Rattle.graph.specs.Admission.{roomNumber, tablesNumber, wordNumber, outputNumber, strayNumber, straysNumber, literalNumber, lockNumber, locksNumber, contentNumber, admissionNumber}
-use Rattle.graph.specs.Decimal.{decimalIn, decimal}
 
 -- one node of three words with one output
 abbrev one : ℕ → ℕ → ℕ → ℕ → ℕ → Graph

@@ -1,13 +1,7 @@
 -- Which graphs and locks are admitted, and which of the numbers 3, 4, 5 and 13 comes first. Locks are a byte a node beside the graph, 1
 -- for locked and 0 for free; only the first N belong to it.
-use mathlib.Core.Path.{_≡_}
-use mathlib.Core.Bool.{true, cond}
-use mathlib.Core.List.{List}
-use Prim.Native.Nat.{ℕ, _*_, _/_, _≤_, _<_}
-use lib.ListN.{length, getD}
-use Rattle.graph.specs.Finite.{ifLess, first, firstOf}
-use Rattle.graph.specs.Graph.{Graph, node, word, output, index, isEdge}
-use Rattle.graph.specs.Literals.{held, strays}
+use Rattle.graph.specs.Words.{ℕ, _*_, _/_, _≤_, _<_, true, cond, _≡_, List, length, getD}
+use Rattle.graph.specs.{Finite.ifLess, Finite.first, Finite.firstOf, Graph.Graph, Graph.node, Graph.word, Graph.output, Graph.index, Graph.isEdge, Literals.held, Literals.strays}
 
 -- 3: I, N or O above its limit; then 4: a lent table that holds so many literals, or a slice of so many lock bytes, too short
 unfoldable pub roomNumber : ℕ → ℕ → ℕ → ℕ → ℕ → ℕ → ℕ

@@ -1,15 +1,8 @@
 -- What calls answer: document 01's number, and the values returned.
-use mathlib.Core.Path.{_≡_}
-use mathlib.Core.List.{List, [], _∷_}
-use Prim.Native.Nat.{ℕ, zero, suc, _≤_}
-use lib.IntN.{ℤ, pos, _+ℤ_}
-use lib.ListN.{getD}
-use Rattle.graph.specs.Graph.{Graph}
-use Rattle.graph.specs.declared.Refusal.{Refusal}
+use Rattle.graph.specs.Words.{ℕ, zero, suc, _≡_, List, [], _∷_, getD, ℤ, pos, _+ℤ_}
+use Rattle.graph.specs.{Graph.Graph, declared.Refusal.Refusal, declared.Admission.Admission, declared.Count.Count}
 use Rattle.graph.specs.declared.Refusal.the-variants.{MissingBytes, WrongField, OverLimit, ShortSlice, BadLiteral, ExtraBytes, NoSuchNode, ShortScratch, ShortBuffer, BadText, HasLatches, WrongNumbering, BadLock, NotRising, NoSuchMove, LockedNode}
-use Rattle.graph.specs.declared.Admission.{Admission}
 use Rattle.graph.specs.declared.Admission.the-variants as admission
-use Rattle.graph.specs.declared.Count.{Count}
 use Rattle.graph.specs.declared.Count.the-variants as counted
 
 -- document 01's number of each refusal, and document 02's
@@ -30,10 +23,6 @@ numberOf BadLock = 13
 numberOf NotRising = 14
 numberOf NoSuchMove = 15
 numberOf LockedNode = 16
-
--- the numbers that refusals have
-abbrev pub IsRefusal : ℕ → Type 0
-IsRefusal k = (1 ≤ k) × (k ≤ 16)
 
 -- a call's answer: the number, 0 where it is accepted, and the values that it then returns beside it, with the signed ones apart
 pub record Answer : Type 0 where

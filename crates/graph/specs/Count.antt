@@ -1,9 +1,6 @@
 -- Complemented edges, and readers.
-use mathlib.Core.Bool.{Bool, cond, _&&_}
-use Prim.Native.Nat.{ℕ, _+_, _*_, _%_}
-use lib.Dec.{eqb}
-use Rattle.graph.specs.Finite.{sum, count}
-use Rattle.graph.specs.Graph.{Graph, mark, word, output, index, complement, isEdge}
+use Rattle.graph.specs.Words.{ℕ, _+_, _*_, _%_, Bool, cond, _&&_, eqb}
+use Rattle.graph.specs.{Finite.sum, Finite.count, Graph.Graph, Graph.mark, Graph.word, Graph.output, Graph.index, Graph.complement, Graph.isEdge}
 
 -- what a literal adds to C: an edge from the constant is one like any other
 unfoldable pub adds : ℕ → ℕ

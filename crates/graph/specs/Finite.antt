@@ -1,8 +1,5 @@
--- Finite tables and sums, and the first fault of several.
-use mathlib.Core.Bool.{Bool, cond}
-use mathlib.Core.List.{List, [], _∷_}
-use Prim.Native.Nat.{ℕ, zero, suc, _+_}
-use lib.Dec.{ltb, eqb}
+-- Finite tables and sums, the first fault of several, differences and decimal text.
+use Rattle.graph.specs.Words.{ℕ, zero, suc, _+_, _/_, _%_, Bool, cond, List, [], _∷_, _++_, eqb, ltb, ℤ, subℕ}
 
 -- the list f 0, f 1, .., f (n - 1)
 unfoldable pub tab : ℕ → (ℕ → ℕ) → List ℕ
@@ -35,3 +32,16 @@ first (suc a) b = suc a
 unfoldable pub firstOf : ℕ → (ℕ → ℕ) → ℕ
 firstOf zero f = 0
 firstOf (suc n) f = first (firstOf n f) (f n)
+
+-- a signed number: a less b
+unfoldable pub difference : ℕ → ℕ → ℤ
+difference a b = subℕ a b
+
+-- the digits of n, in at most f places, as bytes ("0" is 48)
+unfoldable pub decimalIn : ℕ → ℕ → List ℕ
+decimalIn zero n = []
+decimalIn (suc f) n = let rest = decimalIn f (n / 10) in ifLess n 10 ((48 + n) ∷ []) (rest ++ ((48 + n % 10) ∷ []))
+
+-- the decimal digits of n, the highest first, without leading zeros
+unfoldable pub decimal : ℕ → List ℕ
+decimal n = decimalIn (suc n) n

@@ -1,9 +1,5 @@
 -- The graph as document 01 holds it: numbers of inputs, nodes and outputs, and two tables of words.
-use mathlib.Core.Bool.{Bool, not, cond, _&&_}
-use mathlib.Core.List.{List}
-use Prim.Native.Nat.{ℕ, _+_, _*_, _/_, _%_}
-use lib.Dec.{eqb}
-use lib.ListN.{getD}
+use Rattle.graph.specs.Words.{ℕ, _+_, _*_, _/_, _%_, Bool, not, cond, _&&_, List, eqb, length, getD}
 use Rattle.graph.specs.Finite.{tab}
 
 -- I inputs, N nodes and O outputs, with both whole tables. Only the first 3 × N words of `nodes` and the first O of
@@ -53,26 +49,20 @@ isXor g v = eqb (word g (3 * v + 2)) mark
 unfoldable pub isEdge : Graph → ℕ → Bool
 isEdge g j = not (eqb (j % 3) 2 && eqb (word g j) mark)
 
--- the wiring: every word with its complement bit left off, and every mark
-pub record Wiring : Type 0 where
-  pub I : ℕ
-  pub N : ℕ
-  pub O : ℕ
-  pub nodes : List ℕ
-  pub outputs : List ℕ
-
+-- the wiring: I, N and O, and tables with every word's index and every mark, without complement bits and tails
 unfoldable pub wire : Graph → ℕ → ℕ
 wire g j = cond (isEdge g j) (index (word g j)) mark
 
 unfoldable pub outputWire : Graph → ℕ → ℕ
 outputWire g j = index (output g j)
 
-unfoldable pub wiring : Graph → Wiring
-wiring g =
-    record {
-      I = g .I;
-      N = g .N;
-      O = g .O;
-      nodes = tab (3 * g .N) (wire g);
-      outputs = tab (g .O) (outputWire g);
-    }
+unfoldable pub wiring : Graph → Graph
+wiring g = graphOf (g .I) (g .N) (g .O) (tab (3 * g .N) (wire g)) (tab (g .O) (outputWire g))
+
+-- a table of words, word j turned t j times
+unfoldable pub turnedTable : List ℕ → (ℕ → ℕ) → List ℕ
+turnedTable l t = tab (length l) (λ j. turn (t j) (getD l j 0))
+
+-- the same graph, word j of the node table turned t j times, and of the output table o j times. Every rewriting is one of these
+unfoldable pub turnedBy : Graph → (ℕ → ℕ) → (ℕ → ℕ) → Graph
+turnedBy g t o = graphOf (g .I) (g .N) (g .O) (turnedTable (g .nodes) t) (turnedTable (g .outputs) o)

@@ -108,3 +108,7 @@ pub record BitsPut (f : ℕ → ℕ) (bs ds : List ℕ) (n : ℕ) : Type 0 where
   pub below : (j : ℕ) → j < n → bitAt ds j ≡ f j
   pub rest : (j : ℕ) → n ≤ j → j < 64 * wordsFor n → bitAt ds j ≡ 0
   pub later : (j : ℕ) → 64 * wordsFor n ≤ j → bitAt ds j ≡ bitAt bs j
+
+-- the numbers that refusals have
+abbrev pub IsRefusal : ℕ → Type 0
+IsRefusal k = (1 ≤ k) × (k ≤ 16)

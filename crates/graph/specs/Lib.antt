@@ -1,3 +1,4 @@
+pub mod Words
 pub mod Finite
 pub mod Graph
 pub mod Literals
@@ -6,7 +7,6 @@ pub mod Turned
 pub mod Value
 pub mod Count
 pub mod Admission
-pub mod Difference
 pub mod Answer
-pub mod Decimal
+pub mod All
 pub mod Promises

@@ -1,13 +1,10 @@
 -- How a table is lent: the indices of its literals in one slice, and in words of 64 bits beside it their complement bits, place j at
 -- bit j % 64 of word j / 64. Both slices together are one list of what stands at each place, and every definition of a graph is over such
 -- lists. No two contents of the slices make the same list, so that an equation between two graphs speaks of every lent word.
-use mathlib.Core.List.{List, _++_}
-use Prim.Native.Nat.{ℕ, _+_, _-_, _*_, _/_, _%_, _^_, min, max}
-use lib.Count.{ones}
-use lib.Dec.{ltb}
-use lib.ListN.{length, getD, drop}
-use Rattle.graph.specs.Finite.{tab, sum, count, ifLess, ifEqual}
-use Rattle.graph.specs.Graph.{Graph, graphOf, mark}
+use Rattle.graph.specs.Words.{ℕ, _+_, _-_, _*_, _/_, _%_, _^_, min, max, List, _++_, ltb, length, getD, drop, ones}
+use denote.Ref.{RefT, now}
+use denote.Triple.Both.{Both}
+use Rattle.graph.specs.{Finite.tab, Finite.sum, Finite.count, Finite.ifLess, Finite.ifEqual, Graph.Graph, Graph.graphOf, Graph.mark}
 
 -- bit k of a word, and bit j of a list of words
 unfoldable pub bit : ℕ → ℕ → ℕ
@@ -75,3 +72,26 @@ cleared m l = tab (length l) (λ j. ifLess j (64 * m) (evened (getD l j 0)) (get
 -- a table whose first words are ws: later ones are left, but for the bits past the last of ws in its word, which are cleared
 unfoldable pub filled : List ℕ → List ℕ → List ℕ
 filled ws l = ws ++ drop (length ws) (cleared (wordsFor (length ws)) l)
+
+-- What a contract says of a lent place: what it holds when the call begins, and when it has ended
+abbrev pub before : {X : Type 0} → Both (RefT X) (RefT X) → X
+before x = now (x .entry)
+
+abbrev pub after : {X : Type 0} → Both (RefT X) (RefT X) → X
+after x = now (x .exit)
+
+-- so of a table in two slices, and of a graph in two tables
+abbrev pub Slice : Type 0
+Slice = Both (RefT (List ℕ)) (RefT (List ℕ))
+
+abbrev pub tableBefore : Slice → Slice → List ℕ
+tableBefore us bs = literals (before us) (before bs)
+
+abbrev pub tableAfter : Slice → Slice → List ℕ
+tableAfter us bs = literals (after us) (after bs)
+
+abbrev pub graphBefore : ℕ → ℕ → ℕ → (us bs vs ds : Slice) → Graph
+graphBefore i n o us bs vs ds = graphOf i n o (tableBefore us bs) (tableBefore vs ds)
+
+abbrev pub graphAfter : ℕ → ℕ → ℕ → (us bs vs ds : Slice) → Graph
+graphAfter i n o us bs vs ds = graphOf i n o (tableAfter us bs) (tableAfter vs ds)

@@ -1,9 +1,6 @@
 -- What admission promises beside its definition.
-use mathlib.Core.Path.{_≡_}
-use mathlib.Core.List.{List}
-use Prim.Native.Nat.{ℕ}
-use Rattle.graph.specs.Graph.{Graph}
-use Rattle.graph.specs.Admission.{admissionNumber, Admitted, LockBytes}
+use Rattle.graph.specs.Words.{ℕ, _≡_, List}
+use Rattle.graph.specs.{Graph.Graph, Admission.admissionNumber, Admission.Admitted, Admission.LockBytes}
 
 -- the number is 0 just where the graph and its locks are admitted
 pub record JustAdmitted (g : Graph) (ls : List ℕ) : Type 0 where

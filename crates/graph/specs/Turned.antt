@@ -1,24 +1,8 @@
--- The same graph with its words turned, each as often as a function of its place says. Every rewriting is one of these.
-use mathlib.Core.List.{List}
-use Prim.Native.Nat.{ℕ, _<_}
-use lib.ListN.{length, getD}
-use Rattle.graph.specs.Finite.{tab, ifLess, ifEqual}
-use Rattle.graph.specs.Graph.{Graph, turn, index}
-
--- a table of words, word j turned t j times
-unfoldable pub turnedTable : List ℕ → (ℕ → ℕ) → List ℕ
-turnedTable l t = tab (length l) (λ j. turn (t j) (getD l j 0))
-
--- the same graph, word j of the node table turned t j times, and of the output table o j times
-unfoldable pub turnedBy : Graph → (ℕ → ℕ) → (ℕ → ℕ) → Graph
-turnedBy g t o =
-    record {
-      I = g .I;
-      N = g .N;
-      O = g .O;
-      nodes = turnedTable (g .nodes) t;
-      outputs = turnedTable (g .outputs) o;
-    }
+-- Which words of a table are turned, by their places: what proofs and inner functions say, and no promise to a caller.
+use Rattle.graph.specs.Words.{ℕ, _<_, List, getD}
+use Rattle.graph.specs.Finite.{ifLess, ifEqual}
+use Rattle.graph.specs.Graph.{index}
+unfoldable pub use Rattle.graph.specs.Graph.{turnedTable, turnedBy}
 
 abbrev pub never : ℕ → ℕ
 never j = 0

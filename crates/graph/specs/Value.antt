@@ -1,10 +1,6 @@
 -- What a graph computes. Bits are 0 and 1; an assignment a gives input k + 1 the bit a k % 2.
-use mathlib.Core.Bool.{cond}
-use mathlib.Core.List.{List, [], _∷_, _++_}
-use Prim.Native.Nat.{ℕ, zero, suc, _+_, _*_, _%_, min, max}
-use lib.ListN.{getD}
-use Rattle.graph.specs.Finite.{tab}
-use Rattle.graph.specs.Graph.{Graph, word, output, index, complement, isXor}
+use Rattle.graph.specs.Words.{ℕ, zero, suc, _+_, _*_, _%_, min, max, cond, List, [], _∷_, _++_, getD}
+use Rattle.graph.specs.{Finite.tab, Graph.Graph, Graph.word, Graph.output, Graph.index, Graph.complement, Graph.isXor}
 
 abbrev pub Assignment : Type 0
 Assignment = ℕ → ℕ

@@ -3,7 +3,7 @@ ghost use mathlib.Core.Path.{_≡_};
 ghost use Prim.Native.Nat.{_+_, _≤_, _<_};
 ghost use lib.ListN.{length};
 ghost use lib.Seq.{sets};
-ghost use Rattle.graph.specs.Decimal.{decimal};
+ghost use Rattle.graph.specs.Finite.{decimal};
 
 // How many digits a number has.
 pub fn length_of(n: u32) -> usize

@@ -3,7 +3,7 @@ ghost use mathlib.Core.List.{[], _∷_};
 ghost use Rattle.graph.specs.Count.{C};
 ghost use Rattle.graph.specs.Admission.{admissionNumber};
 ghost use Rattle.graph.specs.Answer.{accepted, unless, admissionAnswer, countAnswer};
-ghost use Rattle.graph.specs.Literals.{graphIn};
+ghost use Rattle.graph.specs.Literals.{before, graphBefore};
 
 pub mod decimal;
 pub mod edges;
@@ -55,7 +55,7 @@ pub fn admit_graph(
     output_bits: &[u64],
     locks: &[u8],
 ) -> Admission
-    ensures { λ r. ⌜ admissionAnswer r ≡ unless (admissionNumber (graphIn inputs nodes outputs (now («node_table» .entry)) (now («node_bits» .entry)) (now («output_table» .entry)) (now («output_bits» .entry))) (now (locks .entry))) (accepted []) ⌝ }
+    ensures { λ r. ⌜ admissionAnswer r ≡ unless (admissionNumber (graphBefore inputs nodes outputs «node_table» «node_bits» «output_table» «output_bits») (before locks)) (accepted []) ⌝ }
 {
     let k = faults::admission_number(
         inputs,
@@ -84,7 +84,7 @@ pub fn complemented_edges(
     output_bits: &[u64],
     locks: &[u8],
 ) -> Count
-    ensures { λ r. ⌜ countAnswer r ≡ unless (admissionNumber (graphIn inputs nodes outputs (now («node_table» .entry)) (now («node_bits» .entry)) (now («output_table» .entry)) (now («output_bits» .entry))) (now (locks .entry))) (accepted (C (graphIn inputs nodes outputs (now («node_table» .entry)) (now («node_bits» .entry)) (now («output_table» .entry)) (now («output_bits» .entry))) ∷ [])) ⌝ }
+    ensures { λ r. ⌜ countAnswer r ≡ unless (admissionNumber (graphBefore inputs nodes outputs «node_table» «node_bits» «output_table» «output_bits») (before locks)) (accepted (C (graphBefore inputs nodes outputs «node_table» «node_bits» «output_table» «output_bits») ∷ [])) ⌝ }
 {
     let k = faults::admission_number(
         inputs,

@@ -2,7 +2,7 @@
 ghost use mathlib.Core.Path.{_≡_};
 ghost use Prim.Native.Nat.{_<_};
 ghost use lib.IntN.{pos, natAbs};
-ghost use Rattle.graph.specs.Difference.{difference};
+ghost use Rattle.graph.specs.Finite.{difference};
 
 // a less b.
 pub fn less(a: u64, b: u64) -> i64

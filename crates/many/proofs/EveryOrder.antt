@@ -13,9 +13,10 @@ use Rattle.graph.specs.Admission.{Admitted}
 use Rattle.graph.specs.Graph.{Graph, node, isXor}
 use Rattle.graph.specs.Turned.{turnedBy}
 use Rattle.graph.proofs.Cases.{eq-or-ne}
-use Rattle.moves.specs.Apply.{Choice, none, at, put, apply, compose, Permitted}
+use Rattle.moves.specs.Apply.{Choice, none, at, put, apply}
 use Rattle.moves.specs.Call.{moved}
-use Rattle.moves.specs.Rows.{arity, kindMoves, combined}
+use Rattle.moves.specs.Rows.{arity, kindMoves}
+use Rattle.moves.specs.Compose.{combined, compose, Permitted}
 use Rattle.moves.proofs.Apply.{admitted, same-xor}
 use Rattle.moves.proofs.Changed.{at-same, at-other}
 use Rattle.moves.proofs.Compose.{apply-apply}

@@ -9,7 +9,7 @@ use lib.ListN.{length, getD}
 use Rattle.graph.specs.Finite.{ifLess, first}
 use Rattle.graph.specs.Graph.{Graph, node}
 use Rattle.graph.specs.Admission.{Admitted, tablesNumber, contentNumber}
-use Rattle.graph.specs.Answer.{IsRefusal}
+use Rattle.graph.specs.Inner.{IsRefusal}
 use Rattle.graph.proofs.Tests.{less, no-less, none, both, on, off, each-none}
 use Rattle.graph.proofs.Answers.{ifLess-le, first-le, firstOf-le, tables-le, content-le}
 use Rattle.graph.proofs.Admit.{admitted-by}

@@ -1,3 +1,4 @@
 pub mod Many
 pub mod Making
+pub mod All
 pub mod Promises

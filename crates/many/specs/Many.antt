@@ -1,15 +1,6 @@
 -- Many moves together: a list of nodes with a move each, made all or none.
-use mathlib.Core.Path.{_≡_}
-use mathlib.Core.List.{List, [], _∷_, Perm}
-use Prim.Native.Nat.{ℕ, zero, suc}
-use lib.ListN.{length, getD}
-use Rattle.graph.specs.Finite.{ifLess, first, firstOf}
-use Rattle.graph.specs.Graph.{Graph}
-use Rattle.graph.specs.Count.{C}
-use Rattle.graph.specs.Difference.{difference}
-use Rattle.graph.specs.Admission.{tablesNumber, contentNumber}
-use Rattle.graph.specs.Answer.{whole, Outcome, outcome, guarded}
-use Rattle.moves.specs.Call.{moved, nodeFault, moveNumber}
+use Rattle.graph.specs.All.{ℕ, zero, suc, _≡_, List, [], _∷_, Perm, length, getD, ifLess, first, firstOf, Graph, C, difference, tablesNumber, contentNumber, whole, Outcome, outcome, guarded}
+use Rattle.moves.specs.All.{moved, nodeFault, moveNumber}
 
 -- 14: the index of entry j of the nodes us is not above that of the entry before
 unfoldable pub risingFault : List ℕ → ℕ → ℕ

@@ -1,7 +1,5 @@
 -- What many moves promise beside their definition.
-use mathlib.Core.List.{List}
-use Prim.Native.Nat.{ℕ}
-use Rattle.graph.specs.Graph.{Graph}
+use Rattle.graph.specs.All.{ℕ, List, Graph}
 use Rattle.many.specs.Many.{EveryOrder}
 
 pub record Promises : Type 0 where

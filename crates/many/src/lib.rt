@@ -1,8 +1,8 @@
 // Many moves together: a list of nodes with a move each, made all or none.
 ghost use mathlib.Core.Path.{_≡_};
 ghost use Rattle.graph.specs.Answer.{outcome};
-ghost use Rattle.graph.specs.Literals.{graphIn};
-ghost use Rattle.moves.specs.Trial.{gainAnswer};
+ghost use Rattle.graph.specs.Literals.{before, graphBefore, graphAfter};
+ghost use Rattle.moves.specs.Call.{gainAnswer};
 ghost use Rattle.many.specs.Many.{manyCall};
 
 mod faults;
@@ -26,9 +26,9 @@ pub fn many(
     bytes: &[u8],
 ) -> Gain
     ensures { λ r.
-        let g = graphIn inputs nodes outputs (now («node_table» .entry)) (now («node_bits» .entry)) (now («output_table» .entry)) (now («output_bits» .entry)) in
-        let h = graphIn inputs nodes outputs (now («node_table» .entry)) (now («node_bits» .exit)) (now («output_table» .entry)) (now («output_bits» .exit)) in
-        ⌜ outcome (gainAnswer r) h ≡ manyCall g (now (locks .entry)) (now (list .entry)) (now (bytes .entry)) ⌝ }
+        let g = graphBefore inputs nodes outputs «node_table» «node_bits» «output_table» «output_bits» in
+        let h = graphAfter inputs nodes outputs «node_table» «node_bits» «output_table» «output_bits» in
+        ⌜ outcome (gainAnswer r) h ≡ manyCall g (before locks) (before list) (before bytes) ⌝ }
 {
     let number = faults::many_number(
         inputs,

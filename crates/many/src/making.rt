@@ -6,7 +6,7 @@ ghost use Prim.Native.Nat.{ℕ, _+_, _*_, _%_, _≤_, _<_};
 ghost use lib.ListN.{length, getD};
 ghost use Rattle.graph.specs.Admission.{Admitted};
 ghost use Rattle.graph.specs.Count.{C};
-ghost use Rattle.graph.specs.Difference.{difference};
+ghost use Rattle.graph.specs.Finite.{difference};
 ghost use Rattle.graph.specs.Graph.{index, isXor};
 ghost use Rattle.graph.specs.Turned.{turnedTable, only, upTo};
 ghost use Rattle.graph.specs.Literals.{bitAt, graphIn, held, literals};

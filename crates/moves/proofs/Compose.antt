@@ -8,8 +8,9 @@ use borrow.Author.Tests.{lt-ltb, le-ltb}
 use lib.ListN.{getD}
 use Rattle.graph.specs.Admission.{Admitted}
 use Rattle.graph.specs.Graph.{Graph, isEdge, isXor}
-use Rattle.moves.specs.Apply.{Choice, apply, turns, outputTurns, own, seen, compose, Permitted}
-use Rattle.moves.specs.Rows.{flag, combined}
+use Rattle.moves.specs.Apply.{Choice, apply, turns, outputTurns, own, seen}
+use Rattle.moves.specs.Rows.{flag}
+use Rattle.moves.specs.Compose.{combined, compose, Permitted}
 use Rattle.moves.proofs.Moves.{node-row}
 use Rattle.graph.proofs.Alike.{Alike, alike-edge, alike-xor}
 use Rattle.graph.proofs.Cases.{lt-or-le, true-or-false}

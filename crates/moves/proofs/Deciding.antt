@@ -16,7 +16,7 @@ use Rattle.graph.specs.Inner.{IsWord}
 use Rattle.moves.specs.Rows.{rows, firstRow, arity, flag}
 use Rattle.moves.specs.Decide.{costBy, costWith, Weighed, Numbers, LeastBelow, Answered, FirstPair, wordAfter, bitsAdd, ownCosts, swapped, given, others, costOf, costGiven, pairCost, numbersOf, naming, Counted}
 use Rattle.moves.specs.declared.decide.NodeNumbers.{NodeNumbers}
-use Rattle.choice.specs.Choice.{FirstBelow}
+use Rattle.choice.specs.Inner.{FirstBelow}
 use Rattle.graph.proofs.Adds.{adds-le}
 use Rattle.graph.proofs.Edge.{edge-early, third-majority, third-xor}
 use Rattle.graph.proofs.Finite.{sum-le}

@@ -9,7 +9,8 @@ use lib.Dec.{T, eqb, leb, eqb→eq, leb→le}
 use borrow.Author.Tests.{le-ltb}
 use Rattle.graph.proofs.Cases.{lt-or-le}
 use Rattle.graph.specs.Finite.{ifLess}
-use Rattle.moves.specs.Rows.{firstRow, flag, rows, arity, combined}
+use Rattle.moves.specs.Rows.{firstRow, flag, rows, arity}
+use Rattle.moves.specs.Compose.{combined}
 
 -- a test of every number below n
 abbrev pub all : ℕ → (ℕ → Bool) → Bool

@@ -12,7 +12,8 @@ use Rattle.graph.specs.Admission.{Admitted}
 use Rattle.graph.proofs.Cases.{eq-or-ne, cond-same}
 use Rattle.graph.proofs.Alike.{alike-wiring}
 use Rattle.graph.proofs.Turned.{by-never}
-use Rattle.choice.specs.Choice.{best, Fits, zeros}
+use Rattle.choice.specs.Choice.{best, Fits}
+use Rattle.choice.specs.Inner.{zeros}
 use Rattle.choice.proofs.Best.{best-is, best-zeros}
 use Rattle.moves.specs.Rows.{movesAt}
 use Rattle.moves.specs.Apply.{Choice, none, at, put, turns, outputTurns, apply}

@@ -12,12 +12,12 @@ use Rattle.graph.specs.Graph.{Graph, node, word, isEdge}
 use Rattle.graph.specs.Value.{Assignment, value}
 use Rattle.graph.specs.Admission.{Admitted}
 use Rattle.graph.proofs.Cases.{eq-or-ne}
-use Rattle.choice.specs.Choice.{Fits, zeros}
+use Rattle.choice.specs.Choice.{best, Fits}
+use Rattle.choice.specs.Inner.{zeros}
 use Rattle.choice.proofs.Best.{best-is}
 use Rattle.moves.specs.Rows.{kindMoves, lockAt, movesAt}
 use Rattle.moves.specs.Apply.{Choice, none, at, put, own, seen, turns, apply}
 use Rattle.moves.specs.Call.{moved, movedC, bestAt, rewrite}
-use Rattle.moves.specs.Free.{bestFree, rewriteFree}
 use Rattle.moves.specs.Promises.{LockedNode, Alone, LowestAlone, NoneLocked}
 use Rattle.moves.proofs.Apply.{turns-edge}
 use Rattle.moves.proofs.Changed.{at-same, at-other, seen-none, own-none}
@@ -98,15 +98,14 @@ module _ (g : Graph) (ls : List ℕ) where
     pub lowest-alone : LowestAlone g ls us
     lowest-alone adm ms f a = best-lowest g ls adm us ms (alone-fits us ms f a)
 
-    -- and with no node locked it is the best of all, as before there were locks
-    module _ (free : (v : ℕ) → v < g .N → getD ls v 0 ≡ 0) where
-      best-free : bestAt g ls us ≡ bestFree g us
-      unfolding bestAt bestFree
-      best-free = rw (all-free g ls free)
+-- and with no node locked it is the best of all, as before there were locks
+best-free : (g : Graph) (ls us : List ℕ) → ((v : ℕ) → v < g .N → getD ls v 0 ≡ 0) → bestAt g ls us ≡ best (movedC g us) (map (kindMoves g) us)
+unfolding bestAt
+best-free g ls us free = rw (all-free g ls free)
 
-      pub rewrite-free : rewrite g ls us ≡ rewriteFree g us
-      unfolding rewrite rewriteFree
-      rewrite-free = rw best-free
+pub rewrite-free : (g : Graph) (ls us : List ℕ) → ((v : ℕ) → v < g .N → getD ls v 0 ≡ 0) → rewrite g ls us ≡ rewrite g [] us
+unfolding rewrite
+rewrite-free g ls us free = rw (best-free g ls us free, best-free g [] us (λ v h. refl))
 
-      pub none-locked : NoneLocked g ls us
-      none-locked = record { best-free = best-free; rewrite-free = rewrite-free }
+pub none-locked : (g : Graph) (ls us : List ℕ) → ((v : ℕ) → v < g .N → getD ls v 0 ≡ 0) → NoneLocked g ls us
+none-locked g ls us free = record { best-free = best-free g ls us free; rewrite-free = rewrite-free g ls us free }

@@ -14,8 +14,9 @@ use Rattle.graph.proofs.Cases.{eq-or-ne}
 use Rattle.graph.proofs.Edge.{edge-none}
 use Rattle.graph.proofs.Tests.{equal, unequal}
 use Rattle.graph.proofs.Turned.{only-at, only-off}
-use Rattle.moves.specs.Apply.{Choice, none, at, own, seen, apply, compose, Permitted}
-use Rattle.moves.specs.Rows.{rows, firstRow, arity, flag, kindMoves, combined}
+use Rattle.moves.specs.Apply.{Choice, none, at, own, seen, apply}
+use Rattle.moves.specs.Rows.{rows, firstRow, arity, flag, kindMoves}
+use Rattle.moves.specs.Compose.{combined, compose, Permitted}
 use Rattle.moves.proofs.Changed.{at-same, at-other, seen-other, seen-none, own-other, own-none, own-at}
 use Rattle.moves.proofs.Compose.{seen-node, apply-apply}
 use Rattle.moves.proofs.Moves.{arity-pos, kind-pos, node-row}

@@ -10,7 +10,8 @@ use lib.ListN.{getD}
 use Rattle.graph.specs.Graph.{Graph, node, isXor}
 use Rattle.graph.proofs.Cases.{eq-or-ne, lt-or-le}
 use Rattle.graph.proofs.Tests.{less, no-less, equal, unequal}
-use Rattle.choice.specs.Choice.{Fits, zeros}
+use Rattle.choice.specs.Choice.{Fits}
+use Rattle.choice.specs.Inner.{zeros}
 use Rattle.moves.specs.Decide.{MovesOf}
 use Rattle.moves.specs.Rows.{arity, kindMoves, lockAt, movesAt}
 

@@ -13,7 +13,8 @@ use Rattle.graph.specs.Admission.{Admitted}
 use Rattle.graph.specs.Count.{C, adds, readers}
 use Rattle.graph.specs.Finite.{ifEqual}
 use Rattle.graph.specs.Graph.{Graph, isXor, node, word}
-use Rattle.choice.specs.Choice.{Fits, _≺_, FirstBelow}
+use Rattle.choice.specs.Choice.{Fits}
+use Rattle.choice.specs.Inner.{_≺_, FirstBelow}
 use Rattle.choice.proofs.Best.{unique}
 use Rattle.moves.specs.Apply.{Choice, none, at, put, seen, apply}
 use Rattle.moves.specs.Call.{moved, movedC, bestAt}

@@ -9,7 +9,7 @@ use lib.ListN.{getD}
 use Rattle.graph.specs.Finite.{ifEqual}
 use Rattle.graph.specs.Graph.{Graph, node, word, isEdge, isXor}
 use Rattle.graph.specs.Count.{readers}
-use Rattle.choice.specs.Choice.{FirstBelow}
+use Rattle.choice.specs.Inner.{FirstBelow}
 use Rattle.moves.specs.Rows.{flag, movesAt}
 use Rattle.moves.specs.Cost.{edgeCost, turnedCost, wordCosts, wordCost, ownCost, moveCost, nodeCost, pick, rootCost, shown}
 use Rattle.moves.specs.Decide.{costBy, costWith, Numbers}

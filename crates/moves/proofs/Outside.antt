@@ -8,20 +8,18 @@ use Prim.Native.Nat.{ℕ, _+_, _*_, _/_, _%_, _≤_, _<_}
 use native.Mathlib.Omega.{arith}
 use borrow.Author.Tests.{eq-eqb, ne-eqb}
 use lib.Dec.{eqb}
-use Rattle.graph.specs.Finite.{sum}
+use Rattle.graph.specs.Finite.{sum, difference}
 use Rattle.graph.specs.Graph.{Graph, node, word, output, isEdge, mark}
 use Rattle.graph.specs.Count.{adds, wordAdds, nodeAdds, outputAdds}
 use Rattle.graph.specs.Admission.{Admitted}
-use Rattle.graph.specs.Difference.{difference}
 use Rattle.graph.specs.Turned.{turnedBy}
 use Rattle.graph.proofs.Adds.{nodeAdds-le, outputAdds-le}
 use Rattle.graph.proofs.Cases.{true-or-false, eq-or-ne, cond-le, cond-not}
 use Rattle.graph.proofs.Difference.{same-difference}
 use Rattle.graph.proofs.Finite.{sum-same, sum-le}
 use Rattle.moves.specs.Apply.{Choice, none, at, put, apply, seen}
-use Rattle.moves.specs.Call.{moved}
+use Rattle.moves.specs.Call.{moved, among, otherAdds, split}
 use Rattle.moves.specs.Outside.{outsideWord, outsideOutput, oddOutside}
-use Rattle.moves.specs.Split.{among, otherAdds, split}
 use Rattle.moves.proofs.Apply as applied
 use Rattle.moves.proofs.Changed.{at-other, own-none, seen-none, node-adds, out-adds}
 use Rattle.moves.proofs.Count.{sum-add, clash}

@@ -14,11 +14,11 @@ use mir.Syntax.{w64}
 use mir.Val.{toZ, ofZ}
 use Rattle.graph.specs.Admission.{Admitted}
 use Rattle.graph.specs.Count.{C}
-use Rattle.graph.specs.Difference.{difference}
+use Rattle.graph.specs.Finite.{difference}
 use Rattle.graph.specs.Graph.{Graph, node}
 use Rattle.graph.proofs.Cases.{lt-or-le}
 use Rattle.graph.proofs.Difference.{at-least, same-difference, greater-is, read-back}
-use Rattle.choice.specs.Choice.{FirstBelow}
+use Rattle.choice.specs.Inner.{FirstBelow}
 use Rattle.moves.specs.Apply.{none, at, put, apply}
 use Rattle.moves.specs.Call.{moved, movedC}
 use Rattle.moves.specs.Decide.{MovesOf, given, others, costGiven, pairCost, Counted, FirstPair, numbersOf, naming}

@@ -8,24 +8,22 @@ use Prim.Native.Nat.{ℕ, zero, suc, _+_, _*_, _/_, _%_, _≤_, _<_}
 use native.Mathlib.Omega.{arith}
 use borrow.Author.Tests.{eq-eqb, ne-eqb}
 use lib.Dec.{eqb}
-use Rattle.graph.specs.Finite.{ifEqual}
+use Rattle.graph.specs.Finite.{ifEqual, difference}
 use Rattle.graph.specs.Graph.{Graph, node, word, output, isEdge, isXor}
 use Rattle.graph.specs.Count.{adds, nodeAdds, named, outputNamed}
 use Rattle.graph.specs.Admission.{Admitted}
 use Rattle.graph.specs.Answer.{othersOf}
-use Rattle.graph.specs.Difference.{difference}
 use Rattle.graph.specs.Turned.{turnedBy}
 use Rattle.graph.proofs.Cases.{true-or-false, eq-or-ne, cond-same}
 use Rattle.graph.proofs.Difference.{same-difference}
 use Rattle.graph.proofs.Finite.{sum-same}
 use Rattle.graph.proofs.Turn.{turn-bit}
 use Rattle.moves.specs.Apply.{Choice, none, at, put, apply, seen}
-use Rattle.moves.specs.Call.{moved, bestAt, rewrite}
+use Rattle.moves.specs.Call.{moved, bestAt, rewrite, among, split}
 use Rattle.moves.specs.Cost.{shown}
 use Rattle.moves.specs.Decide.{wordAfter, ownCosts, numbersOf, naming}
 use Rattle.moves.specs.Outside.{outsideWord, outsideOutput, oddOutside, oddRead, oddBetween, oddBy, betweenBy, pairOdd, PairOdds}
 use Rattle.moves.specs.Rows.{flag}
-use Rattle.moves.specs.Split.{among, split}
 use Rattle.moves.specs.declared.gains.Odds.{Odds}
 use Rattle.moves.proofs.Changed.{at-same, at-other, seen-none, out-adds}
 use Rattle.moves.proofs.Compose.{seen-node}

@@ -16,7 +16,8 @@ use Rattle.moves.specs.Apply.{Choice, at, none, put}
 use Rattle.moves.specs.Cost.{pick}
 use Rattle.moves.specs.Tree.{isRoot, rootOf, members, tree}
 use Rattle.graph.proofs.Cases.{eq-or-ne}
-use Rattle.choice.specs.Choice.{best, choices, least, FirstBelow}
+use Rattle.choice.specs.Choice.{best, choices, least}
+use Rattle.choice.specs.Inner.{FirstBelow}
 use Rattle.choice.proofs.Best.{best-cons, least-below, first-shift}
 use Rattle.moves.proofs.Readers.{rootOf-root, rootOf-above}
 use Rattle.moves.proofs.Changed.{at-same, at-other}

@@ -11,18 +11,17 @@ use Rattle.graph.specs.Graph.{Graph, node, word, output, isEdge, isXor}
 use Rattle.graph.specs.Count.{named, outputNamed}
 use Rattle.graph.specs.Admission.{Admitted}
 use Rattle.graph.specs.Answer.{othersOf}
-use Rattle.graph.specs.Difference.{difference}
+use Rattle.graph.specs.Finite.{difference}
 use Rattle.graph.specs.Turned.{turnedBy}
 use Rattle.graph.proofs.Alike.{Alike, alike-edge}
 use Rattle.graph.proofs.Cases.{true-or-false, eq-or-ne}
 use Rattle.graph.proofs.Finite.{sum-same}
 use Rattle.moves.specs.Apply.{Choice, none, put, apply, seen}
-use Rattle.moves.specs.Call.{moved, bestAt, rewrite}
+use Rattle.moves.specs.Call.{moved, bestAt, rewrite, among, split}
 use Rattle.moves.specs.Cost.{shown}
 use Rattle.moves.specs.Decide.{numbersOf}
 use Rattle.moves.specs.Outside.{oddOutside, outsideWord, outsideOutput, oddBy, NodeOdds}
 use Rattle.moves.specs.Rows.{flag}
-use Rattle.moves.specs.Split.{among, split}
 use Rattle.moves.specs.declared.gains.Odds.{Odds}
 use Rattle.moves.specs.Tree.{isRoot, reader, rootOf, members, tree}
 use Rattle.moves.proofs.Apply as applied

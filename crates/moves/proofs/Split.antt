@@ -7,14 +7,13 @@ use native.Mathlib.Omega.{arith}
 use lib.IntN.{ℤ, pos}
 use Rattle.graph.specs.Graph.{Graph, node}
 use Rattle.graph.specs.Count.{C, nodeAdds}
-use Rattle.graph.specs.Difference.{difference}
+use Rattle.graph.specs.Finite.{difference}
 use Rattle.graph.specs.Answer.{gained, othersOf, outcome}
 use Rattle.graph.proofs.Difference.{same-difference}
 use Rattle.graph.proofs.DifferenceSum.{sum-is, part-by, no-difference}
 use Rattle.graph.proofs.Finite.{sum-same}
-use Rattle.moves.specs.Call.{moved, bestAt, rewrite}
+use Rattle.moves.specs.Call.{moved, bestAt, rewrite, among, ownAdds, otherAdds, split}
 use Rattle.moves.specs.Outside.{savedBy}
-use Rattle.moves.specs.Split.{among, ownAdds, otherAdds, split}
 use Rattle.moves.specs.Promises.{SplitWhole}
 use Rattle.moves.proofs.Count.{sum-add}
 

@@ -12,8 +12,9 @@ use Rattle.moves.specs.Apply.{Choice, own, apply, at, none}
 use Rattle.moves.specs.Call.{moved, movedC, bestAt}
 use Rattle.moves.specs.Cost.{inner, moveCost, nodeCost, pick, rootCost, shows, Costs, Decided}
 use Rattle.moves.specs.Rows.{movesAt}
-use Rattle.moves.specs.Tree.{isRoot, place, reader, rootOf, tree, IsRoot}
-use Rattle.choice.specs.Choice.{FirstBelow}
+use Rattle.moves.specs.Tree.{isRoot, place, reader, rootOf, tree}
+use Rattle.moves.specs.Compose.{IsRoot}
+use Rattle.choice.specs.Inner.{FirstBelow}
 use Rattle.choice.proofs.Best.{least-below}
 use Rattle.moves.proofs.Changed.{at-other}
 use Rattle.moves.proofs.Moves.{moves-pos}

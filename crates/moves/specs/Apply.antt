@@ -1,11 +1,6 @@
 -- A choice of moves, applied in one step.
-use mathlib.Core.Bool.{cond, _&&_}
-use mathlib.Core.List.{List, [], _∷_}
-use Prim.Native.Nat.{ℕ, _+_, _-_, _*_, _/_, _%_, _<_}
-use lib.Dec.{ltb, eqb}
-use Rattle.graph.specs.Graph.{Graph, node, word, output, index, isXor, isEdge}
-use Rattle.graph.specs.Turned.{turnedBy}
-use Rattle.moves.specs.Rows.{flag, kindMoves, combined}
+use Rattle.graph.specs.All.{ℕ, _+_, _-_, _*_, _/_, _%_, cond, _&&_, List, [], _∷_, eqb, ltb, Graph, node, word, output, index, isXor, isEdge, turnedBy}
+use Rattle.moves.specs.Rows.{flag}
 
 -- a choice gives each node, by index, a move number; a node that is not concerned has move 0
 abbrev pub Choice : Type 0
@@ -25,10 +20,6 @@ put d [] ms = d
 put d (u ∷ us) [] = d
 put d (u ∷ us) (k ∷ ms) = put (at d u k) us ms
 
--- every move is one that its node's kind has
-abbrev pub Permitted : Graph → Choice → Type 0
-Permitted g m = (v : ℕ) → v < g .N → m (node g v) < kindMoves g (node g v)
-
 -- whether the readers of index u are turned: they are where u is a node whose move says so
 unfoldable pub seen : Graph → Choice → ℕ → ℕ
 seen g m u = cond (ltb (g .I) u && ltb u (g .I + 1 + g .N)) (flag (isXor g (u - (g .I + 1))) (m u) 3) 0
@@ -46,7 +37,3 @@ outputTurns g m j = cond (ltb j (g .O)) (seen g m (index (output g j))) 0
 
 unfoldable pub apply : Graph → Choice → Graph
 apply g m = turnedBy g (turns g m) (outputTurns g m)
-
--- two choices, made one after the other, are one choice
-unfoldable pub compose : Graph → Choice → Choice → Choice
-compose g m n u = combined (isXor g (u - (g .I + 1))) (m u) (n u)

@@ -1,26 +1,36 @@
--- The node, pair and tree calls on a graph g with the locks ls, which no call changes: one notion of best, at three lists of nodes.
-use mathlib.Core.Bool.{Bool, cond, _&&_}
-use mathlib.Core.List.{List, [], _∷_, map}
-use Prim.Native.Nat.{ℕ, _+_, _-_, _*_}
-use lib.Dec.{ltb, leb}
-use lib.IntN.{pos}
-use Rattle.graph.specs.Finite.{ifLess, ifEqual, first}
-use Rattle.graph.specs.Graph.{Graph, node, word, index, isXor}
-use Rattle.graph.specs.Count.{C}
-use Rattle.graph.specs.Admission.{admissionNumber}
-use Rattle.graph.specs.Answer.{Answer, refused, gained, numberOf, Outcome, outcome, guarded}
-use Rattle.choice.specs.Choice.{best}
-use Rattle.moves.specs.Rows.{kindMoves, lockAt, movesAt}
-use Rattle.moves.specs.Apply.{none, put, apply}
-use Rattle.moves.specs.Tree.{isRoot, tree}
-use Rattle.moves.specs.Split.{split}
-use Rattle.moves.specs.declared.Saving.{Saving}
-use Rattle.moves.specs.declared.Saving.the-variants.{Saved, Refused}
+-- The node, pair and tree calls on a graph g with the locks ls, which no call changes: one notion of best, at three lists of nodes, with its saving
+-- in two parts, over the words of the nodes that the call names and over all other edges. And the trial: what two moves on a pair would save.
+use Rattle.graph.specs.All.{ℕ, _+_, _-_, _*_, _/_, Bool, true, false, cond, _&&_, List, [], _∷_, map, eqb, ltb, leb, ℤ, pos, ifLess, ifEqual, first, Graph, node, word, index, isXor, C, admissionNumber, Answer, refused, gained, numberOf, Outcome, outcome, guarded, sum, nodeAdds, outputAdds, difference, whole, unless}
+use Rattle.choice.specs.All.{best}
+use Rattle.moves.specs.{Rows.kindMoves, Rows.lockAt, Rows.movesAt, Apply.none, Apply.put, Apply.apply, Tree.isRoot, Tree.tree, declared.Saving.Saving, declared.Gain.Gain}
+use Rattle.moves.specs.declared.Saving.the-variants as saving
+use Rattle.moves.specs.declared.Gain.the-variants as gain
+
+-- w is one of the list
+unfoldable pub among : List ℕ → ℕ → Bool
+among [] w = false
+among (u ∷ us) w = let later = among us w in cond (eqb w u) true later
+
+-- what the words of the nodes us add to C
+unfoldable pub ownAdds : Graph → List ℕ → ℕ
+ownAdds g us = sum (3 * g .N) (λ j. cond (among us (node g (j / 3))) (nodeAdds g j) 0)
+
+-- what all other edges add: the words of other nodes, and the outputs
+unfoldable pub otherAdds : Graph → List ℕ → ℕ
+otherAdds g us = sum (3 * g .N) (λ j. cond (among us (node g (j / 3))) 0 (nodeAdds g j)) + sum (g .O) (outputAdds g)
+
+pub record Split : Type 0 where
+  pub own : ℤ
+  pub others : ℤ
+
+-- from g to h, by a call that names the nodes us
+unfoldable pub split : List ℕ → Graph → Graph → Split
+split us g h = record { own = difference (ownAdds g us) (ownAdds h us); others = difference (otherAdds g us) (otherAdds h us) }
 
 -- what a node, pair or tree call answers
 abbrev pub savingAnswer : Saving → Answer
-savingAnswer (Saved own others) = gained [] own others
-savingAnswer (Refused r) = refused (numberOf r)
+savingAnswer (saving.Saved own others) = gained [] own others
+savingAnswer (saving.Refused r) = refused (numberOf r)
 
 -- the graph after the moves ms at the nodes us
 unfoldable pub moved : Graph → List ℕ → List ℕ → Graph
@@ -100,3 +110,25 @@ treeNumber g ls s r = first (admissionNumber g ls) (first (nodeFault g r) (first
 
 unfoldable pub treeCall : Graph → List ℕ → ℕ → ℕ → Outcome
 treeCall g ls s r = guarded (treeNumber g ls s r) g (rewrite g ls (tree g r))
+
+-- what a call answers that tells its saving in one number
+abbrev pub gainAnswer : Gain → Answer
+gainAnswer (gain.Whole z) = whole z
+gainAnswer (gain.Refused r) = refused (numberOf r)
+
+-- what refuses a trial of move a at the node that word k of node u names, and of move m at u: what refuses the pair call, then move a,
+-- then move m. A word that names no node asks nothing of move a
+unfoldable pub trialNumber : Graph → List ℕ → ℕ → ℕ → ℕ → ℕ → ℕ
+trialNumber g ls u k a m =
+    let p = namedBy g u k in
+    first (pairNumber g ls u k) (first (cond (isNode g p) (moveNumber g ls p a) 0) (moveNumber g ls u m))
+
+-- C before both less C after; a word that names no node saves nothing
+unfoldable pub trialSaving : Graph → ℕ → ℕ → ℕ → ℕ → ℤ
+trialSaving g u k a m =
+    let p = namedBy g u k in
+    cond (isNode g p) (difference (C g) (movedC g (p ∷ u ∷ []) (a ∷ m ∷ []))) (pos 0)
+
+-- the trial
+unfoldable pub trialCall : Graph → List ℕ → ℕ → ℕ → ℕ → ℕ → Answer
+trialCall g ls u k a m = unless (trialNumber g ls u k a m) (whole (trialSaving g u k a m))

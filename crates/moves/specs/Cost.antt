@@ -12,7 +12,8 @@ use Rattle.graph.specs.Graph.{Graph, isEdge, isXor, node, word, output}
 use Rattle.moves.specs.Apply.{Choice, own}
 use Rattle.moves.specs.Rows.{flag, movesAt}
 use Rattle.moves.specs.Tree.{isRoot, rootOf, place}
-use Rattle.choice.specs.Choice.{least, from, FirstBelow}
+use Rattle.choice.specs.Choice.{least, from}
+use Rattle.choice.specs.Inner.{FirstBelow}
 
 -- a node that is no root
 unfoldable pub inner : Graph → ℕ → Bool

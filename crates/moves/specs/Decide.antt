@@ -10,7 +10,7 @@ use Rattle.graph.specs.Graph.{Graph, node, word, turn, isEdge, isXor}
 use Rattle.graph.specs.Count.{adds, nodeReaders, readers}
 use Rattle.moves.specs.Cost.{shown}
 use Rattle.moves.specs.Rows.{arity, flag, movesAt}
-use Rattle.choice.specs.Choice.{FirstBelow}
+use Rattle.choice.specs.Inner.{FirstBelow}
 use Rattle.moves.specs.declared.decide.NodeNumbers.{NodeNumbers}
 
 -- what the move m of a node of kind x leaves: z has at place 2 k what word k + 1 adds as it stands, and at 2 k + 1 what it

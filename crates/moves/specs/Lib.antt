@@ -1,12 +1,11 @@
 pub mod Rows
 pub mod Apply
 pub mod Tree
-pub mod Split
 pub mod Call
-pub mod Free
+pub mod Compose
 pub mod Cost
 pub mod Decide
 pub mod Outside
 pub mod Pair
-pub mod Trial
+pub mod All
 pub mod Promises

@@ -4,13 +4,12 @@ use mathlib.Core.Bool.{cond}
 use mathlib.Core.List.{List, []}
 use Prim.Native.Nat.{ℕ, _+_, _-_, _*_, _/_, _%_, _≤_}
 use lib.ListN.{getD}
-use Rattle.graph.specs.Finite.{sum, ifEqual}
+use Rattle.graph.specs.Finite.{sum, ifEqual, difference}
 use Rattle.graph.specs.Graph.{Graph, node, word, output}
 use Rattle.graph.specs.Count.{nodeAdds, outputAdds, named}
-use Rattle.graph.specs.Difference.{difference}
 use Rattle.graph.specs.Answer.{Answer, gained}
 use Rattle.moves.specs.Rows.{flag}
-use Rattle.moves.specs.Split.{among}
+use Rattle.moves.specs.Call.{among}
 use Rattle.moves.specs.declared.decide.NodeNumbers.{NodeNumbers}
 use Rattle.moves.specs.declared.gains.Odds.{Odds}
 

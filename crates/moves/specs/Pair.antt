@@ -5,8 +5,8 @@ use mathlib.Core.List.{List}
 use Prim.Native.Nat.{ℕ, _/_, _%_, _<_}
 use lib.IntN.{ℤ, pos}
 use lib.Signed.{ltZ}
-use Rattle.graph.specs.Difference.{difference}
-use Rattle.choice.specs.Choice.{FirstBelow}
+use Rattle.graph.specs.Finite.{difference}
+use Rattle.choice.specs.Inner.{FirstBelow}
 use Rattle.moves.specs.Decide.{pairCost}
 use Rattle.moves.specs.declared.decide.NodeNumbers.{NodeNumbers}
 use Rattle.moves.specs.declared.decide.Combination.{Combination}

@@ -1,24 +1,7 @@
 -- What calls at the nodes us promise beside their definitions: what locks mean, and what the parts of a saving come to.
-use mathlib.Core.Path.{_≡_}
-use mathlib.Core.Bool.{true}
-use mathlib.Core.List.{List, [], _∷_, map}
-use Prim.Native.Nat.{ℕ, _/_, _≤_, _<_}
-use lib.IntN.{_+ℤ_}
-use lib.ListN.{getD}
-use Rattle.graph.specs.Graph.{Graph, node, word, index, isEdge}
-use Rattle.graph.specs.Count.{C}
-use Rattle.graph.specs.Value.{Assignment, value}
-use Rattle.graph.specs.Difference.{difference}
-use Rattle.graph.specs.Admission.{Admitted}
-use Rattle.choice.specs.Choice.{Fits}
-use Rattle.moves.specs.Rows.{kindMoves, lockAt}
-use Rattle.moves.specs.Apply.{Choice, none, put, seen, turns}
-use Rattle.moves.specs.Split.{split}
-use Rattle.moves.specs.Call.{moved, movedC, bestAt, rewrite}
-use Rattle.moves.specs.Free.{bestFree, rewriteFree}
-use Rattle.moves.specs.Decide.{pairCost, FirstPair, numbersOf, naming}
-use Rattle.moves.specs.Pair.{pairSaving, FirstGreatest}
-use Rattle.moves.specs.declared.decide.NodeNumbers.{NodeNumbers}
+use Rattle.graph.specs.All.{ℕ, _/_, _≤_, _<_, true, _≡_, List, [], _∷_, map, getD, _+ℤ_, Graph, node, word, index, isEdge, C, Assignment, value, difference, Admitted}
+use Rattle.choice.specs.All.{Fits, best}
+use Rattle.moves.specs.{Rows.kindMoves, Rows.lockAt, Apply.Choice, Apply.none, Apply.put, Apply.seen, Apply.turns, Call.split, Call.moved, Call.movedC, Call.bestAt, Call.rewrite, Decide.pairCost, Decide.FirstPair, Decide.numbersOf, Decide.naming, Pair.pairSaving, Pair.FirstGreatest, declared.decide.NodeNumbers.NodeNumbers}
 
 -- both parts of a saving add to C before less C after (M-104)
 abbrev pub SplitWhole : List ℕ → Graph → Graph → Type 0
@@ -46,10 +29,10 @@ Alone g ls (u ∷ us) (k ∷ ms) = (lockAt g ls u ≡ 1 → k ≡ 0) × Alone g 
 abbrev pub LowestAlone : Graph → List ℕ → List ℕ → Type 0
 LowestAlone g ls us = Admitted g → (ms : List ℕ) → Fits (map (kindMoves g) us) ms → Alone g ls us ms → C (moved g us (bestAt g ls us)) ≤ C (moved g us ms)
 
--- with no node locked the best, and the call that makes it, are document 01's, which know no locks
+-- with no node locked the best is document 01's, of all moves of every kind, and to make it is the same as with no locks at all
 pub record NoneLocked (g : Graph) (ls us : List ℕ) : Type 0 where
-  pub best-free : bestAt g ls us ≡ bestFree g us
-  pub rewrite-free : rewrite g ls us ≡ rewriteFree g us
+  pub best-free : bestAt g ls us ≡ best (movedC g us) (map (kindMoves g) us)
+  pub rewrite-free : rewrite g ls us ≡ rewrite g [] us
 
 -- M-103: a pair's saving from the numbers of both nodes is C before less C after, for any two moves
 abbrev pub PairSaving : Graph → List ℕ → (p v a k : ℕ) → Type 0

@@ -1,10 +1,5 @@
 -- Document 01's table of moves, and the moves of a node.
-use mathlib.Core.Bool.{Bool, cond}
-use mathlib.Core.List.{List, [], _∷_}
-use Prim.Native.Nat.{ℕ, _+_, _-_, _*_, _/_, _%_}
-use lib.ListN.{getD}
-use Rattle.graph.specs.Finite.{ifLess, ifEqual}
-use Rattle.graph.specs.Graph.{Graph, node, isXor}
+use Rattle.graph.specs.All.{ℕ, _+_, _-_, Bool, cond, List, [], _∷_, getD, ifLess, ifEqual, Graph, node, isXor}
 
 -- the six rows: whether words 1 to 3, and every reader, are turned. A majority's two, then an XOR's four
 unfoldable pub rows : List (List ℕ)
@@ -39,7 +34,3 @@ lockAt g ls u = ifLess (g .I) u (ifLess u (node g (g .N)) (getD ls (u - (g .I + 
 -- how many moves the node with index u has: move numbers are those below. A locked node has only move 0
 unfoldable pub movesAt : Graph → List ℕ → ℕ → ℕ
 movesAt g ls u = ifEqual (lockAt g ls u) 1 1 (kindMoves g u)
-
--- two moves of one kind, made one after the other, are one move
-unfoldable pub combined : Bool → ℕ → ℕ → ℕ
-combined x m n = cond x ((m + n) % 2 + 2 * ((m / 2 + n / 2) % 2)) ((m + n) % 2)

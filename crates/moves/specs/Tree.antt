@@ -1,11 +1,5 @@
 -- Roots, and the fanout-free tree of a root.
-use mathlib.Core.Path.{_≡_}
-use mathlib.Core.Bool.{Bool, true, not, cond, _&&_}
-use mathlib.Core.List.{List, [], _∷_}
-use Prim.Native.Nat.{ℕ, zero, suc, _+_, _*_, _/_, _<_}
-use lib.Dec.{eqb}
-use Rattle.graph.specs.Graph.{Graph, node}
-use Rattle.graph.specs.Count.{named, nodeReaders, readers}
+use Rattle.graph.specs.All.{ℕ, zero, suc, _*_, _/_, Bool, not, cond, _&&_, List, [], _∷_, eqb, Graph, node, named, nodeReaders, readers}
 
 -- a node is a root unless it has just one reader and that reader is in the node table
 unfoldable pub isRoot : Graph → ℕ → Bool
@@ -40,8 +34,3 @@ members g r (suc n) = let l = members g r n in cond (eqb (rootOf g (node g n)) r
 -- the tree of the root r, by falling index
 unfoldable pub tree : Graph → ℕ → List ℕ
 tree g r = members g r (g .N)
-
-pub record IsRoot (g : Graph) (r : ℕ) : Type 0 where
-  pub after-inputs : g .I < r
-  pub within : r < g .I + 1 + g .N
-  pub root : isRoot g r ≡ true

@@ -3,7 +3,7 @@ ghost use mathlib.Core.Path.{_≡_};
 ghost use mathlib.Core.Bool.{true, false};
 ghost use Prim.Native.Nat.{ℕ, _+_, _*_, _≤_, _<_};
 ghost use lib.ListN.{getD};
-ghost use Rattle.choice.specs.Choice.{FirstBelow};
+ghost use Rattle.choice.specs.Inner.{FirstBelow};
 ghost use Rattle.graph.specs.Finite.{ifEqual};
 ghost use Rattle.moves.specs.Rows.{arity};
 ghost use Rattle.moves.specs.Decide.{costBy, costWith, Weighed, Numbers, MovesOf, LeastBelow, given, Counted, pairCost, FirstPair, Answered};

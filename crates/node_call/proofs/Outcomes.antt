@@ -9,18 +9,16 @@ use lib.IntN.{ℤ, pos, natAbs}
 use lib.ListN.{getD}
 use Rattle.graph.specs.Answer.{Answer, gained, Outcome, outcome}
 use Rattle.graph.specs.Count.{C}
-use Rattle.graph.specs.Difference.{difference}
+use Rattle.graph.specs.Finite.{difference}
 use Rattle.graph.specs.Graph.{Graph, node}
 use Rattle.graph.proofs.Difference.{at-least}
-use Rattle.choice.specs.Choice.{FirstBelow}
+use Rattle.choice.specs.Inner.{FirstBelow}
 use Rattle.moves.specs.Apply.{none, at, put, apply}
-use Rattle.moves.specs.Call.{moved, movedC, rewrite, isNode, namedBy, pairRewrite}
+use Rattle.moves.specs.Call.{moved, movedC, rewrite, isNode, namedBy, pairRewrite, split, trialSaving}
 use Rattle.moves.specs.Decide.{costOf, pairCost, FirstPair, numbersOf, naming, Counted}
 use Rattle.moves.specs.Outside.{NodeOdds, PairOdds, savedBy}
 use Rattle.moves.specs.Pair.{pairSaving, FirstGreatest}
 use Rattle.moves.specs.Rows.{kindMoves, movesAt}
-use Rattle.moves.specs.Split.{split}
-use Rattle.moves.specs.Trial.{trialSaving}
 use Rattle.moves.specs.declared.decide.NodeNumbers.{NodeNumbers}
 use Rattle.moves.specs.declared.gains.Odds.{Odds}
 use Rattle.moves.proofs.Deciding.{numbers-low, naming-le}

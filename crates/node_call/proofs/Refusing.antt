@@ -8,7 +8,7 @@ use native.Mathlib.Omega.{arith}
 use borrow.Author.Tests.{leb-true, ne-eqb, lt-ltb, le-ltb}
 use lib.Dec.{leb}
 use lib.ListN.{length}
-use Rattle.graph.specs.Answer.{IsRefusal}
+use Rattle.graph.specs.Inner.{IsRefusal}
 use Rattle.graph.specs.Admission.{Admitted, admissionNumber}
 use Rattle.graph.specs.Finite.{first}
 use Rattle.graph.specs.Graph.{Graph, node, isEdge, isXor}
@@ -16,9 +16,8 @@ use Rattle.graph.proofs.Admit.{admitted, locks-admitted}
 use Rattle.graph.proofs.Answers.{admission-le, first-le}
 use Rattle.graph.proofs.Cases.{cond-le, eq-or-ne}
 use Rattle.graph.proofs.Tests.{none, both, passes}
-use Rattle.moves.specs.Call.{isNode, nodeFault, wordFault, moveNumber, nodeNumber, pairNumber, namedBy}
+use Rattle.moves.specs.Call.{isNode, nodeFault, wordFault, moveNumber, nodeNumber, pairNumber, namedBy, trialNumber}
 use Rattle.moves.specs.Rows.{movesAt}
-use Rattle.moves.specs.Trial.{trialNumber}
 use Rattle.moves.proofs.Known.{node-known, node-fault-le, move-number-le, node-has}
 use Rattle.moves.proofs.Readers.{both-true}
 

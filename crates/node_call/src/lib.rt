@@ -1,8 +1,7 @@
 ghost use mathlib.Core.Path.{_≡_};
 ghost use Rattle.graph.specs.Answer.{outcome};
-ghost use Rattle.graph.specs.Literals.{graphIn};
-ghost use Rattle.moves.specs.Call.{savingAnswer, nodeCall, pairCall};
-ghost use Rattle.moves.specs.Trial.{gainAnswer, trialCall};
+ghost use Rattle.graph.specs.Literals.{before, graphBefore, graphAfter};
+ghost use Rattle.moves.specs.Call.{savingAnswer, nodeCall, pairCall, gainAnswer, trialCall};
 
 mod faults;
 mod rewrite;
@@ -25,9 +24,9 @@ pub fn node_call(
     node: u32,
 ) -> Saving
     ensures { λ r.
-        let g = graphIn inputs nodes outputs (now («node_table» .entry)) (now («node_bits» .entry)) (now («output_table» .entry)) (now («output_bits» .entry)) in
-        let h = graphIn inputs nodes outputs (now («node_table» .entry)) (now («node_bits» .exit)) (now («output_table» .entry)) (now («output_bits» .exit)) in
-        ⌜ outcome (savingAnswer r) h ≡ nodeCall g (now (locks .entry)) node ⌝ }
+        let g = graphBefore inputs nodes outputs «node_table» «node_bits» «output_table» «output_bits» in
+        let h = graphAfter inputs nodes outputs «node_table» «node_bits» «output_table» «output_bits» in
+        ⌜ outcome (savingAnswer r) h ≡ nodeCall g (before locks) node ⌝ }
 {
     let number = faults::node_number(
         inputs,
@@ -72,9 +71,9 @@ pub fn pair_call(
     word: u32,
 ) -> Saving
     ensures { λ r.
-        let g = graphIn inputs nodes outputs (now («node_table» .entry)) (now («node_bits» .entry)) (now («output_table» .entry)) (now («output_bits» .entry)) in
-        let h = graphIn inputs nodes outputs (now («node_table» .entry)) (now («node_bits» .exit)) (now («output_table» .entry)) (now («output_bits» .exit)) in
-        ⌜ outcome (savingAnswer r) h ≡ pairCall g (now (locks .entry)) node word ⌝ }
+        let g = graphBefore inputs nodes outputs «node_table» «node_bits» «output_table» «output_bits» in
+        let h = graphAfter inputs nodes outputs «node_table» «node_bits» «output_table» «output_bits» in
+        ⌜ outcome (savingAnswer r) h ≡ pairCall g (before locks) node word ⌝ }
 {
     let number = faults::pair_number(
         inputs,
@@ -122,8 +121,8 @@ pub fn trial(
     node_move: u32,
 ) -> Gain
     ensures { λ r.
-        let g = graphIn inputs nodes outputs (now («node_table» .entry)) (now («node_bits» .entry)) (now («output_table» .entry)) (now («output_bits» .entry)) in
-        ⌜ gainAnswer r ≡ trialCall g (now (locks .entry)) node word «named_move» «node_move» ⌝ }
+        let g = graphBefore inputs nodes outputs «node_table» «node_bits» «output_table» «output_bits» in
+        ⌜ gainAnswer r ≡ trialCall g (before locks) node word «named_move» «node_move» ⌝ }
 {
     let number = faults::trial_number(
         inputs,

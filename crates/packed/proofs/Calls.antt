@@ -17,8 +17,7 @@ use Rattle.graph.proofs.Cases.{cond-le}
 use Rattle.graph.proofs.Tests.{both, passes}
 use Rattle.moves.specs.Rows.{lockAt}
 use Rattle.moves.specs.Tree.{tree}
-use Rattle.moves.specs.Call.{moved, movedC, isNode, nodeFault, wordFault, rootFault, scratchFault, moveFault, lockedFault, moveNumber, nodeNumber, nodeCall, namedBy, pairNumber, pairRewrite, pairCall, treeNumber, treeCall}
-use Rattle.moves.specs.Trial.{trialNumber, trialSaving, trialCall}
+use Rattle.moves.specs.Call.{moved, movedC, isNode, nodeFault, wordFault, rootFault, scratchFault, moveFault, lockedFault, moveNumber, nodeNumber, nodeCall, namedBy, pairNumber, pairRewrite, pairCall, treeNumber, treeCall, trialNumber, trialSaving, trialCall}
 use Rattle.moves.proofs.Readers.{both-true}
 use Rattle.many.specs.Many.{risingFault, entryNumber, listNumber, manyNumber, manyCall}
 use Rattle.packed.specs.Old.{trimmed}
@@ -84,7 +83,7 @@ module _ (g : Graph) (adm : Admitted g) (ls : List ℕ) where
       rw (admission-in g adm ls, node-fault-in g u)
       (ap (first (admissionNumber g ls)) (first-when (nodeFault g u) _ _ (λ e. word-fault-in g u k (is-node-by g u e))))
 
-  pair-rewrite-in : (u k : ℕ) → isNode g u ≡ true → wordFault g u k ≡ 0 → pairRewrite (trimmed g) ls u k ≡ trimmedOutcome (pairRewrite g ls u k)
+  pub pair-rewrite-in : (u k : ℕ) → isNode g u ≡ true → wordFault g u k ≡ 0 → pairRewrite (trimmed g) ls u k ≡ trimmedOutcome (pairRewrite g ls u k)
   unfolding pairRewrite
   pair-rewrite-in u k n w =
       let p : ℕ = namedBy g u k in

@@ -7,9 +7,7 @@ use lib.ListN.{length}
 use Rattle.graph.specs.Admission.{Admitted}
 use Rattle.graph.specs.Answer.{Answer, Outcome, LockedOutcome, lockedOutcome, guarded}
 use Rattle.graph.specs.Graph.{Graph}
-use Rattle.graph.proofs.Admit.{locks-admitted}
-use Rattle.graph.proofs.Tests.{both, off}
-use Rattle.moves.specs.Call.{moved, scratchFault}
+use Rattle.moves.specs.Call.{moved}
 use Rattle.moves.specs.Apply.{none, put}
 use Rattle.moves.proofs.Apply as applied
 use Rattle.many.specs.Many.{manyNumber, manyCall}
@@ -33,12 +31,8 @@ guarded-keeps (suc k) g o adm h = adm
 
 module _ (g : Graph) (adm : Admitted g) (ls : List ℕ) where
   pub settle-keeps : (s : ℕ) → Admitted (settleCall g ls s .graph)
-  unfolding settleCall settleNumber scratchFault
-  settle-keeps s =
-      guarded-keeps (settleNumber g ls s) g (settled g (settle ls s g)) adm
-      (λ e.
-      let b = both _ _ e in
-      settle-ended ls s g adm (locks-admitted g ls (b .0)) (off _ _ _ _ (b .1) .0) .keeps .stays .admitted)
+  unfolding settleCall
+  settle-keeps s = guarded-keeps (settleNumber g ls s) g (settled g (settle ls g)) adm (λ e. settle-ended ls g adm .keeps .stays .admitted)
 
   many-keeps : (us ms : List ℕ) → Admitted (manyCall g ls us ms .graph)
   unfolding manyCall moved

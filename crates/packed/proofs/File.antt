@@ -21,7 +21,7 @@ use Rattle.tagged_file.specs.Write.{fileOf}
 use Rattle.tagged_file.specs.Promises.{SameGraph}
 use Rattle.tagged_file.proofs.RoundTrip.{file-same, loads-written}
 use Rattle.packed.specs.File.{PackedGraph, asGraph, file, AdmittedPacked, SameWords, SamePacked, OneFile, FileKept}
-use Rattle.packed.specs.Slices.{Indices, BitWords}
+use Rattle.packed.specs.Old.{Indices, BitWords}
 use Rattle.packed.proofs.Old.{old-is}
 use Rattle.packed.proofs.Reading.{file-in}
 use Rattle.packed.proofs.Slices.{index-told, word-same}

@@ -31,7 +31,7 @@ use Rattle.aiger.proofs.Imported.{import-admitted}
 use Rattle.replay.specs.Replay.{Lent, decode, answersOf, codeNumber, replayNumber, replayCall, answersAfter}
 use Rattle.report.specs.Report.{nodeLineAt, outputLineAt, settledText, textOf, thenSettle, settledFile, ReportOutcome, printed, reportCall}
 use Rattle.packed.specs.Old.{trimmed}
-use Rattle.packed.specs.Fills.{AsLong, FillsAlike, FillsCorrespond}
+use Rattle.packed.specs.Corresponds.{AsLong, FillsAlike, FillsCorrespond}
 use Rattle.packed.proofs.Choosing.{cond-ap, ifEqual-when, ifEqual-read}
 use Rattle.packed.proofs.Corresponds.{trimmedLocked, settle-keeps, step-keeps, step-in, run-keeps, run-in}
 use Rattle.packed.proofs.Old.{old-is}

@@ -6,7 +6,7 @@ use Rattle.packed.proofs.Packing.{every-old}
 use Rattle.packed.proofs.Corresponds.{corresponds}
 use Rattle.packed.proofs.Fills.{fills-correspond}
 use Rattle.packed.proofs.File.{file-kept, one-file}
-use Rattle.packed.proofs.Worked.{majority, xor, back, two-words}
+use Rattle.packed.proofs.Worked.{worked-tables}
 
 pub promises : Promises
 promises =
@@ -20,8 +20,5 @@ promises =
       fills-correspond = fills-correspond;
       file-kept = file-kept;
       one-file = one-file;
-      majority = majority;
-      xor = xor;
-      back = back;
-      two-words = two-words;
+      worked-tables = worked-tables;
     }

@@ -1,16 +1,17 @@
 -- Settling on an admitted graph makes the rounds that it makes on the trimmed one, answers alike, and leaves the trimmed graph of what it
 -- leaves. From the calls on a trimmed graph, and from the nodes that rounds keep (crate rounds, Rounds).
 use mathlib.Core.Path.{_≡_, refl, ap, _∙_}
-use mathlib.Core.List.{List}
+use mathlib.Core.List.{List, [], _∷_}
 use Prim.Native.Nat.{ℕ, zero, suc, _≤_, _<_}
 use native.Mathlib.Omega.{arith}
+use borrow.Author.Tests.{eqb-true}
 use lib.Dec.{eqb}
 use Rattle.graph.specs.Admission.{Admitted}
 use Rattle.graph.specs.Answer.{Outcome}
 use Rattle.graph.specs.Count.{C}
 use Rattle.graph.specs.Graph.{Graph, node}
-use Rattle.moves.specs.Tree.{isRoot}
-use Rattle.moves.specs.Call.{wordFault, nodeCall, pairCall, treeCall}
+use Rattle.moves.specs.Tree.{isRoot, tree}
+use Rattle.moves.specs.Call.{rewrite, pairRewrite, wordFault}
 use Rattle.rounds.specs.Round.{Progress, start, after, each, treeAt, nodeAt, pairAt, pairsAt, round}
 use Rattle.rounds.specs.Settle.{Rounds, settleIn, settle, settleNumber, settleCall}
 use Rattle.rounds.proofs.Calls.{is-node}
@@ -18,9 +19,9 @@ use Rattle.rounds.proofs.Steps.{Sound, each-sound}
 use Rattle.rounds.proofs.Rounds.{tree-sound, node-sound, pair-sound, pairs-sound, round-moves}
 use Rattle.packed.specs.Old.{trimmed}
 use Rattle.packed.proofs.Admitting.{admission-in}
-use Rattle.packed.proofs.Calls.{scratch-fault-in, word-fault-in, node-in, pair-in, tree-call-in}
+use Rattle.packed.proofs.Calls.{scratch-fault-in, word-fault-in, pair-rewrite-in}
 use Rattle.packed.proofs.Choosing.{trimmedOutcome, cond-ap, ifLess-ap, guarded-when}
-use Rattle.packed.proofs.Trimmed.{root-in, C-in}
+use Rattle.packed.proofs.Trimmed.{root-in, tree-in, C-in, rewrite-in, one-in, tree-moves}
 
 abbrev trimmedProgress : Progress → Progress
 trimmedProgress p = record { own = p .own; others = p .others; graph = trimmed (p .graph) }
@@ -33,7 +34,7 @@ unfolding after
 after-in call p e = rw e
 
 -- an admitted graph of n nodes
-module _ (n : ℕ) (ls : List ℕ) (s : ℕ) where
+module _ (n : ℕ) (ls : List ℕ) where
   record Fit (g : Graph) : Type 0 where
     adm : Admitted g
     size : g .N ≡ n
@@ -42,23 +43,26 @@ module _ (n : ℕ) (ls : List ℕ) (s : ℕ) where
   abbrev InStep : (Progress → Progress) → Type 0
   InStep a = (p : Progress) → Fit (p .graph) → a (trimmedProgress p) ≡ trimmedProgress (a p)
 
-  tree-step : (v : ℕ) → InStep (treeAt ls s v)
+  tree-step : (v : ℕ) → InStep (treeAt ls v)
   unfolding treeAt
   tree-step v p f =
       let g : Graph = p .graph in
       rw (root-in g (node g v))
-      (cond-ap trimmedProgress (isRoot g (node g v)) _ p _ (λ e. after-in (λ h. treeCall h ls s (node h v)) p (tree-call-in g (f .adm) ls s (node g v))))
+      (cond-ap trimmedProgress (isRoot g (node g v)) _ p _
+      (λ e. after-in (λ h. rewrite h ls (tree h (node h v))) p (rw (tree-in g (node g v)) (rewrite-in g ls (tree g (node g v)) (tree-moves g ls (node g v))))))
 
-  node-step : (v : ℕ) → InStep (nodeAt ls v)
+  node-step : (v : ℕ) → v < n → InStep (nodeAt ls v)
   unfolding nodeAt
-  node-step v p f = let g : Graph = p .graph in after-in (λ h. nodeCall h ls (node h v)) p (node-in g (f .adm) ls (node g v))
+  node-step v l p f =
+      let g : Graph = p .graph in
+      after-in (λ h. rewrite h ls (node h v ∷ [])) p (rewrite-in g ls (node g v ∷ []) (one-in g ls (node g v) (is-node g v (rw (f .size) l))))
 
   pair-step : (v k : ℕ) → v < n → InStep (pairAt ls v k)
   unfolding pairAt
   pair-step v k l p f =
       let g : Graph = p .graph in
       rw (word-fault-in g (node g v) k (is-node g v (rw (f .size) l)))
-      (cond-ap trimmedProgress (eqb (wordFault g (node g v) k) 0) _ p _ (λ e. after-in (λ h. pairCall h ls (node h v) k) p (pair-in g (f .adm) ls (node g v) k)))
+      (cond-ap trimmedProgress (eqb (wordFault g (node g v) k) 0) _ p _ (λ e. after-in (λ h. pairRewrite h ls (node h v) k) p (pair-rewrite-in g (f .adm) ls (node g v) k (is-node g v (rw (f .size) l)) (eqb-true _ 0 e))))
 
   -- a sound step leaves such a graph
   fits : (step : Progress → Progress) (P : Graph → Type 0) → Sound step P → (p : Progress) → Fit (p .graph) → Fit (step p .graph)
@@ -79,32 +83,32 @@ module _ (n : ℕ) (ls : List ℕ) (s : ℕ) where
     each-step zero l p f = refl
     each-step (suc m) l p f = ap (step m) (each-step m (omega arith) p f) ∙ e m (omega arith) (each step m p) (fits (each step m) _ (each-sound step P h m) p f)
 
-  round-step : InStep (round ls s)
+  round-step : InStep (round ls)
   unfolding round
   round-step p f =
       let m : ℕ = p .graph .N in
       let l : m ≤ n = omega (arith, f .size) in
-      let p₁ : Progress = each (treeAt ls s) m p in
-      let f₁ = fits (each (treeAt ls s) m) _ (each-sound (treeAt ls s) _ (tree-sound ls s) m) p f in
+      let p₁ : Progress = each (treeAt ls) m p in
+      let f₁ = fits (each (treeAt ls) m) _ (each-sound (treeAt ls) _ (tree-sound ls) m) p f in
       let p₂ : Progress = each (nodeAt ls) m p₁ in
       let f₂ = fits (each (nodeAt ls) m) _ (each-sound (nodeAt ls) _ (node-sound ls) m) p₁ f₁ in
-      ap (λ (q : Progress). each (pairsAt ls) m (each (nodeAt ls) m q)) (each-step (treeAt ls s) _ (tree-sound ls s) (λ v h. tree-step v) m l p f)
-      ∙ ap (each (pairsAt ls) m) (each-step (nodeAt ls) _ (node-sound ls) (λ v h. node-step v) m l p₁ f₁)
+      ap (λ (q : Progress). each (pairsAt ls) m (each (nodeAt ls) m q)) (each-step (treeAt ls) _ (tree-sound ls) (λ v h. tree-step v) m l p f)
+      ∙ ap (each (pairsAt ls) m) (each-step (nodeAt ls) _ (node-sound ls) node-step m l p₁ f₁)
       ∙ each-step (pairsAt ls) _ (pairs-sound ls) pairs-step m l p₂ f₂
 
-  settleIn-step : (f : ℕ) (p : Progress) → Fit (p .graph) → settleIn f ls s (trimmedProgress p) ≡ trimmedRounds (settleIn f ls s p)
+  settleIn-step : (f : ℕ) (p : Progress) → Fit (p .graph) → settleIn f ls (trimmedProgress p) ≡ trimmedRounds (settleIn f ls p)
   unfolding settleIn
   settleIn-step zero p h = refl
   settleIn-step (suc f) p h =
-      let q : Progress = round ls s p in
-      let k = round-moves ls s p (h .adm) .keeps .stays in
+      let q : Progress = round ls p in
+      let k = round-moves ls p (h .adm) .keeps .stays in
       rw (round-step p h, C-in (q .graph), C-in (p .graph), settleIn-step f q (record { adm = k .admitted; size = k .same-N ∙ h .size }))
       (ifLess-ap trimmedRounds (C (q .graph)) (C (p .graph)) _ _)
 
 module _ (g : Graph) (adm : Admitted g) (ls : List ℕ) (s : ℕ) where
-  settle-in : settle ls s (trimmed g) ≡ trimmedRounds (settle ls s g)
+  settle-in : settle ls (trimmed g) ≡ trimmedRounds (settle ls g)
   unfolding settle start
-  settle-in = rw (C-in g) (settleIn-step (g .N) ls s (suc (C g)) (start g) (record { adm = adm; size = refl }))
+  settle-in = rw (C-in g) (settleIn-step (g .N) ls (suc (C g)) (start g) (record { adm = adm; size = refl }))
 
   settle-number-in : settleNumber (trimmed g) ls s ≡ settleNumber g ls s
   unfolding settleNumber
@@ -113,4 +117,4 @@ module _ (g : Graph) (adm : Admitted g) (ls : List ℕ) (s : ℕ) where
   pub settle-call-in : settleCall (trimmed g) ls s ≡ trimmedOutcome (settleCall g ls s)
   unfolding settleCall
   settle-call-in =
-      rw (settle-number-in, settle-in, C-in g, C-in (settle ls s g .made .graph)) (guarded-when (settleNumber g ls s) g _ _ (λ e. refl))
+      rw (settle-number-in, settle-in, C-in g, C-in (settle ls g .made .graph)) (guarded-when (settleNumber g ls s) g _ _ (λ e. refl))

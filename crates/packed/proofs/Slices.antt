@@ -13,7 +13,7 @@ use Rattle.graph.proofs.Cases.{lt-or-le}
 use Rattle.evaluation.proofs.Gather.{word-is}
 use Rattle.graph.proofs.Counted.{ones-counted}
 use Rattle.graph.proofs.Literals.{bitAt-le, indexAt-le, index-is, literal-cases, literals-at, literal-in, literal-past, place-bit}
-use Rattle.packed.specs.Slices.{TellsAll, OnesAreC}
+use Rattle.packed.specs.Old.{TellsAll, OnesAreC}
 
 -- two lists have the same word m where it has the same bits
 pub word-same : (bs ds : List ℕ) (m : ℕ) → getD bs m 0 < 18446744073709551616 → getD ds m 0 < 18446744073709551616

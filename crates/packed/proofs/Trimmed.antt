@@ -18,8 +18,7 @@ use Rattle.graph.proofs.Turned.{turned-length, turned-at, turned-by}
 use Rattle.moves.specs.Rows.{flag, kindMoves, lockAt, movesAt}
 use Rattle.moves.specs.Apply.{Choice, none, put, seen, own, turns, outputTurns, apply}
 use Rattle.moves.specs.Tree.{isRoot, place, reader, rootIn, rootOf, members, tree}
-use Rattle.moves.specs.Split.{among, ownAdds, otherAdds, split}
-use Rattle.moves.specs.Call.{moved, movedC, bestAt, rewrite, isNode}
+use Rattle.moves.specs.Call.{moved, movedC, bestAt, rewrite, isNode, among, ownAdds, otherAdds, split}
 use Rattle.moves.proofs.Readers.{both-true}
 use Rattle.rounds.proofs.Calls.{is-node}
 use Rattle.packed.specs.Old.{trimmed}

@@ -4,20 +4,9 @@ use Rattle.graph.specs.Finite.{tab, ifEqual}
 use Rattle.graph.specs.Literals.{bit, bitAt, indexAt, bitOf}
 use Rattle.evaluation.specs.Word.{gather}
 use Rattle.packed.specs.Old.{oldTable, indicesOf, bitsOf}
-use Rattle.packed.specs.Worked.{Majority, Xor, Back, TwoWords}
+use Rattle.packed.specs.Promises.{WorkedTables}
 
-pub majority : Majority
-unfolding oldTable tab ifEqual indexAt bitAt bit
-majority = refl
-
-pub xor : Xor
-unfolding oldTable tab ifEqual indexAt bitAt bit
-xor = refl
-
-pub back : Back
-unfolding indicesOf bitsOf tab ifEqual bitOf gather
-back = record { indices = refl; bits = refl }
-
-pub two-words : TwoWords
-unfolding oldTable tab ifEqual indexAt bitAt bit
-two-words = record { place-62 = refl; place-63 = refl; place-64 = refl; place-65 = refl }
+pub worked-tables : WorkedTables
+unfolding oldTable indicesOf bitsOf tab ifEqual indexAt bitAt bit bitOf gather
+worked-tables =
+    record { majority = refl; xor = refl; indices = refl; bits = refl; place-62 = refl; place-63 = refl; place-64 = refl; place-65 = refl }

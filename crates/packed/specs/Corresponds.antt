@@ -1,16 +1,14 @@
 -- M-108: every call answers on an admitted packed graph as on its old one, and the two graphs afterwards correspond.
-use mathlib.Core.List.{List, [], _∷_}
-use Prim.Native.Nat.{ℕ}
-use Rattle.graph.specs.Admission.{admissionNumber}
-use Rattle.graph.specs.Answer.{Answer, accepted, unless}
-use Rattle.graph.specs.Count.{C}
-use Rattle.evaluation.specs.Evaluation.{evaluateNumber, resultsAfter}
-use Rattle.moves.specs.Trial.{trialCall}
-use Rattle.preview.specs.Preview.{previewAnswer, previewBytes}
-use Rattle.tagged_file.specs.Write.{writeCall}
-use Rattle.aiger.specs.Export.{exportCall}
-use Rattle.promises.specs.Demand.{Call, Locked, withLocks, step, left, run}
-use Rattle.packed.specs.Old.{ToldAlike, InStep}
+use Rattle.graph.specs.All.{ℕ, _≡_, List, [], _∷_, length, ℤ, admissionNumber, Answer, accepted, unless, C, LockedOutcome, literals, graphIn, held}
+use Rattle.tagged_file.specs.All.{writeCall, loadCall}
+use Rattle.aiger.specs.All.{exportCall, importCall}
+use Rattle.evaluation.specs.All.{evaluateNumber, resultsAfter}
+use Rattle.moves.specs.All.{trialCall}
+use Rattle.preview.specs.All.{previewAnswer, previewBytes}
+use Rattle.promises.specs.All.{Call, Locked, withLocks, step, left, run}
+use Rattle.report.specs.All.{settledFile, reportCall}
+use Rattle.replay.specs.All.{Lent, replayCall, answersAfter}
+use Rattle.packed.specs.Old.{ToldAlike, InStep, Indices, oldGraph, trimmed}
 
 -- what a list of calls answers, each made on what the one before left
 abbrev pub answers : Locked → List Call → List Answer
@@ -32,3 +30,32 @@ pub record Corresponds (ls : List ℕ) : Type 0 where
   pub preview-bytes : (before : List ℕ) (s r : ℕ) → ToldAlike (λ g. previewBytes g ls before s r)
   pub write : (buffer : List ℕ) → ToldAlike (λ g. writeCall g ls buffer)
   pub export : (scratch buffer : List ℕ) → ToldAlike (λ g. exportCall g ls scratch buffer)
+
+-- Of the calls that fill lent tables, a load, an import, a replay and a report: what they do in packed tables, and what in tables of literals ms and ps.
+-- A table of literals: words of 32 bits, as many as the packed table holds literals
+pub record AsLong (ms us bs : List ℕ) : Type 0 where
+  pub words : Indices ms
+  pub long : length ms ≡ held (literals us bs)
+
+-- what is told after filling the one is told after filling the other
+abbrev pub FilledAlike : {A : Type 0} → (List ℕ → List ℕ → List ℕ → A) → Type 0
+FilledAlike tells = (us bs vs ds ms ps ls : List ℕ) → AsLong ms us bs → AsLong ps vs ds → tells ms ps ls ≡ tells (literals us bs) (literals vs ds) ls
+
+-- the same answer and the same locks; and where the call is accepted, it leaves in ms and ps the old graph of the packed one
+pub record FillsAlike (fill : List ℕ → List ℕ → List ℕ → LockedOutcome) : Type 0 where
+  pub answer : FilledAlike (λ ns os ls. fill ns os ls .answer)
+  pub locks : FilledAlike (λ ns os ls. fill ns os ls .locks)
+  pub graph : (us bs vs ds ms ps ls : List ℕ) → AsLong ms us bs → AsLong ps vs ds → (i n o : ℕ) (xs cs ys es : List ℕ)
+      → fill (literals us bs) (literals vs ds) ls .answer .number ≡ 0 → fill (literals us bs) (literals vs ds) ls .graph ≡ graphIn i n o xs cs ys es
+      → trimmed (fill ms ps ls .graph) ≡ oldGraph i n o xs cs ys es
+
+-- of the file or text s: loaded, imported, loaded with calls made on it that `words` say, and settled and reported
+pub record FillsCorrespond (s words : List ℕ) (lent : Lent) (before : List ℤ) (room scratch : ℕ) (buffer : List ℕ) : Type 0 where
+  pub load : FillsAlike (loadCall s)
+  pub import : FillsAlike (importCall s)
+  pub replay : FillsAlike (λ ns os ls. replayCall s words lent ns os ls room)
+  pub replay-answers : FilledAlike (λ ns os ls. answersAfter s words lent ns os ls before)
+  pub settled : FillsAlike (λ ns os ls. settledFile s ns os ls scratch)
+  pub report : FilledAlike (λ ns os ls. reportCall s ns os ls scratch buffer .answer)
+  pub report-locks : FilledAlike (λ ns os ls. reportCall s ns os ls scratch buffer .locks)
+  pub report-text : FilledAlike (λ ns os ls. reportCall s ns os ls scratch buffer .buffer)

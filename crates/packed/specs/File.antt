@@ -1,15 +1,8 @@
 -- M-108: the file keeps its bytes. Every admitted packed graph has the file that its old one had, and two that have one file are the same in
 -- every word that they need.
-use mathlib.Core.Path.{_≡_}
-use mathlib.Core.List.{List}
-use Prim.Native.Nat.{ℕ, _*_, _<_}
-use lib.ListN.{getD}
-use Rattle.graph.specs.Admission.{Admitted, LockBytes}
-use Rattle.graph.specs.Graph.{Graph}
-use Rattle.graph.specs.Literals.{graphIn, wordsFor}
-use Rattle.tagged_file.specs.Write.{fileOf}
-use Rattle.packed.specs.Slices.{Indices, BitWords}
-use Rattle.packed.specs.Old.{oldGraph}
+use Rattle.graph.specs.All.{ℕ, _*_, _<_, _≡_, List, getD, Admitted, LockBytes, Graph, graphIn, wordsFor}
+use Rattle.tagged_file.specs.All.{fileOf}
+use Rattle.packed.specs.Old.{Indices, BitWords, oldGraph}
 
 -- what is lent of a packed graph with its locks: three numbers and five slices
 pub record PackedGraph : Type 0 where

@@ -1,15 +1,27 @@
--- The graph that a packed one was before M-108, the old one: two tables of literals, 3 × N and O of them. Which numbers refuse both, and
--- what it means that a call answers on both alike and leaves graphs that correspond.
-use mathlib.Core.Path.{_≡_}
-use mathlib.Core.List.{List}
-use mathlib.Core.Logic.{_⊎_}
-use Prim.Native.Nat.{ℕ, _+_, _*_, _≤_, _<_}
-use lib.ListN.{length, getD, take}
-use Rattle.graph.specs.Finite.{tab, ifEqual, first, firstOf}
-use Rattle.graph.specs.Graph.{Graph, graphOf, mark, index, word, output}
-use Rattle.graph.specs.Literals.{bitAt, indexAt, literals, graphIn, held, bitOf, wordsFor, strays}
-use Rattle.graph.specs.Admission.{roomNumber, tablesNumber, wordNumber, outputNumber, locksNumber, contentNumber, admissionNumber, Admitted}
-use Rattle.evaluation.specs.Word.{gather}
+-- M-108. What a list of literals tells of the two slices that it was read from: every word of both, and C by the words of bits. Then the graph that a
+-- packed one was before, the old one, in two tables of literals, 3 × N and O of them: which numbers refuse both, and what it means that a call
+-- answers on both alike and leaves graphs that correspond.
+use Rattle.graph.specs.All.{ℕ, _+_, _*_, _≤_, _<_, _≡_, List, _⊎_, length, getD, take, tab, ifEqual, first, firstOf, Graph, graphOf, mark, index, word, output, bitAt, indexAt, literals, graphIn, held, bitOf, wordsFor, strays, roomNumber, tablesNumber, wordNumber, outputNumber, locksNumber, contentNumber, admissionNumber, Admitted, C, onesIn}
+use Rattle.evaluation.specs.All.{gather}
+
+-- a slice of indices has words of 32 bits, and one of complement bits words of 64
+abbrev pub Indices : List ℕ → Type 0
+Indices us = (j : ℕ) → getD us j 0 < 4294967296
+
+abbrev pub BitWords : List ℕ → Type 0
+BitWords bs = (k : ℕ) → getD bs k 0 < 18446744073709551616
+
+-- two lent tables of equal lengths whose literals are the same are the same, word for word
+abbrev pub TellsAll : (us bs vs ds : List ℕ) → Type 0
+TellsAll us bs vs ds =
+    Indices us → Indices vs → BitWords bs → BitWords ds → length us ≡ length vs → length bs ≡ length ds
+    → literals us bs ≡ literals vs ds → (us ≡ vs) × (bs ≡ ds)
+
+-- the number of complemented edges is the number of ones in the words that the graph needs of both tables
+abbrev pub OnesAreC : ℕ → ℕ → ℕ → (us bs vs ds : List ℕ) → Type 0
+OnesAreC i n o us bs vs ds =
+    Admitted (graphIn i n o us bs vs ds) → BitWords bs → BitWords ds
+    → C (graphIn i n o us bs vs ds) ≡ onesIn (wordsFor (3 * n)) bs + onesIn (wordsFor o) ds
 
 -- n literals of a packed table: 2 × index + bit, and the mark as it was
 unfoldable pub oldTable : ℕ → List ℕ → List ℕ → List ℕ

@@ -8,11 +8,13 @@ use native.Mathlib.Omega.{arith}
 use lib.ListN.{length}
 use Rattle.graph.specs.Graph.{Graph}
 use Rattle.graph.specs.Admission.{Admitted}
-use Rattle.graph.specs.Answer.{IsRefusal, Answer, refused}
+use Rattle.graph.specs.Answer.{Answer, refused}
+use Rattle.graph.specs.Inner.{IsRefusal}
 use Rattle.graph.proofs.Answers.{tables-le, first-le, ifLess-le, refused-is, accepted-is}
 use Rattle.graph.proofs.Cases.{eq-or-ne}
 use Rattle.graph.proofs.Tests.{equal, unequal, off, both}
-use Rattle.moves.specs.Tree.{IsRoot, tree}
+use Rattle.moves.specs.Tree.{tree}
+use Rattle.moves.specs.Compose.{IsRoot}
 use Rattle.moves.specs.Call.{rewrite, treeNumber}
 use Rattle.tree_call.proofs.Refused.{tree-range, accepted-by}
 use Rattle.preview.specs.Preview.{movesTold, previewNumber, previewAnswer, previewBytes}

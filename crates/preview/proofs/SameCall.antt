@@ -19,7 +19,8 @@ use Rattle.moves.specs.Apply.{Choice, none, at, put, apply}
 use Rattle.graph.specs.Count.{C}
 use Rattle.graph.specs.Answer.{Answer, Outcome}
 use Rattle.moves.specs.Outside.{savedBy}
-use Rattle.moves.specs.Tree.{rootOf, members, tree, IsRoot}
+use Rattle.moves.specs.Tree.{rootOf, members, tree}
+use Rattle.moves.specs.Compose.{IsRoot}
 use Rattle.moves.specs.Call.{moved, bestAt, rewrite, isNode, treeNumber, treeCall}
 use Rattle.moves.proofs.Changed.{at-other}
 use Rattle.moves.proofs.Count.{clash}

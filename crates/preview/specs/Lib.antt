@@ -1,3 +1,4 @@
 pub mod Preview
 pub mod Telling
+pub mod All
 pub mod Promises

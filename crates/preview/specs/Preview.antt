@@ -1,17 +1,7 @@
 -- The tree call seen first: its saving, and its moves a byte a node.
-use mathlib.Core.Bool.{cond}
-use mathlib.Core.Path.{_≡_}
-use mathlib.Core.List.{List}
-use Prim.Native.Nat.{ℕ, _+_, _-_, _≤_}
-use lib.ListN.{length, getD}
-use Rattle.graph.specs.Finite.{tab, ifLess, ifEqual, first}
-use Rattle.graph.specs.Graph.{Graph, node}
-use Rattle.graph.specs.Admission.{tablesNumber}
-use Rattle.graph.specs.Answer.{Answer, unless}
-use Rattle.moves.specs.Apply.{Choice, none, put, apply}
-use Rattle.moves.specs.Tree.{tree}
-use Rattle.many.specs.Many.{manyNumber, manyCall}
-use Rattle.moves.specs.Call.{bestAt, rewrite, isNode, treeNumber, treeCall}
+use Rattle.graph.specs.All.{ℕ, _+_, _-_, _≤_, cond, _≡_, List, length, getD, tab, ifLess, ifEqual, first, Graph, node, tablesNumber, Answer, unless}
+use Rattle.moves.specs.All.{Choice, none, put, apply, tree, bestAt, rewrite, isNode, treeNumber, treeCall}
+use Rattle.many.specs.All.{manyNumber, manyCall}
 
 -- the move that the tree call at the root r makes at each node, with the locks ls: 0 outside the tree, and at a locked node
 unfoldable pub treeMoves : Graph → List ℕ → ℕ → Choice

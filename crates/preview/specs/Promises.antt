@@ -1,9 +1,5 @@
 -- What a preview promises beside its definition.
-use mathlib.Core.Path.{_≡_}
-use mathlib.Core.List.{List}
-use Prim.Native.Nat.{ℕ}
-use lib.ListN.{length}
-use Rattle.graph.specs.Graph.{Graph}
+use Rattle.graph.specs.All.{ℕ, _≡_, List, length, Graph}
 use Rattle.preview.specs.Preview.{previewNumber, AsTreeCall, AsList}
 
 pub record Promises : Type 0 where

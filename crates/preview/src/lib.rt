@@ -1,7 +1,7 @@
 ghost use mathlib.Core.Path.{_≡_};
 ghost use lib.ListN.{length};
 ghost use Rattle.graph.specs.Answer.{ScratchKept};
-ghost use Rattle.graph.specs.Literals.{graphIn};
+ghost use Rattle.graph.specs.Literals.{before, after, graphBefore};
 ghost use Rattle.moves.specs.Call.{savingAnswer};
 ghost use Rattle.preview.specs.Preview.{previewAnswer, previewBytes};
 
@@ -27,12 +27,12 @@ pub fn preview(
     scratch: &mut [u32],
 ) -> Saving
     ensures answer { λ r.
-        let g = graphIn inputs nodes outputs (now («node_table» .entry)) (now («node_bits» .entry)) (now («output_table» .entry)) (now («output_bits» .entry)) in
-        ⌜ savingAnswer r ≡ previewAnswer g (now (locks .entry)) (length (now (bytes .entry))) (length (now (scratch .entry))) root ⌝ }
+        let g = graphBefore inputs nodes outputs «node_table» «node_bits» «output_table» «output_bits» in
+        ⌜ savingAnswer r ≡ previewAnswer g (before locks) (length (before bytes)) (length (before scratch)) root ⌝ }
     ensures bytes { λ r.
-        let g = graphIn inputs nodes outputs (now («node_table» .entry)) (now («node_bits» .entry)) (now («output_table» .entry)) (now («output_bits» .entry)) in
-        ⌜ now (bytes .exit) ≡ previewBytes g (now (locks .entry)) (now (bytes .entry)) (length (now (scratch .entry))) root ⌝ }
-    ensures scratch { λ r. ⌜ ScratchKept (savingAnswer r) (now (scratch .entry)) (now (scratch .exit)) ⌝ }
+        let g = graphBefore inputs nodes outputs «node_table» «node_bits» «output_table» «output_bits» in
+        ⌜ after bytes ≡ previewBytes g (before locks) (before bytes) (length (before scratch)) root ⌝ }
+    ensures scratch { λ r. ⌜ ScratchKept (savingAnswer r) (before scratch) (after scratch) ⌝ }
 {
     let number = faults::preview_number(
         inputs,

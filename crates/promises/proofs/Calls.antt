@@ -2,18 +2,17 @@
 use mathlib.Core.Path.{_≡_, refl, sym, ap, _∙_}
 use mathlib.Core.Bool.{Bool, true, false, cond}
 use mathlib.Core.List.{List, [], _∷_}
-use Prim.Native.Nat.{ℕ, zero, suc, _*_, _≤_}
+use Prim.Native.Nat.{ℕ, zero, suc}
 use native.Mathlib.Omega.{arith}
 use lib.IntN.{ℤ, pos, _+ℤ_}
 use lib.ListN.{length}
-use Rattle.graph.specs.Finite.{first}
+use Rattle.graph.specs.Finite.{first, difference}
 use Rattle.graph.specs.Graph.{Graph}
 use Rattle.graph.specs.Count.{C}
 use Rattle.graph.specs.Admission.{Admitted, LockBytes, tablesNumber, contentNumber, admissionNumber}
 use Rattle.graph.specs.Answer.{gained, whole, savingOf, Outcome, outcome, guarded}
-use Rattle.graph.specs.Difference.{difference}
 use Rattle.graph.proofs.DifferenceSum.{no-difference, telescope}
-use Rattle.graph.proofs.Tests.{none, off, both}
+use Rattle.graph.proofs.Tests.{none, both}
 use Rattle.graph.proofs.Admit.{admission-none}
 use Rattle.moves.specs.Apply.{put, apply}
 use Rattle.moves.specs.Apply as choices
@@ -97,16 +96,12 @@ module _ (d : Locked) (adm : Admitted (d .graph)) (ok : LockBytes (d .graph .N) 
       (passed g adm ls ok (first (nodeFault g r) (first (rootFault g r) (scratchFault g (length scratch)))))
       (λ z ms f. best-lowest g ls adm (tree g r) ms f)
 
-  enough : (scratch : List ℕ) → scratchFault g (length scratch) ≡ 0 → 8 * g .N ≤ length scratch
-  unfolding scratchFault
-  enough scratch e = off (length scratch) (8 * g .N) 7 0 e .0
-
   settling-made : (scratch : List ℕ) → Made d (settling scratch)
   unfolding settleCall settleNumber
   settling-made scratch =
-      made (settling scratch) (settleNumber g ls (length scratch)) (settled g (settle ls (length scratch) g)) refl refl (passed g adm ls ok (scratchFault g (length scratch)))
+      made (settling scratch) (settleNumber g ls (length scratch)) (settled g (settle ls g)) refl refl (passed g adm ls ok (scratchFault g (length scratch)))
       (λ z.
-      let e = settle-ended ls (length scratch) g adm ok (enough scratch z) in
+      let e = settle-ended ls g adm in
       ((e .lowest), record { values = refl; signed = refl; few = e .few }))
 
   many-passed : (us ms : List ℕ) → manyNumber g ls us ms ≡ fault d (manyAt us ms)
@@ -144,9 +139,9 @@ module _ (d : Locked) (adm : Admitted (d .graph)) (ok : LockBytes (d .graph .N) 
   settling-kind : (scratch : List ℕ) → Kind (settleCall g ls (length scratch))
   unfolding settleCall settleNumber
   settling-kind scratch =
-      guarded-kind (settleNumber g ls (length scratch)) (settled g (settle ls (length scratch) g))
+      guarded-kind (settleNumber g ls (length scratch)) (settled g (settle ls g))
       (λ z.
-      let e = settle-ended ls (length scratch) g adm ok (enough scratch (sym (passed g adm ls ok (scratchFault g (length scratch))) ∙ z)) in
+      let e = settle-ended ls g adm in
       record { keeps = e .keeps .stays; adds = e .sums })
 
   -- one number is the saving by itself

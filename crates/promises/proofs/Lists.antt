@@ -5,7 +5,7 @@ use Prim.Native.Nat.{ℕ}
 use native.Mathlib.Omega.{arith}
 use lib.IntN.{ℤ, pos, _+ℤ_}
 use Rattle.graph.specs.Count.{C}
-use Rattle.graph.specs.Difference.{difference}
+use Rattle.graph.specs.Finite.{difference}
 use Rattle.graph.proofs.Difference.{at-least}
 use Rattle.graph.proofs.DifferenceSum.{sum-is, telescope, no-difference}
 use Rattle.graph.specs.Admission.{Admitted, LockBytes}

@@ -2,7 +2,6 @@
 use Rattle.promises.specs.Promises.{Promises}
 use Rattle.promises.proofs.Lists.{demand, after-load, after-import}
 use Rattle.promises.proofs.Worked as worked
-use Rattle.promises.proofs.Trials as trials
 
 pub promises : Promises
 promises =
@@ -10,6 +9,7 @@ promises =
       demand = demand;
       after-load = after-load;
       after-import = after-import;
-      worked-graphs = worked.right;
-      worked-trials = trials.right;
+      worked-graphs = worked.graphs;
+      worked-list = worked.there-and-back;
+      worked-trials = worked.trials;
     }

@@ -1,22 +1,9 @@
 -- Demand 3, over every list of node, pair, tree, settling and many calls.
-use mathlib.Core.Path.{_≡_}
-use mathlib.Core.Bool.{true}
-use mathlib.Core.List.{List, [], _∷_, _++_, map, Perm}
-use Prim.Native.Nat.{ℕ, _+_, _-_, _≤_, _<_}
-use lib.IntN.{ℤ, pos, _+ℤ_}
-use lib.ListN.{length}
-use Rattle.graph.specs.Finite.{ifLess, first}
-use Rattle.graph.specs.Graph.{Graph, wiring}
-use Rattle.graph.specs.Value.{Assignment, outputValue}
-use Rattle.graph.specs.Count.{C}
-use Rattle.graph.specs.Admission.{Admitted, LockBytes}
-use Rattle.graph.specs.Answer.{Outcome, LockedOutcome, lockedOutcome, savingOf}
-use Rattle.choice.specs.Choice.{Fits}
-use Rattle.moves.specs.Rows.{movesAt}
-use Rattle.moves.specs.Tree.{tree}
-use Rattle.moves.specs.Call.{moved, isNode, namedBy, nodeFault, wordFault, rootFault, scratchFault, nodeCall, pairCall, treeCall}
-use Rattle.many.specs.Many.{Entry, entries, oneByOne, listNumber, manyCall}
-use Rattle.rounds.specs.Settle.{settle, settleCall, NothingLowers}
+use Rattle.graph.specs.All.{ℕ, _+_, _-_, _≤_, _<_, true, _≡_, List, [], _∷_, _++_, map, Perm, length, ℤ, pos, _+ℤ_, ifLess, first, Graph, wiring, Assignment, outputValue, C, Admitted, LockBytes, Outcome, LockedOutcome, lockedOutcome, savingOf}
+use Rattle.choice.specs.All.{Fits}
+use Rattle.moves.specs.All.{movesAt, tree, moved, isNode, namedBy, nodeFault, wordFault, rootFault, scratchFault, nodeCall, pairCall, treeCall}
+use Rattle.many.specs.All.{Entry, entries, oneByOne, listNumber, manyCall}
+use Rattle.rounds.specs.All.{settle, settleCall, NothingLowers}
 
 -- a call, with whatever nodes, word, moves and scratch it is given
 pub data Call : Type 0 where
@@ -68,10 +55,10 @@ fault d (settling scratch) = scratchFault (d .graph) (length scratch)
 fault d (manyAt us ms) = first (ifLess (length ms) (length us) 4 0) (listNumber (d .graph) (d .locks) us ms)
 
 -- rounds as settling reports them: those of the definition, at most the fall plus one; and the sums over their calls
-pub record RoundsReported (d : Locked) (scratch : List ℕ) (o : LockedOutcome) : Type 0 where
-  pub values : o .answer .values ≡ settle (d .locks) (length scratch) (d .graph) .rounds ∷ C (d .graph) ∷ C (o .graph) ∷ []
-  pub signed : o .answer .signed ≡ settle (d .locks) (length scratch) (d .graph) .made .own ∷ settle (d .locks) (length scratch) (d .graph) .made .others ∷ []
-  pub few : settle (d .locks) (length scratch) (d .graph) .rounds ≤ (C (d .graph) - C (o .graph)) + 1
+pub record RoundsReported (d : Locked) (o : LockedOutcome) : Type 0 where
+  pub values : o .answer .values ≡ settle (d .locks) (d .graph) .rounds ∷ C (d .graph) ∷ C (o .graph) ∷ []
+  pub signed : o .answer .signed ≡ settle (d .locks) (d .graph) .made .own ∷ settle (d .locks) (d .graph) .made .others ∷ []
+  pub few : settle (d .locks) (d .graph) .rounds ≤ (C (d .graph) - C (o .graph)) + 1
 
 -- no choice of moves at the nodes us that leaves locked nodes alone, made on d, has a lower C than o left
 abbrev pub Least : Locked → List ℕ → LockedOutcome → Type 0
@@ -83,7 +70,7 @@ abbrev pub Beside : Locked → Call → LockedOutcome → Type 0
 Beside d (nodeAt u) o = Least d (u ∷ []) o
 Beside d (pairAt u k) o = isNode (d .graph) (namedBy (d .graph) u k) ≡ true → Least d (namedBy (d .graph) u k ∷ u ∷ []) o
 Beside d (treeAt r scratch) o = Least d (tree (d .graph) r) o
-Beside d (settling scratch) o = NothingLowers (o .graph) (o .locks) × RoundsReported d scratch o
+Beside d (settling scratch) o = NothingLowers (o .graph) (o .locks) × RoundsReported d o
 Beside d (manyAt us ms) o = (es : List Entry) → Perm (entries us ms) es → oneByOne (d .graph) es ≡ o .graph
 
 -- a call on d, the graph and the locks as the load or the call before left them

@@ -1,4 +1,4 @@
 pub mod Demand
 pub mod Worked
-pub mod Trials
+pub mod All
 pub mod Promises

@@ -23,11 +23,14 @@ use Rattle.replay.specs.declared.Replayed.the-variants as replayed
 use Rattle.replay.specs.declared.CallsFault.the-variants.{LeftOver, UnknownKind, PartOutside}
 use Rattle.replay.specs.Replay.{replayedAnswer, replayedGraph, DemandMet}
 use Rattle.graph.proofs.Answers.{number-some}
+use Rattle.graph.specs.Literals.{before, after, Slice, tableAfter}
+use denote.Ref.{RefT}
+use denote.Triple.Both.{Both}
 use Rattle.reducer.specs.Interface.{SavingLeft, TextLeft, GraphLeft}
 
 -- equal answers keep the same scratch
-pub same-kept : {a b : Answer} (before after : List ℕ) → a ≡ b → ScratchKept a before after → ScratchKept b before after
-same-kept before after e k n = k (λ z. n (ap (λ (a : Answer). a .number) (sym e) ∙ z))
+pub same-kept : {a b : Answer} (s t : List ℕ) → a ≡ b → ScratchKept a s t → ScratchKept b s t
+same-kept s t e k n = k (λ z. n (ap (λ (a : Answer). a .number) (sym e) ∙ z))
 
 -- an answer without values has the number that it is given
 pub number-is : (n : ℕ) → unless n (accepted []) .number ≡ n
@@ -37,22 +40,23 @@ number-is (suc n) = refl
 
 -- what is left and told of an outcome o, from what a call answers and leaves, which is o
 module _ (r : ℕ) (a : Answer) (number : r ≡ a .number) where
-  pub saving-left : (o : Outcome) (k : Graph) (before after : List ℤ) → after ≡ toldSigned a before → outcome a k ≡ o → SavingLeft o r k before after
-  saving-left o k before after t e =
-      record { number = number ∙ ap (λ (x : Outcome). x .answer .number) e; graph = ap (λ (x : Outcome). x .graph) e; saving = t ∙ same-signed (ap (λ (x : Outcome). x .answer) e) refl }
+  pub saving-left : (o : Outcome) (k : Graph) (saving : Both (RefT (List ℤ)) (RefT (List ℤ))) → after saving ≡ toldSigned a (before saving) → outcome a k ≡ o → SavingLeft o r k saving
+  saving-left o k saving t e =
+      record { number = number ∙ ap (λ (x : Outcome). x .answer .number) e; graph = ap (λ (x : Outcome). x .graph) e; tells = t ∙ same-signed (ap (λ (x : Outcome). x .answer) e) refl }
 
-  pub text-left : (o : WriteOutcome) (buffer : List ℕ) (before after : ℕ) → after ≡ toldOne a before → writeOutcome a buffer ≡ o → TextLeft o r buffer before after
-  text-left o buffer before after t e =
-      record { number = number ∙ ap (λ (x : WriteOutcome). x .answer .number) e; bytes = ap (λ (x : WriteOutcome). x .buffer) e; size = t ∙ same-one _ (ap (λ (x : WriteOutcome). x .answer) e) }
+  pub text-left : (o : WriteOutcome) (buffer : Slice) (size : Both (RefT ℕ) (RefT ℕ)) → after size ≡ toldOne a (before size) → writeOutcome a (after buffer) ≡ o → TextLeft o r buffer size
+  text-left o buffer size t e =
+      record { number = number ∙ ap (λ (x : WriteOutcome). x .answer .number) e; bytes = ap (λ (x : WriteOutcome). x .buffer) e; tells = t ∙ same-one _ (ap (λ (x : WriteOutcome). x .answer) e) }
 
-  pub graph-left : (o : LockedOutcome) (g : Graph) (ns os ls before after : List ℕ) → after ≡ told a before → ns ≡ g .nodes → os ≡ g .outputs → lockedOutcome a g ls ≡ o → GraphLeft o r ns os ls before after
-  graph-left o g ns os ls before after t p q e =
+  pub graph-left : (o : LockedOutcome) (g : Graph) (us bs vs ds ls numbers : Slice) → after numbers ≡ told a (before numbers) → tableAfter us bs ≡ g .nodes → tableAfter vs ds ≡ g .outputs
+      → lockedOutcome a g (after ls) ≡ o → GraphLeft o r us bs vs ds ls numbers
+  graph-left o g us bs vs ds ls numbers t p q e =
       record {
         number = number ∙ ap (λ (x : LockedOutcome). x .answer .number) e;
         nodes = p ∙ ap (λ (x : LockedOutcome). x .graph .nodes) e;
         outputs = q ∙ ap (λ (x : LockedOutcome). x .graph .outputs) e;
         locks = ap (λ (x : LockedOutcome). x .locks) e;
-        numbers = t ∙ same-told _ (ap (λ (x : LockedOutcome). x .answer) e);
+        tells = t ∙ same-told _ (ap (λ (x : LockedOutcome). x .answer) e);
       }
 
 -- the tables that an answered load leaves are those of its graph

@@ -7,28 +7,27 @@ ghost use Rattle.graph.specs.Graph.{graphOf};
 ghost use Rattle.graph.specs.Count.{C};
 ghost use Rattle.graph.specs.Admission.{admissionNumber};
 ghost use Rattle.graph.specs.Answer.{accepted, unless, ScratchKept};
-ghost use Rattle.graph.specs.Literals.{graphIn, literals};
+ghost use Rattle.graph.specs.Literals.{before, after, tableBefore, tableAfter, graphBefore, graphAfter};
 ghost use Rattle.file_checks.specs.File.{fieldNumber, fieldPayload};
 ghost use Rattle.tagged_file.specs.Load.{loadCall};
 ghost use Rattle.tagged_file.specs.Write.{writeCall};
 ghost use Rattle.aiger.specs.Import.{importCall};
 ghost use Rattle.aiger.specs.Export.{exportCall};
 ghost use Rattle.evaluation.specs.Evaluation.{evaluateNumber, resultsAfter};
-ghost use Rattle.moves.specs.Call.{nodeCall, pairCall, treeCall};
+ghost use Rattle.moves.specs.Call.{nodeCall, pairCall, treeCall, trialCall};
 ghost use Rattle.preview.specs.Preview.{previewAnswer, previewBytes};
-ghost use Rattle.moves.specs.Trial.{trialCall};
 ghost use Rattle.many.specs.Many.{manyCall};
 ghost use Rattle.rounds.specs.Settle.{settleCall};
 ghost use Rattle.answers.specs.Told.{told, toldOne, toldSigned, toldGain};
 ghost use Rattle.promises.specs.Demand.{withLocks, left};
 ghost use Rattle.replay.specs.Replay.{lent, decode, replayCall, answersAfter, DemandMet};
-ghost use Rattle.reducer.specs.Interface.{fieldAnswer, SavingLeft, GraphLeft, TextLeft};
+ghost use Rattle.reducer.specs.Interface.{fieldAnswer, SavingLeft, GainLeft, GraphLeft, TextLeft};
 
 // Where the payload of the field at the front starts, and its length.
 #[no_mangle]
 pub extern "C" fn reducer_field(bytes: &[u8], payload: &mut [usize; 2]) -> u32
-    ensures answer { λ r. ⌜ (r ≡ fieldNumber (now (bytes .entry))) × (now (payload .exit) ≡ told (fieldAnswer (now (bytes .entry))) (now (payload .entry))) ⌝ }
-    ensures stretch { λ r. ⌜ (r ≡ 0 → take (getD (now (payload .exit)) 1 0) (drop (getD (now (payload .exit)) 0 0) (now (bytes .entry))) ≡ fieldPayload (now (bytes .entry))) ⌝ }
+    ensures answer { λ r. ⌜ (r ≡ fieldNumber (before bytes)) × (after payload ≡ told (fieldAnswer (before bytes)) (before payload)) ⌝ }
+    ensures stretch { λ r. ⌜ (r ≡ 0 → take (getD (after payload) 1 0) (drop (getD (after payload) 0 0) (before bytes)) ≡ fieldPayload (before bytes)) ⌝ }
 {
     let number = tagged_file::field_number(bytes);
     *payload = answers::told::field_told(number, tagged_file::field(bytes).len(), *payload);
@@ -47,12 +46,10 @@ pub extern "C" fn reducer_load(
     numbers: &mut [u32; 3],
 ) -> u32
     ensures { λ r.
-        let ns = literals (now («node_table» .entry)) (now («node_bits» .entry)) in
-        let os = literals (now («output_table» .entry)) (now («output_bits» .entry)) in
-        let ms = literals (now («node_table» .exit)) (now («node_bits» .exit)) in
-        let ps = literals (now («output_table» .exit)) (now («output_bits» .exit)) in
-        let o = loadCall (now (file .entry)) ns os (now (locks .entry)) in
-        ⌜ GraphLeft o r ms ps (now (locks .exit)) (now (numbers .entry)) (now (numbers .exit)) ⌝ }
+        let ns = tableBefore «node_table» «node_bits» in
+        let os = tableBefore «output_table» «output_bits» in
+        let o = loadCall (before file) ns os (before locks) in
+        ⌜ GraphLeft o r «node_table» «node_bits» «output_table» «output_bits» locks numbers ⌝ }
 {
     let answer = tagged_file::load(
         file,
@@ -78,12 +75,10 @@ pub extern "C" fn reducer_import(
     numbers: &mut [u32; 3],
 ) -> u32
     ensures { λ r.
-        let ns = literals (now («node_table» .entry)) (now («node_bits» .entry)) in
-        let os = literals (now («output_table» .entry)) (now («output_bits» .entry)) in
-        let ms = literals (now («node_table» .exit)) (now («node_bits» .exit)) in
-        let ps = literals (now («output_table» .exit)) (now («output_bits» .exit)) in
-        let o = importCall (now (text .entry)) ns os (now (locks .entry)) in
-        ⌜ GraphLeft o r ms ps (now (locks .exit)) (now (numbers .entry)) (now (numbers .exit)) ⌝ }
+        let ns = tableBefore «node_table» «node_bits» in
+        let os = tableBefore «output_table» «output_bits» in
+        let o = importCall (before text) ns os (before locks) in
+        ⌜ GraphLeft o r «node_table» «node_bits» «output_table» «output_bits» locks numbers ⌝ }
 {
     let answer = aiger_import::import(
         text,
@@ -112,9 +107,9 @@ pub extern "C" fn reducer_write(
     length: &mut usize,
 ) -> u32
     ensures { λ r.
-        let g = graphIn inputs nodes outputs (now («node_table» .entry)) (now («node_bits» .entry)) (now («output_table» .entry)) (now («output_bits» .entry)) in
-        let o = writeCall g (now (locks .entry)) (now (buffer .entry)) in
-        ⌜ TextLeft o r (now (buffer .exit)) (now (length .entry)) (now (length .exit)) ⌝ }
+        let g = graphBefore inputs nodes outputs «node_table» «node_bits» «output_table» «output_bits» in
+        let o = writeCall g (before locks) (before buffer) in
+        ⌜ TextLeft o r buffer length ⌝ }
 {
     let answer = tagged_file::write(
         inputs,
@@ -147,13 +142,13 @@ pub extern "C" fn reducer_export(
     length: &mut usize,
 ) -> u32
     ensures text { λ r.
-        let g = graphIn inputs nodes outputs (now («node_table» .entry)) (now («node_bits» .entry)) (now («output_table» .entry)) (now («output_bits» .entry)) in
-        let o = exportCall g (now (locks .entry)) (now (scratch .entry)) (now (buffer .entry)) in
-        ⌜ TextLeft o r (now (buffer .exit)) (now (length .entry)) (now (length .exit)) ⌝ }
+        let g = graphBefore inputs nodes outputs «node_table» «node_bits» «output_table» «output_bits» in
+        let o = exportCall g (before locks) (before scratch) (before buffer) in
+        ⌜ TextLeft o r buffer length ⌝ }
     ensures scratch { λ r.
-        let g = graphIn inputs nodes outputs (now («node_table» .entry)) (now («node_bits» .entry)) (now («output_table» .entry)) (now («output_bits» .entry)) in
-        let o = exportCall g (now (locks .entry)) (now (scratch .entry)) (now (buffer .entry)) in
-        ⌜ ScratchKept (o .answer) (now (scratch .entry)) (now (scratch .exit)) ⌝ }
+        let g = graphBefore inputs nodes outputs «node_table» «node_bits» «output_table» «output_bits» in
+        let o = exportCall g (before locks) (before scratch) (before buffer) in
+        ⌜ ScratchKept (o .answer) (before scratch) (after scratch) ⌝ }
 {
     let answer = aiger_export::export(
         inputs,
@@ -187,16 +182,15 @@ pub extern "C" fn reducer_evaluate(
     results: &mut [u64],
 ) -> u32
     ensures answer { λ r.
-        let g = graphIn inputs nodes outputs (now («node_table» .entry)) (now («node_bits» .entry)) (now («output_table» .entry)) (now («output_bits» .entry)) in
-        let n = evaluateNumber g (now (locks .entry)) (length (now («input_words» .entry))) (length (now (scratch .entry))) (length (now (results .entry))) in
-        ⌜ r ≡ n ⌝ }
+        let g = graphBefore inputs nodes outputs «node_table» «node_bits» «output_table» «output_bits» in
+        ⌜ r ≡ evaluateNumber g (before locks) (length (before «input_words»)) (length (before scratch)) (length (before results)) ⌝ }
     ensures results { λ r.
-        let g = graphIn inputs nodes outputs (now («node_table» .entry)) (now («node_bits» .entry)) (now («output_table» .entry)) (now («output_bits» .entry)) in
-        ⌜ now (results .exit) ≡ resultsAfter g (now (locks .entry)) (now («input_words» .entry)) (length (now (scratch .entry))) (now (results .entry)) ⌝ }
+        let g = graphBefore inputs nodes outputs «node_table» «node_bits» «output_table» «output_bits» in
+        ⌜ after results ≡ resultsAfter g (before locks) (before «input_words») (length (before scratch)) (before results) ⌝ }
     ensures scratch { λ r.
-        let g = graphIn inputs nodes outputs (now («node_table» .entry)) (now («node_bits» .entry)) (now («output_table» .entry)) (now («output_bits» .entry)) in
-        let n = evaluateNumber g (now (locks .entry)) (length (now («input_words» .entry))) (length (now (scratch .entry))) (length (now (results .entry))) in
-        ⌜ ScratchKept (unless n (accepted [])) (now (scratch .entry)) (now (scratch .exit)) ⌝ }
+        let g = graphBefore inputs nodes outputs «node_table» «node_bits» «output_table» «output_bits» in
+        ⌜ ScratchKept (unless (evaluateNumber g (before locks) (length (before «input_words»)) (length (before scratch)) (length (before results))) (accepted []))
+        (before scratch) (after scratch) ⌝ }
 {
     answers::told::evaluated_number(evaluation::evaluate(
         inputs,
@@ -227,9 +221,9 @@ pub extern "C" fn reducer_count(
     count: &mut u32,
 ) -> u32
     ensures { λ r.
-        let g = graphIn inputs nodes outputs (now («node_table» .entry)) (now («node_bits» .entry)) (now («output_table» .entry)) (now («output_bits» .entry)) in
-        let a = unless (admissionNumber g (now (locks .entry))) (accepted (C g ∷ [])) in
-        ⌜ (r ≡ a .number) × (now (count .exit) ≡ toldOne a (now (count .entry))) ⌝ }
+        let g = graphBefore inputs nodes outputs «node_table» «node_bits» «output_table» «output_bits» in
+        let a = unless (admissionNumber g (before locks)) (accepted (C g ∷ [])) in
+        ⌜ (r ≡ a .number) × (after count ≡ toldOne a (before count)) ⌝ }
 {
     let answer = graph::complemented_edges(
         inputs,
@@ -260,10 +254,10 @@ pub extern "C" fn reducer_node(
     saving: &mut [i64; 2],
 ) -> u32
     ensures { λ r.
-        let g = graphIn inputs nodes outputs (now («node_table» .entry)) (now («node_bits» .entry)) (now («output_table» .entry)) (now («output_bits» .entry)) in
-        let k = graphIn inputs nodes outputs (now («node_table» .entry)) (now («node_bits» .exit)) (now («output_table» .entry)) (now («output_bits» .exit)) in
-        let o = nodeCall g (now (locks .entry)) node in
-        ⌜ SavingLeft o r k (now (saving .entry)) (now (saving .exit)) ⌝ }
+        let g = graphBefore inputs nodes outputs «node_table» «node_bits» «output_table» «output_bits» in
+        let k = graphAfter inputs nodes outputs «node_table» «node_bits» «output_table» «output_bits» in
+        let o = nodeCall g (before locks) node in
+        ⌜ SavingLeft o r k saving ⌝ }
 {
     let answer = node_call::node_call(
         inputs,
@@ -296,10 +290,10 @@ pub extern "C" fn reducer_pair(
     saving: &mut [i64; 2],
 ) -> u32
     ensures { λ r.
-        let g = graphIn inputs nodes outputs (now («node_table» .entry)) (now («node_bits» .entry)) (now («output_table» .entry)) (now («output_bits» .entry)) in
-        let k = graphIn inputs nodes outputs (now («node_table» .entry)) (now («node_bits» .exit)) (now («output_table» .entry)) (now («output_bits» .exit)) in
-        let o = pairCall g (now (locks .entry)) node word in
-        ⌜ SavingLeft o r k (now (saving .entry)) (now (saving .exit)) ⌝ }
+        let g = graphBefore inputs nodes outputs «node_table» «node_bits» «output_table» «output_bits» in
+        let k = graphAfter inputs nodes outputs «node_table» «node_bits» «output_table» «output_bits» in
+        let o = pairCall g (before locks) node word in
+        ⌜ SavingLeft o r k saving ⌝ }
 {
     let answer = node_call::pair_call(
         inputs,
@@ -335,9 +329,9 @@ pub extern "C" fn reducer_trial(
     gain: &mut i64,
 ) -> u32
     ensures { λ r.
-        let g = graphIn inputs nodes outputs (now («node_table» .entry)) (now («node_bits» .entry)) (now («output_table» .entry)) (now («output_bits» .entry)) in
-        let a = trialCall g (now (locks .entry)) node word «named_move» «node_move» in
-        ⌜ (r ≡ a .number) × (now (gain .exit) ≡ toldGain a (now (gain .entry))) ⌝ }
+        let g = graphBefore inputs nodes outputs «node_table» «node_bits» «output_table» «output_bits» in
+        let a = trialCall g (before locks) node word «named_move» «node_move» in
+        ⌜ (r ≡ a .number) × (after gain ≡ toldGain a (before gain)) ⌝ }
 {
     let answer = node_call::trial(
         inputs,
@@ -375,10 +369,10 @@ pub extern "C" fn reducer_many(
     saving: &mut i64,
 ) -> u32
     ensures { λ r.
-        let g = graphIn inputs nodes outputs (now («node_table» .entry)) (now («node_bits» .entry)) (now («output_table» .entry)) (now («output_bits» .entry)) in
-        let k = graphIn inputs nodes outputs (now («node_table» .entry)) (now («node_bits» .exit)) (now («output_table» .entry)) (now («output_bits» .exit)) in
-        let o = manyCall g (now (locks .entry)) (now (list .entry)) (now (bytes .entry)) in
-        ⌜ (r ≡ o .answer .number) × (k ≡ o .graph) × (now (saving .exit) ≡ toldGain (o .answer) (now (saving .entry))) ⌝ }
+        let g = graphBefore inputs nodes outputs «node_table» «node_bits» «output_table» «output_bits» in
+        let k = graphAfter inputs nodes outputs «node_table» «node_bits» «output_table» «output_bits» in
+        let o = manyCall g (before locks) (before list) (before bytes) in
+        ⌜ GainLeft o r k saving ⌝ }
 {
     let answer = many::many(
         inputs,
@@ -414,14 +408,14 @@ pub extern "C" fn reducer_tree(
     saving: &mut [i64; 2],
 ) -> u32
     ensures saving { λ r.
-        let g = graphIn inputs nodes outputs (now («node_table» .entry)) (now («node_bits» .entry)) (now («output_table» .entry)) (now («output_bits» .entry)) in
-        let k = graphIn inputs nodes outputs (now («node_table» .entry)) (now («node_bits» .exit)) (now («output_table» .entry)) (now («output_bits» .exit)) in
-        let o = treeCall g (now (locks .entry)) (length (now (scratch .entry))) root in
-        ⌜ SavingLeft o r k (now (saving .entry)) (now (saving .exit)) ⌝ }
+        let g = graphBefore inputs nodes outputs «node_table» «node_bits» «output_table» «output_bits» in
+        let k = graphAfter inputs nodes outputs «node_table» «node_bits» «output_table» «output_bits» in
+        let o = treeCall g (before locks) (length (before scratch)) root in
+        ⌜ SavingLeft o r k saving ⌝ }
     ensures scratch { λ r.
-        let g = graphIn inputs nodes outputs (now («node_table» .entry)) (now («node_bits» .entry)) (now («output_table» .entry)) (now («output_bits» .entry)) in
-        let o = treeCall g (now (locks .entry)) (length (now (scratch .entry))) root in
-        ⌜ ScratchKept (o .answer) (now (scratch .entry)) (now (scratch .exit)) ⌝ }
+        let g = graphBefore inputs nodes outputs «node_table» «node_bits» «output_table» «output_bits» in
+        let o = treeCall g (before locks) (length (before scratch)) root in
+        ⌜ ScratchKept (o .answer) (before scratch) (after scratch) ⌝ }
 {
     let answer = tree_call::tree_call(
         inputs,
@@ -456,14 +450,16 @@ pub extern "C" fn reducer_preview(
     saving: &mut [i64; 2],
 ) -> u32
     ensures saving { λ r.
-        let g = graphIn inputs nodes outputs (now («node_table» .entry)) (now («node_bits» .entry)) (now («output_table» .entry)) (now («output_bits» .entry)) in
-        let a = previewAnswer g (now (locks .entry)) (length (now (moves .entry))) (length (now (scratch .entry))) root in
-        let bs = previewBytes g (now (locks .entry)) (now (moves .entry)) (length (now (scratch .entry))) root in
-        ⌜ (r ≡ a .number) × (now (moves .exit) ≡ bs) × (now (saving .exit) ≡ toldSigned a (now (saving .entry))) ⌝ }
+        let g = graphBefore inputs nodes outputs «node_table» «node_bits» «output_table» «output_bits» in
+        let a = previewAnswer g (before locks) (length (before moves)) (length (before scratch)) root in
+        ⌜ (r ≡ a .number) × (after saving ≡ toldSigned a (before saving)) ⌝ }
+    ensures moves { λ r.
+        let g = graphBefore inputs nodes outputs «node_table» «node_bits» «output_table» «output_bits» in
+        ⌜ after moves ≡ previewBytes g (before locks) (before moves) (length (before scratch)) root ⌝ }
     ensures scratch { λ r.
-        let g = graphIn inputs nodes outputs (now («node_table» .entry)) (now («node_bits» .entry)) (now («output_table» .entry)) (now («output_bits» .entry)) in
-        let a = previewAnswer g (now (locks .entry)) (length (now (moves .entry))) (length (now (scratch .entry))) root in
-        ⌜ ScratchKept a (now (scratch .entry)) (now (scratch .exit)) ⌝ }
+        let g = graphBefore inputs nodes outputs «node_table» «node_bits» «output_table» «output_bits» in
+        let a = previewAnswer g (before locks) (length (before moves)) (length (before scratch)) root in
+        ⌜ ScratchKept a (before scratch) (after scratch) ⌝ }
 {
     let answer = preview::preview(
         inputs,
@@ -498,14 +494,18 @@ pub extern "C" fn reducer_settle(
     savings: &mut [i64; 2],
 ) -> u32
     ensures saving { λ r.
-        let g = graphIn inputs nodes outputs (now («node_table» .entry)) (now («node_bits» .entry)) (now («output_table» .entry)) (now («output_bits» .entry)) in
-        let k = graphIn inputs nodes outputs (now («node_table» .entry)) (now («node_bits» .exit)) (now («output_table» .entry)) (now («output_bits» .exit)) in
-        let o = settleCall g (now (locks .entry)) (length (now (scratch .entry))) in
-        ⌜ SavingLeft o r k (now (savings .entry)) (now (savings .exit)) × (now (figures .exit) ≡ told (o .answer) (now (figures .entry))) ⌝ }
+        let g = graphBefore inputs nodes outputs «node_table» «node_bits» «output_table» «output_bits» in
+        let k = graphAfter inputs nodes outputs «node_table» «node_bits» «output_table» «output_bits» in
+        let o = settleCall g (before locks) (length (before scratch)) in
+        ⌜ SavingLeft o r k savings ⌝ }
+    ensures figures { λ r.
+        let g = graphBefore inputs nodes outputs «node_table» «node_bits» «output_table» «output_bits» in
+        let o = settleCall g (before locks) (length (before scratch)) in
+        ⌜ after figures ≡ told (o .answer) (before figures) ⌝ }
     ensures scratch { λ r.
-        let g = graphIn inputs nodes outputs (now («node_table» .entry)) (now («node_bits» .entry)) (now («output_table» .entry)) (now («output_bits» .entry)) in
-        let o = settleCall g (now (locks .entry)) (length (now (scratch .entry))) in
-        ⌜ ScratchKept (o .answer) (now (scratch .entry)) (now (scratch .exit)) ⌝ }
+        let g = graphBefore inputs nodes outputs «node_table» «node_bits» «output_table» «output_bits» in
+        let o = settleCall g (before locks) (length (before scratch)) in
+        ⌜ ScratchKept (o .answer) (before scratch) (after scratch) ⌝ }
 {
     let answer = settling::settle(
         inputs,
@@ -540,30 +540,28 @@ pub extern "C" fn reducer_replay(
     numbers: &mut [u32; 3],
 ) -> u32
     ensures graph { λ r.
-        let ns = literals (now («node_table» .entry)) (now («node_bits» .entry)) in
-        let os = literals (now («output_table» .entry)) (now («output_bits» .entry)) in
-        let ms = literals (now («node_table» .exit)) (now («node_bits» .exit)) in
-        let ps = literals (now («output_table» .exit)) (now («output_bits» .exit)) in
-        let l = lent (now (scratch .entry)) (now (list .entry)) (now (bytes .entry)) in
-        let o = replayCall (now (file .entry)) (now (calls .entry)) l ns os (now (locks .entry)) (length (now (answers .entry))) in
-        ⌜ GraphLeft o r ms ps (now (locks .exit)) (now (numbers .entry)) (now (numbers .exit)) ⌝ }
+        let ns = tableBefore «node_table» «node_bits» in
+        let os = tableBefore «output_table» «output_bits» in
+        let l = lent (before scratch) (before list) (before bytes) in
+        let o = replayCall (before file) (before calls) l ns os (before locks) (length (before answers)) in
+        ⌜ GraphLeft o r «node_table» «node_bits» «output_table» «output_bits» locks numbers ⌝ }
     ensures answers { λ r.
-        let ns = literals (now («node_table» .entry)) (now («node_bits» .entry)) in
-        let os = literals (now («output_table» .entry)) (now («output_bits» .entry)) in
-        let l = lent (now (scratch .entry)) (now (list .entry)) (now (bytes .entry)) in
-        ⌜ now (answers .exit) ≡ answersAfter (now (file .entry)) (now (calls .entry)) l ns os (now (locks .entry)) (now (answers .entry)) ⌝ }
+        let ns = tableBefore «node_table» «node_bits» in
+        let os = tableBefore «output_table» «output_bits» in
+        let l = lent (before scratch) (before list) (before bytes) in
+        ⌜ after answers ≡ answersAfter (before file) (before calls) l ns os (before locks) (before answers) ⌝ }
     ensures scratch { λ r.
-        let ns = literals (now («node_table» .entry)) (now («node_bits» .entry)) in
-        let os = literals (now («output_table» .entry)) (now («output_bits» .entry)) in
-        let l = lent (now (scratch .entry)) (now (list .entry)) (now (bytes .entry)) in
-        let o = replayCall (now (file .entry)) (now (calls .entry)) l ns os (now (locks .entry)) (length (now (answers .entry))) in
-        ⌜ ScratchKept (o .answer) (now (scratch .entry)) (now (scratch .exit)) ⌝ }
+        let ns = tableBefore «node_table» «node_bits» in
+        let os = tableBefore «output_table» «output_bits» in
+        let l = lent (before scratch) (before list) (before bytes) in
+        let o = replayCall (before file) (before calls) l ns os (before locks) (length (before answers)) in
+        ⌜ ScratchKept (o .answer) (before scratch) (after scratch) ⌝ }
     ensures demand { λ r.
-        let ns = literals (now («node_table» .entry)) (now («node_bits» .entry)) in
-        let os = literals (now («output_table» .entry)) (now («output_bits» .entry)) in
-        let l = lent (now (scratch .entry)) (now (list .entry)) (now (bytes .entry)) in
-        let cs = decode l (now (calls .entry)) in
-        ⌜ (r ≡ 0 → DemandMet (left (loadCall (now (file .entry)) ns os (now (locks .entry)))) cs (withLocks (graphOf (getD (now (numbers .exit)) 0 0) (getD (now (numbers .exit)) 1 0) (getD (now (numbers .exit)) 2 0) (literals (now («node_table» .exit)) (now («node_bits» .exit))) (literals (now («output_table» .exit)) (now («output_bits» .exit)))) (now (locks .exit))) (now (answers .exit))) ⌝ }
+        let ns = tableBefore «node_table» «node_bits» in
+        let os = tableBefore «output_table» «output_bits» in
+        let l = lent (before scratch) (before list) (before bytes) in
+        let cs = decode l (before calls) in
+        ⌜ (r ≡ 0 → DemandMet (left (loadCall (before file) ns os (before locks))) cs (withLocks (graphOf (getD (after numbers) 0 0) (getD (after numbers) 1 0) (getD (after numbers) 2 0) (tableAfter «node_table» «node_bits») (tableAfter «output_table» «output_bits»)) (after locks)) (after answers)) ⌝ }
 {
     let answer = replay::replay(
         file,

@@ -9,7 +9,8 @@ use lib.IntN.{ℤ, pos}
 use lib.ListN.{length, getD, drop, set, length-set}
 use lib.Seq.{sets, sets-eq}
 use Rattle.promises.specs.Demand.{Call, Locked, step, left, run}
-use Rattle.replay.specs.Replay.{Lent, lent, callOf, decode, answersOf, Tells}
+use Rattle.replay.specs.Replay.{Lent, lent, callOf, decode, answersOf}
+use Rattle.replay.specs.Inner.{Tells}
 use Rattle.replay.specs.declared.calls.CallAnswer.{CallAnswer}
 use Rattle.replay.proofs.One.{tells-alike}
 

@@ -16,15 +16,15 @@ use Rattle.graph.specs.Answer.{Answer, outcome, LockedOutcome, lockedOutcome}
 use Rattle.graph.proofs.Cases.{lt-or-le}
 use Rattle.graph.proofs.Tests.{less, no-less, equal, unequal}
 use Rattle.file_checks.proofs.Checked.{rest}
-use Rattle.moves.specs.Call.{nodeCall, pairCall, treeCall}
-use Rattle.moves.specs.Trial.{gainAnswer}
+use Rattle.moves.specs.Call.{nodeCall, pairCall, treeCall, gainAnswer}
 use Rattle.moves.specs.declared.Gain.{Gain}
 use Rattle.moves.specs.declared.Gain.the-variants.{Whole, Refused}
 use Rattle.many.specs.Many.{manyCall}
 use Rattle.rounds.specs.Settle.{settleCall}
 use Rattle.answers.specs.Told.{toldBy, toldSigned, toldGain}
 use Rattle.promises.specs.Demand.{Call, nodeAt, pairAt, treeAt, settling, manyAt, Locked, withLocks, beside, step, left}
-use Rattle.replay.specs.Replay.{Lent, lent, part, callOf, lesser, Answers, Tells}
+use Rattle.replay.specs.Replay.{Lent, lent, part, callOf, lesser}
+use Rattle.replay.specs.Inner.{Answers, Tells}
 use Rattle.replay.specs.declared.calls.CallAnswer.{CallAnswer}
 use Rattle.replay.proofs.Refusing.{lesser-le}
 

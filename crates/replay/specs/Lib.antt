@@ -1,1 +1,3 @@
 pub mod Replay
+pub mod Inner
+pub mod All

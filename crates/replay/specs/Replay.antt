@@ -3,23 +3,12 @@
 -- of the lent nodes and moves begins, and how many entries it has. A call's answer is three signed words: the number, and what it
 -- saved over the words of the nodes that it names and over all other edges; settling's are the sums over its calls, and many moves' the
 -- whole saving and 0.
-use mathlib.Core.Path.{_≡_}
-use mathlib.Core.List.{List, [], _∷_, _++_}
-use Prim.Native.Nat.{ℕ, zero, suc, _+_, _*_, _/_, _%_, _<_}
-use lib.IntN.{ℤ, pos, _+ℤ_}
-use lib.ListN.{length, getD, take, drop}
-use Rattle.graph.specs.Finite.{ifLess, ifEqual, first}
-use Rattle.graph.specs.Graph.{Graph, graphOf, wiring}
-use Rattle.graph.specs.Value.{Assignment, outputValue}
-use Rattle.graph.specs.Count.{C}
-use Rattle.graph.specs.Answer.{Answer, accepted, refused, numberOf, ownOf, othersOf, LockedOutcome, lockedOutcome, guardedLocks}
-use Rattle.tagged_file.specs.Load.{blank, loadCall}
-use Rattle.promises.specs.Demand.{Call, nodeAt, pairAt, treeAt, settling, manyAt, Locked, step, left, run, Demand}
-use Rattle.replay.specs.declared.CallsFault.{CallsFault}
+use Rattle.graph.specs.All.{ℕ, zero, suc, _+_, _*_, _/_, _%_, _<_, _≡_, List, [], _∷_, _++_, length, getD, take, drop, ℤ, pos, _+ℤ_, ifLess, ifEqual, first, Graph, graphOf, wiring, Assignment, outputValue, C, Answer, accepted, refused, numberOf, ownOf, othersOf, LockedOutcome, lockedOutcome, guardedLocks}
+use Rattle.tagged_file.specs.All.{blank, loadCall}
+use Rattle.promises.specs.All.{Call, nodeAt, pairAt, treeAt, settling, manyAt, Locked, step, left, run, Demand}
+use Rattle.replay.specs.{declared.CallsFault.CallsFault, declared.Replayed.Replayed}
 use Rattle.replay.specs.declared.CallsFault.the-variants.{LeftOver, UnknownKind, PartOutside}
-use Rattle.replay.specs.declared.Replayed.{Replayed}
 use Rattle.replay.specs.declared.Replayed.the-variants as replayed
-use Rattle.replay.specs.declared.calls.CallAnswer.{CallAnswer}
 
 -- what the calls are lent: scratch, and nodes with a move each
 pub record Lent : Type 0 where
@@ -130,14 +119,3 @@ pub record DemandMet (d : Locked) (calls : List Call) (h : Locked) (answers : Li
   pub count : pos (C (h .graph)) +ℤ savingsIn (length calls) answers ≡ pos (C (d .graph))
   -- and of each call on the way
   pub demand : Demand d calls
-
--- t is what an answer comes to
-pub record Answers (a : Answer) (t : CallAnswer) : Type 0 where
-  pub number : t .number ≡ a .number
-  pub own : t .own ≡ ownOf a
-  pub others : t .others ≡ othersOf a
-
--- t is what the call c answers on d, and h what it leaves
-pub record Tells (d : Locked) (c : Call) (h : Locked) (t : CallAnswer) : Type 0 where
-  pub answer : Answers (step d c .answer) t
-  pub leaves : h ≡ left (step d c)

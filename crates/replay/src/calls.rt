@@ -4,11 +4,11 @@ ghost use mathlib.Core.List.{_++_};
 ghost use Prim.Native.Nat.{_*_, _/_, _≤_};
 ghost use lib.ListN.{length, drop};
 ghost use Rattle.graph.specs.Literals.{graphIn};
-ghost use Rattle.moves.specs.Call.{savingAnswer};
-ghost use Rattle.moves.specs.Trial.{gainAnswer};
+ghost use Rattle.moves.specs.Call.{savingAnswer, gainAnswer};
 ghost use Rattle.settling.specs.Settle.{settledAnswer};
 ghost use Rattle.promises.specs.Demand.{manyAt, withLocks, run};
-ghost use Rattle.replay.specs.Replay.{lent, part, callOf, decode, answersOf, Answers, Tells};
+ghost use Rattle.replay.specs.Replay.{lent, part, callOf, decode, answersOf};
+ghost use Rattle.replay.specs.Inner.{Answers, Tells};
 use crate::faults::lesser;
 
 // What a call of the list answers.

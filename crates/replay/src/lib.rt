@@ -2,7 +2,7 @@
 ghost use mathlib.Core.Path.{_≡_};
 ghost use lib.ListN.{length};
 ghost use Rattle.graph.specs.Answer.{lockedOutcome, ScratchKept};
-ghost use Rattle.graph.specs.Literals.{literals};
+ghost use Rattle.graph.specs.Literals.{before, after, tableBefore, tableAfter};
 ghost use Rattle.tagged_file.specs.Load.{loadCall};
 ghost use Rattle.promises.specs.Demand.{withLocks, left};
 ghost use Rattle.replay.specs.Replay.{lent, decode, replayCall, answersAfter, replayedAnswer, replayedGraph, DemandMet};
@@ -48,22 +48,22 @@ pub fn replay(
     answers: &mut [i64],
 ) -> Replayed
     ensures call { λ r.
-        let ns = literals (now («node_table» .entry)) (now («node_bits» .entry)) in
-        let os = literals (now («output_table» .entry)) (now («output_bits» .entry)) in
-        let l = lent (now (scratch .entry)) (now (list .entry)) (now (bytes .entry)) in
-        ⌜ lockedOutcome (replayedAnswer r) (replayedGraph r (literals (now («node_table» .exit)) (now («node_bits» .exit))) (literals (now («output_table» .exit)) (now («output_bits» .exit)))) (now (locks .exit)) ≡ replayCall (now (file .entry)) (now (calls .entry)) l ns os (now (locks .entry)) (length (now (answers .entry))) ⌝ }
+        let ns = tableBefore «node_table» «node_bits» in
+        let os = tableBefore «output_table» «output_bits» in
+        let l = lent (before scratch) (before list) (before bytes) in
+        ⌜ lockedOutcome (replayedAnswer r) (replayedGraph r (tableAfter «node_table» «node_bits») (tableAfter «output_table» «output_bits»)) (after locks) ≡ replayCall (before file) (before calls) l ns os (before locks) (length (before answers)) ⌝ }
     ensures answers { λ r.
-        let ns = literals (now («node_table» .entry)) (now («node_bits» .entry)) in
-        let os = literals (now («output_table» .entry)) (now («output_bits» .entry)) in
-        let l = lent (now (scratch .entry)) (now (list .entry)) (now (bytes .entry)) in
-        ⌜ now (answers .exit) ≡ answersAfter (now (file .entry)) (now (calls .entry)) l ns os (now (locks .entry)) (now (answers .entry)) ⌝ }
-    ensures scratch { λ r. ⌜ ScratchKept (replayedAnswer r) (now (scratch .entry)) (now (scratch .exit)) ⌝ }
+        let ns = tableBefore «node_table» «node_bits» in
+        let os = tableBefore «output_table» «output_bits» in
+        let l = lent (before scratch) (before list) (before bytes) in
+        ⌜ after answers ≡ answersAfter (before file) (before calls) l ns os (before locks) (before answers) ⌝ }
+    ensures scratch { λ r. ⌜ ScratchKept (replayedAnswer r) (before scratch) (after scratch) ⌝ }
     ensures demand { λ r.
-        let ns = literals (now («node_table» .entry)) (now («node_bits» .entry)) in
-        let os = literals (now («output_table» .entry)) (now («output_bits» .entry)) in
-        let l = lent (now (scratch .entry)) (now (list .entry)) (now (bytes .entry)) in
-        let cs = decode l (now (calls .entry)) in
-        ⌜ (replayedAnswer r .number ≡ 0 → DemandMet (left (loadCall (now (file .entry)) ns os (now (locks .entry)))) cs (withLocks (replayedGraph r (literals (now («node_table» .exit)) (now («node_bits» .exit))) (literals (now («output_table» .exit)) (now («output_bits» .exit)))) (now (locks .exit))) (now (answers .exit))) ⌝ }
+        let ns = tableBefore «node_table» «node_bits» in
+        let os = tableBefore «output_table» «output_bits» in
+        let l = lent (before scratch) (before list) (before bytes) in
+        let cs = decode l (before calls) in
+        ⌜ (replayedAnswer r .number ≡ 0 → DemandMet (left (loadCall (before file) ns os (before locks))) cs (withLocks (replayedGraph r (tableAfter «node_table» «node_bits») (tableAfter «output_table» «output_bits»)) (after locks)) (after answers)) ⌝ }
 {
     if calls.len() % 3 != 0 {
         return Replayed::NotCalls(CallsFault::LeftOver);

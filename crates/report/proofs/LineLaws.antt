@@ -5,12 +5,11 @@ use Prim.Native.Nat.{ℕ, _+_, _*_, _≤_, _<_}
 use native.Mathlib.Omega.{arith}
 use lib.ListN.{length, getD, length-append}
 use lib.Seq.{sets}
-use Rattle.graph.specs.Decimal.{decimal}
+use Rattle.graph.specs.Finite.{decimal}
 use Rattle.graph.specs.Graph.{mark}
 use Rattle.graph.proofs.Digits.{length-at-most}
 use Rattle.graph.proofs.Tests.{equal, unequal}
-use Rattle.report.specs.Text.{inputsText, nodesText, outputsText, beforeText, afterText, roundsText, nodeText, majText, xorText, spaceText, outText, refusedText, numbered, line1, line2, line3, line4}
-use Rattle.report.specs.Report.{nodeLine, nodeLineAt}
+use Rattle.report.specs.Report.{nodeLine, nodeLineAt, inputsText, nodesText, outputsText, beforeText, afterText, roundsText, nodeText, majText, xorText, spaceText, outText, refusedText, numbered, line1, line2, line3, line4}
 
 -- a number of 32 bits has at most ten digits
 abbrev pub Word : ℕ → Type 0

@@ -24,8 +24,7 @@ use Rattle.settling.proofs.Answering.{passed}
 use Rattle.settling.specs.Settle.{settledAnswer}
 use Rattle.settling.specs.declared.Settled.{Settled}
 use Rattle.settling.specs.declared.Settled.the-variants as answer
-use Rattle.report.specs.Text.{refusedText, line1}
-use Rattle.report.specs.Report.{settledText, textOf, settledWith, thenSettle, settledFile, reportNumber, ReportOutcome, reportOutcome, printed, reportCall}
+use Rattle.report.specs.Report.{settledText, textOf, settledWith, thenSettle, settledFile, reportNumber, ReportOutcome, reportOutcome, printed, reportCall, refusedText, line1}
 
 -- a text at the front of the buffer
 printed-is : (o : LockedOutcome) (b b′ text : List ℕ) (r : ℕ) → textOf o ≡ text → r ≡ length text → r ≤ length b → b′ ≡ sets b 0 text
@@ -77,8 +76,8 @@ unfolding settleCall
 settled-admitted g h ls s vs x y e =
     let z = guarded-zero (settleNumber g ls s) g _ (sym (ap (λ (o : LockedOutcome). o .answer .number) e)) in
     let p = passed g ls s z in
-    let q : settle ls s g .made .graph ≡ h = ap (λ (o : Outcome). o .graph) (accepted-outcome (settleNumber g ls s) g _ z) ∙ sym (ap (λ (o : LockedOutcome). o .graph) e) in
-    rw q at (settle-ended ls s g (p .0) (p .2) (p .1) .keeps .stays .admitted)
+    let q : settle ls g .made .graph ≡ h = ap (λ (o : Outcome). o .graph) (accepted-outcome (settleNumber g ls s) g _ z) ∙ sym (ap (λ (o : LockedOutcome). o .graph) e) in
+    rw q at (settle-ended ls g (p .0) .keeps .stays .admitted)
 
 -- the answers of both calls, by their cases
 pub settled-rounds : (q : Settled) (n before after : ℕ) (x y : ℤ) (g : Graph) (ls : List ℕ) (o : Outcome) → q ≡ answer.Rounds n before after x y

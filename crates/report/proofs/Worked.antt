@@ -3,27 +3,23 @@
 use mathlib.Core.Path.{_≡_, refl}
 use mathlib.Core.List.{List, [], _∷_, _++_, flatMap}
 use Prim.Native.Nat.{ℕ}
-use Rattle.graph.specs.Finite.{tab, sum, count, ifLess, ifEqual, first, firstOf}
+use Rattle.graph.specs.Finite.{tab, sum, count, ifLess, ifEqual, first, firstOf, difference, decimalIn, decimal}
 use Rattle.graph.specs.Graph.{turn, isXor, isEdge}
 use Rattle.graph.specs.Turned.{turnedTable, turnedBy}
 use Rattle.graph.specs.Count.{adds, wordAdds, nodeAdds, outputAdds, C, named, outputNamed, nodeReaders, readers}
 use Rattle.graph.specs.Admission.{roomNumber, tablesNumber, wordNumber, outputNumber, literalNumber, lockNumber, locksNumber, contentNumber, admissionNumber, strayNumber, straysNumber}
 use Rattle.graph.specs.Answer.{guarded, guardedLocks}
-use Rattle.graph.specs.Decimal.{decimalIn, decimal}
 use Rattle.choice.specs.Choice.{from, choices, unlessLess, least, best}
 use Rattle.moves.specs.Rows.{rows, firstRow, arity, flag, kindMoves, lockAt, movesAt}
 use Rattle.moves.specs.Apply.{at, put, seen, own, turns, outputTurns, apply}
 use Rattle.moves.specs.Tree.{isRoot, last, place, reader, rootIn, rootOf, members, tree}
-use Rattle.moves.specs.Call.{moved, movedC, bestAt, rewrite, isNode, nodeFault, wordFault, rootFault, scratchFault, nodeNumber, nodeCall, namedBy, pairNumber, pairRewrite, pairCall, treeNumber, treeCall}
-use Rattle.graph.specs.Difference.{difference}
-use Rattle.moves.specs.Split.{among, ownAdds, otherAdds, split}
+use Rattle.moves.specs.Call.{moved, movedC, bestAt, rewrite, isNode, nodeFault, wordFault, rootFault, scratchFault, nodeNumber, nodeCall, namedBy, pairNumber, pairRewrite, pairCall, treeNumber, treeCall, among, ownAdds, otherAdds, split}
 use Rattle.rounds.specs.Round.{start, after, each, treeAt, nodeAt, pairAt, pairsAt, round}
 use Rattle.rounds.specs.Settle.{settleIn, settle, settleNumber, settleCall}
 use Rattle.file_checks.specs.File.{be2, be4, payloadOf, dueNumber, nodeSize, third, headNumber, lockFieldNumber, endNumber, lockCount, fileNumber, locksFrom, lockIndices}
 use Rattle.file_checks.specs.File as file
 use Rattle.tagged_file.specs.Load.{graphRead, locksRead, loadCall}
-use Rattle.report.specs.Text.{inputsText, nodesText, outputsText, beforeText, afterText, roundsText, nodeText, majText, xorText, spaceText, outText, refusedText, numbered, line1, line2, line3, line4}
-use Rattle.report.specs.Report.{sizesLine, countsLine, nodeLine, outputLine, nodeLineAt, outputLineAt, settledText, textOf, thenSettle, settledFile}
+use Rattle.report.specs.Report.{sizesLine, countsLine, nodeLine, outputLine, nodeLineAt, outputLineAt, settledText, textOf, thenSettle, settledFile, inputsText, nodesText, outputsText, beforeText, afterText, roundsText, nodeText, majText, xorText, spaceText, outText, refusedText, numbered, line1, line2, line3, line4}
 use Rattle.report.specs.Promises.{p1, P1Report}
 use Rattle.graph.specs.Literals.{bitOf, held, strays, evened, cleared, filled}
 

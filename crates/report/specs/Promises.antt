@@ -1,9 +1,6 @@
 -- What a report promises beside its contract: document 01's report of P1, letter for letter, and that a loaded file is always settled.
-use mathlib.Core.Path.{_≡_}
-use mathlib.Core.List.{List, [], _∷_}
-use Prim.Native.Nat.{ℕ}
-use Rattle.graph.specs.Literals.{held}
-use Rattle.tagged_file.specs.Load.{loadCall}
+use Rattle.graph.specs.All.{ℕ, _≡_, List, [], _∷_, held}
+use Rattle.tagged_file.specs.All.{loadCall}
 use Rattle.report.specs.Report.{textOf, settledFile, reportNumber}
 
 -- P1's file: I = 3, one node 3 5 7, one output 9

@@ -2,7 +2,7 @@
 ghost use mathlib.Core.Path.{_≡_};
 ghost use lib.ListN.{length};
 ghost use Rattle.graph.specs.Answer.{ScratchKept};
-ghost use Rattle.graph.specs.Literals.{literals};
+ghost use Rattle.graph.specs.Literals.{before, after, tableBefore, tableAfter};
 ghost use Rattle.tagged_file.specs.Load.{loadCall};
 ghost use Rattle.report.specs.Report.{reportedAnswer, reportOutcome, reportCall};
 
@@ -38,14 +38,14 @@ pub fn report(
     buffer: &mut [u8],
 ) -> Reported
     ensures { λ r.
-        let ns = literals (now («node_table» .entry)) (now («node_bits» .entry)) in
-        let os = literals (now («output_table» .entry)) (now («output_bits» .entry)) in
-        ⌜ reportOutcome (reportedAnswer r) (literals (now («node_table» .exit)) (now («node_bits» .exit))) (literals (now («output_table» .exit)) (now («output_bits» .exit))) (now (locks .exit)) (now (buffer .exit)) ≡ reportCall (now (file .entry)) ns os (now (locks .entry)) (length (now (scratch .entry))) (now (buffer .entry)) ⌝ }
-    ensures { λ r. ⌜ ScratchKept (reportedAnswer r) (now (scratch .entry)) (now (scratch .exit)) ⌝ }
+        let ns = tableBefore «node_table» «node_bits» in
+        let os = tableBefore «output_table» «output_bits» in
+        ⌜ reportOutcome (reportedAnswer r) (tableAfter «node_table» «node_bits») (tableAfter «output_table» «output_bits») (after locks) (after buffer) ≡ reportCall (before file) ns os (before locks) (length (before scratch)) (before buffer) ⌝ }
+    ensures { λ r. ⌜ ScratchKept (reportedAnswer r) (before scratch) (after scratch) ⌝ }
     ensures { λ r.
-        let ns = literals (now («node_table» .entry)) (now («node_bits» .entry)) in
-        let os = literals (now («output_table» .entry)) (now («output_bits» .entry)) in
-        ⌜ ScratchKept (loadCall (now (file .entry)) ns os (now (locks .entry)) .answer) (now (scratch .entry)) (now (scratch .exit)) ⌝ }
+        let ns = tableBefore «node_table» «node_bits» in
+        let os = tableBefore «output_table» «output_bits» in
+        ⌜ ScratchKept (loadCall (before file) ns os (before locks) .answer) (before scratch) (after scratch) ⌝ }
 {
     let nodes = room_of(node_table, node_bits);
     let outputs = room_of(output_table, output_bits);

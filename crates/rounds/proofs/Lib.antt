@@ -3,7 +3,6 @@ pub mod Steps
 pub mod Rounds
 pub mod Turns
 pub mod Rest
-pub mod Scratch
 pub mod Free
 pub mod Worked
 pub mod Promises

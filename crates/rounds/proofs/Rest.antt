@@ -28,8 +28,8 @@ unfolding later
 later-more k r = refl
 
 -- what is left after a round, of fuel that is at least C before it
-pub left-more : (ls : List ℕ) (s k f : ℕ) (p : Progress) → C (round ls s p .graph) < C (p .graph) → (f′ : ℕ) → f ≡ suc f′ → later k (settleIn (suc f) ls s p) ≡ later (suc k) (settleIn (suc f′) ls s (round ls s p))
-left-more ls s k f p b f′ e = ap (later k) (settleIn-more ls f s p b ∙ rw e) ∙ later-more k (settleIn (suc f′) ls s (round ls s p))
+pub left-more : (ls : List ℕ) (k f : ℕ) (p : Progress) → C (round ls p .graph) < C (p .graph) → (f′ : ℕ) → f ≡ suc f′ → later k (settleIn (suc f) ls p) ≡ later (suc k) (settleIn (suc f′) ls (round ls p))
+left-more ls k f p b f′ e = ap (later k) (settleIn-more ls f p b ∙ rw e) ∙ later-more k (settleIn (suc f′) ls (round ls p))
 
-pub left-last : (ls : List ℕ) (s k f : ℕ) (p : Progress) → C (p .graph) ≤ C (round ls s p .graph) → later k (settleIn (suc f) ls s p) ≡ later (suc k) (record { rounds = 0; made = round ls s p })
-left-last ls s k f p b = ap (later k) (settleIn-last ls f s p b) ∙ later-more k (record { rounds = 0; made = round ls s p })
+pub left-last : (ls : List ℕ) (k f : ℕ) (p : Progress) → C (p .graph) ≤ C (round ls p .graph) → later k (settleIn (suc f) ls p) ≡ later (suc k) (record { rounds = 0; made = round ls p })
+left-last ls k f p b = ap (later k) (settleIn-last ls f p b) ∙ later-more k (record { rounds = 0; made = round ls p })

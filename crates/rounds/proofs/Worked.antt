@@ -1,7 +1,7 @@
 -- The worked settling holds of the definitions: by computation.
 use mathlib.Core.Path.{refl}
 use mathlib.Core.List.{flatMap}
-use Rattle.graph.specs.Finite.{tab, sum, count, ifLess, ifEqual, first, firstOf}
+use Rattle.graph.specs.Finite.{tab, sum, count, ifLess, ifEqual, first, firstOf, difference}
 use Rattle.graph.specs.Graph.{turn, isXor, isEdge}
 use Rattle.graph.specs.Turned.{turnedTable, turnedBy}
 use Rattle.graph.specs.Count.{adds, wordAdds, nodeAdds, outputAdds, C, named, outputNamed, nodeReaders, readers}
@@ -11,12 +11,10 @@ use Rattle.choice.specs.Choice.{from, choices, unlessLess, least, best}
 use Rattle.moves.specs.Rows.{rows, firstRow, arity, flag, kindMoves, lockAt, movesAt}
 use Rattle.moves.specs.Apply.{at, put, seen, own, turns, outputTurns, apply}
 use Rattle.moves.specs.Tree.{isRoot, last, place, reader, rootIn, rootOf, members, tree}
-use Rattle.moves.specs.Call.{moved, movedC, bestAt, rewrite, isNode, nodeFault, wordFault, rootFault, scratchFault, nodeNumber, nodeCall, namedBy, pairNumber, pairRewrite, pairCall, treeNumber, treeCall}
-use Rattle.graph.specs.Difference.{difference}
-use Rattle.moves.specs.Split.{among, ownAdds, otherAdds, split}
+use Rattle.moves.specs.Call.{moved, movedC, bestAt, rewrite, isNode, nodeFault, wordFault, rootFault, scratchFault, nodeNumber, nodeCall, namedBy, pairNumber, pairRewrite, pairCall, treeNumber, treeCall, among, ownAdds, otherAdds, split}
 use Rattle.rounds.specs.Round.{start, after, each, treeAt, nodeAt, pairAt, pairsAt, round}
 use Rattle.rounds.specs.Settle.{settleIn, settle, settleNumber, settleCall}
-use Rattle.rounds.specs.Worked.{Settles}
+use Rattle.rounds.specs.Promises.{Settles}
 use Rattle.graph.specs.Literals.{bitOf, held, strays}
 
 pub settles : Settles

@@ -1,5 +1,5 @@
 pub mod Round
 pub mod Settle
-pub mod Free
-pub mod Worked
+pub mod Inner
+pub mod All
 pub mod Promises

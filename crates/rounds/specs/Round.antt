@@ -1,14 +1,8 @@
 -- A round (document 01's term): the tree call at each root by rising index, the node call at each node by rising index, then
--- the pair call at each node by rising index with its words in order. The locks ls are the same for all calls.
-use mathlib.Core.Bool.{cond}
-use mathlib.Core.List.{List}
-use Prim.Native.Nat.{ℕ, zero, suc}
-use lib.Dec.{eqb}
-use lib.IntN.{ℤ, pos, _+ℤ_}
-use Rattle.graph.specs.Graph.{Graph, node}
-use Rattle.graph.specs.Answer.{Outcome, ownOf, othersOf}
-use Rattle.moves.specs.Tree.{isRoot}
-use Rattle.moves.specs.Call.{nodeCall, pairCall, treeCall, wordFault}
+-- the pair call at each node by rising index with its words in order. The locks ls are the same for all calls. None of these calls is refused,
+-- so that each is here the rewriting that it makes.
+use Rattle.graph.specs.All.{ℕ, zero, suc, cond, List, [], _∷_, eqb, ℤ, pos, _+ℤ_, Graph, node, Outcome, ownOf, othersOf}
+use Rattle.moves.specs.All.{isRoot, tree, rewrite, pairRewrite, wordFault}
 
 -- calls made one after the other: what they have saved so far, over the words of the nodes that each names and over all other edges,
 -- and the graph as they leave it
@@ -31,25 +25,22 @@ unfoldable pub each : (ℕ → Progress → Progress) → ℕ → Progress → P
 each step zero p = p
 each step (suc n) p = step n (each step n p)
 
--- the tree call at node v, where it is a root, with s words of scratch
-unfoldable pub treeAt : List ℕ → ℕ → ℕ → Progress → Progress
-treeAt ls s v p = cond (isRoot (p .graph) (node (p .graph) v)) (after (λ g. treeCall g ls s (node g v)) p) p
+-- the tree call at node v, where it is a root
+unfoldable pub treeAt : List ℕ → ℕ → Progress → Progress
+treeAt ls v p = cond (isRoot (p .graph) (node (p .graph) v)) (after (λ g. rewrite g ls (tree g (node g v))) p) p
 
 -- the node call at node v
 unfoldable pub nodeAt : List ℕ → ℕ → Progress → Progress
-nodeAt ls v p = after (λ g. nodeCall g ls (node g v)) p
+nodeAt ls v p = after (λ g. rewrite g ls (node g v ∷ [])) p
 
--- the pair call at word k of node v, where the node has one: an XOR has two, a majority three
+-- the pair call at word k of node v, where the node has one: an XOR has two, a majority three; and at its words in order
 unfoldable pub pairAt : List ℕ → ℕ → ℕ → Progress → Progress
-pairAt ls v k p = cond (eqb (wordFault (p .graph) (node (p .graph) v) k) 0) (after (λ g. pairCall g ls (node g v) k) p) p
+pairAt ls v k p = cond (eqb (wordFault (p .graph) (node (p .graph) v) k) 0) (after (λ g. pairRewrite g ls (node g v) k) p) p
 
--- at its words in order
 unfoldable pub pairsAt : List ℕ → ℕ → Progress → Progress
 pairsAt ls v p = pairAt ls v 3 (pairAt ls v 2 (pairAt ls v 1 p))
 
--- the three phases over n nodes, with s words of scratch
-abbrev pub phases : List ℕ → ℕ → ℕ → Progress → Progress
-phases ls s n p = each (pairsAt ls) n (each (nodeAt ls) n (each (treeAt ls s) n p))
-
-unfoldable pub round : List ℕ → ℕ → Progress → Progress
-round ls s p = phases ls s (p .graph .N) p
+unfoldable pub round : List ℕ → Progress → Progress
+round ls p =
+    let n = p .graph .N in
+    each (pairsAt ls) n (each (nodeAt ls) n (each (treeAt ls) n p))

@@ -1,17 +1,7 @@
 -- Settling (document 01's term): rounds until one does not lower C.
-use mathlib.Core.Path.{_≡_}
-use mathlib.Core.Bool.{true}
-use mathlib.Core.List.{List, [], _∷_, map}
-use Prim.Native.Nat.{ℕ, zero, suc, _≤_, _<_}
-use Rattle.graph.specs.Finite.{ifLess, first}
-use Rattle.graph.specs.Graph.{Graph, node}
-use Rattle.graph.specs.Count.{C}
-use Rattle.graph.specs.Admission.{admissionNumber}
-use Rattle.graph.specs.Answer.{gained, Outcome, outcome, guarded}
-use Rattle.choice.specs.Choice.{Fits}
-use Rattle.moves.specs.Rows.{movesAt}
-use Rattle.moves.specs.Tree.{isRoot, tree}
-use Rattle.moves.specs.Call.{moved, scratchFault, isNode, wordFault, namedBy}
+use Rattle.graph.specs.All.{ℕ, zero, suc, _≤_, _<_, true, _≡_, List, [], _∷_, map, ifLess, first, Graph, node, C, admissionNumber, gained, Outcome, outcome, guarded}
+use Rattle.choice.specs.All.{Fits}
+use Rattle.moves.specs.All.{movesAt, isRoot, tree, moved, scratchFault, isNode, wordFault, namedBy}
 use Rattle.rounds.specs.Round.{Progress, start, round}
 
 -- how many rounds were made, and what they have saved and left
@@ -20,16 +10,16 @@ pub record Rounds : Type 0 where
   pub made : Progress
 
 -- a round after p: it is the last, or at most f more follow
-unfoldable pub settleIn : ℕ → List ℕ → ℕ → Progress → Rounds
-settleIn zero ls s p = record { rounds = 0; made = p }
-settleIn (suc f) ls s p =
-    let q = round ls s p in
-    let more = settleIn f ls s q in
+unfoldable pub settleIn : ℕ → List ℕ → Progress → Rounds
+settleIn zero ls p = record { rounds = 0; made = p }
+settleIn (suc f) ls p =
+    let q = round ls p in
+    let more = settleIn f ls q in
     ifLess (C (q .graph)) (C (p .graph)) (record { rounds = suc (more .rounds); made = more .made }) (record { rounds = 1; made = q })
 
 -- each round but the last lowers C by one at least, so that C g + 1 rounds are enough
-unfoldable pub settle : List ℕ → ℕ → Graph → Rounds
-settle ls s g = settleIn (suc (C g)) ls s (start g)
+unfoldable pub settle : List ℕ → Graph → Rounds
+settle ls g = settleIn (suc (C g)) ls (start g)
 
 -- the call, with s words of scratch: the rounds made, that last one included, with C before and after, and what all its calls saved
 unfoldable pub settleNumber : Graph → List ℕ → ℕ → ℕ
@@ -42,7 +32,7 @@ settled g r =
     outcome (gained (r .rounds ∷ C g ∷ C (p .graph) ∷ []) (p .own) (p .others)) (p .graph)
 
 unfoldable pub settleCall : Graph → List ℕ → ℕ → Outcome
-settleCall g ls s = guarded (settleNumber g ls s) g (settled g (settle ls s g))
+settleCall g ls s = guarded (settleNumber g ls s) g (settled g (settle ls g))
 
 -- no choice of moves at one node, on a pair or on a tree that leaves locked nodes alone lowers C. A pair is a node with a node that one of its words names
 pub record NothingLowers (g : Graph) (ls : List ℕ) : Type 0 where

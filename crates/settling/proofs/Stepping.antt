@@ -11,11 +11,10 @@ use lib.Dec.{leb}
 use lib.ListN.{length}
 use lib.IntN.{ℤ, _+ℤ_}
 use Rattle.graph.specs.Answer.{Outcome, othersOf}
-use Rattle.graph.specs.Difference.{difference}
+use Rattle.graph.specs.Finite.{difference}
 use Rattle.graph.specs.Graph.{Graph, node, isXor, mark}
 use Rattle.graph.specs.Turned.{turnedBy}
 use Rattle.graph.specs.Count.{C}
-use Rattle.graph.specs.Admission.{Admitted, LockBytes}
 use Rattle.graph.proofs.Cases.{true-or-false}
 use Rattle.graph.proofs.DifferenceSum.{differences-add}
 use Rattle.moves.specs.Tree.{isRoot, place, tree}
@@ -26,7 +25,7 @@ use Rattle.state.specs.Step.{Made, Parted}
 use Rattle.state.specs.declared.moving.Step.{Step}
 use Rattle.trees.specs.Stepping.{TreeMade, treeMoved}
 use Rattle.state.proofs.Alike.{alike-xor, alike-isRoot}
-use Rattle.state.proofs.Stands.{stands-alike, stands-admitted}
+use Rattle.state.proofs.Stands.{stands-alike}
 use Rattle.rounds.specs.Round.{Progress, each, treeAt, nodeAt, pairAt, pairsAt}
 use Rattle.settling.specs.Phase.{Added, Phase}
 use Rattle.settling.specs.declared.phases.Tally.{Tally}
@@ -82,13 +81,6 @@ idle-phase made g sc t o e h =
 
 -- one step of a state in order
 module _ (g : Graph) (sc : List ℕ) (o : Ordered g sc) where
-  here : (p : Progress) → p .graph ≡ stands g sc → Admitted (p .graph)
-  here p e = rw e (stands-admitted g sc (o .admitted))
-
-  same-N : (p : Progress) → p .graph ≡ stands g sc → p .graph .N ≡ g .N
-  unfolding stands turnedBy
-  same-N p e = ap (λ (x : Graph). x .N) e
-
   same-node : (p : Progress) → p .graph ≡ stands g sc → (v : ℕ) → node (p .graph) v ≡ node g v
   unfolding stands turnedBy
   same-node p e v = ap (λ (x : Graph). x .I + 1 + v) e
@@ -128,27 +120,24 @@ module _ (g : Graph) (sc : List ℕ) (o : Ordered g sc) where
       rw (q, q′, x)
 
   -- with the locks ls
-  module _ (ls : List ℕ) (ok : LockBytes (g .N) ls) where
-    locked : (p : Progress) → p .graph ≡ stands g sc → LockBytes (p .graph .N) ls
-    locked p e = rw (same-N p e) ok
-
-    pub node-phase : (v : ℕ) → v < g .N → (t : Tally) (sc′ : List ℕ) (s : Step) (u : Tally)
+  module _ (ls : List ℕ) where
+    pub node-phase : (v : ℕ) (t : Tally) (sc′ : List ℕ) (s : Step) (u : Tally)
         → Made sc g sc′ (moved (stands g sc) (node g v ∷ []) (bestAt (stands g sc) ls (node g v ∷ []))) (s .count) × Parted (rewrite (stands g sc) ls (node g v ∷ [])) s → Added t s u
         → Phase (nodeAt ls v) 1 g sc t sc′ u
     unfolding rewrite
-    node-phase v h t sc′ s u m a =
+    node-phase v t sc′ s u m a =
         by-call (nodeAt ls v) (λ x. rewrite x ls (node g v ∷ [])) t sc′ s u (m .0 .became .ordered) (m .0 .became .kept .long) (m .0 .became .stands-for) (m .0 .count) (m .1) a
-        (λ p e. rw (sym (same-node p e v)) (nodeAt-goes ls p (here p e) (locked p e) v (omega (arith, same-N p e))))
+        (λ p e. rw (sym (same-node p e v)) (nodeAt-goes ls p v))
 
-    pub pair-phase : (v k : ℕ) → v < g .N → wordFault g (node g v) k ≡ 0 → (t : Tally) (sc′ : List ℕ) (s : Step) (u : Tally)
+    pub pair-phase : (v k : ℕ) → wordFault g (node g v) k ≡ 0 → (t : Tally) (sc′ : List ℕ) (s : Step) (u : Tally)
         → Made sc g sc′ (pairRewrite (stands g sc) ls (node g v) k .graph) (s .count) × Parted (pairRewrite (stands g sc) ls (node g v) k) s → Added t s u
         → Phase (pairAt ls v k) 1 g sc t sc′ u
-    pair-phase v k h w t sc′ s u m a =
+    pair-phase v k w t sc′ s u m a =
         by-call (pairAt ls v k) (λ x. pairRewrite x ls (node g v) k) t sc′ s u (m .0 .became .ordered) (m .0 .became .kept .long) (m .0 .became .stands-for) (m .0 .count) (m .1) a
-        (λ p e. rw (sym (same-node p e v)) (pairAt-word ls p (here p e) (locked p e) v k (omega (arith, same-N p e)) (same-fault p e v k ∙ w)))
+        (λ p e. rw (sym (same-node p e v)) (pairAt-word ls p v k (same-fault p e v k ∙ w)))
 
     pub pair-idle : (v k : ℕ) (t : Tally) → (wordFault g (node g v) k ≡ 0 → ⊥) → t .count ≡ C (stands g sc) → Phase (pairAt ls v k) 1 g sc t sc t
-    pair-idle v k t w e = idle-phase (pairAt ls v k) g sc t o e (λ p q. pairAt-none ls p (here p q) (locked p q) v k (λ z. w (sym (same-fault p q v k) ∙ z)))
+    pair-idle v k t w e = idle-phase (pairAt ls v k) g sc t o e (λ p q. pairAt-none ls p v k (λ z. w (sym (same-fault p q v k) ∙ z)))
 
 -- which words a node has
 module _ (g : Graph) (v : ℕ) where
@@ -200,16 +189,14 @@ module _ (g : Graph) (sc : List ℕ) (o : Ordered g sc) (v : ℕ) (h : v < g .N)
   same-root p e =
       rw (same-node g sc o p e v) (ap (λ (y : Graph). isRoot y (node g v)) e ∙ alike-isRoot g (stands g sc) (stands-alike g sc (o .admitted)) (node g v))
 
-  module _ (ls : List ℕ) (ok : LockBytes (g .N) ls) where
-    pub tree-idle : (t : Tally) → t .count ≡ C (stands g sc) → isRoot g (node g v) ≡ false → Phase (treeAt ls (length sc) v) 1 g sc t sc t
-    tree-idle t e r = idle-phase (treeAt ls (length sc) v) g sc t o e (λ p q. treeAt-inner ls p (here g sc o p q) (locked g sc o ls ok p q) (length sc) v (same-root p q ∙ r))
+  module _ (ls : List ℕ) where
+    pub tree-idle : (t : Tally) → t .count ≡ C (stands g sc) → isRoot g (node g v) ≡ false → Phase (treeAt ls v) 1 g sc t sc t
+    tree-idle t e r = idle-phase (treeAt ls v) g sc t o e (λ p q. treeAt-inner ls p v (same-root p q ∙ r))
 
     pub tree-phase : isRoot g (node g v) ≡ true → (t : Tally) (sc′ : List ℕ) (s : Step) (u : Tally)
         → TreeMade sc g sc′ (treeMoved (stands g sc) ls (node g v)) (s .count) × Parted (rewrite (stands g sc) ls (tree (stands g sc) (node g v))) s → Added t s u
-        → Phase (treeAt ls (length sc) v) 1 g sc t sc′ u
+        → Phase (treeAt ls v) 1 g sc t sc′ u
     unfolding rewrite
     tree-phase r t sc′ s u m a =
-        by-call g sc o (treeAt ls (length sc) v) (λ x. rewrite x ls (tree x (node g v))) t sc′ s u (m .0 .ordered) (m .0 .long) (m .0 .stands-for) (m .0 .count) (m .1) a
-        (λ p e.
-        rw (sym (same-node g sc o p e v))
-        (treeAt-root ls p (here g sc o p e) (locked g sc o ls ok p e) (length sc) v (omega (arith, same-N g sc o p e)) (same-root p e ∙ r) (omega (arith, same-N g sc o p e, o .long))))
+        by-call g sc o (treeAt ls v) (λ x. rewrite x ls (tree x (node g v))) t sc′ s u (m .0 .ordered) (m .0 .long) (m .0 .stands-for) (m .0 .count) (m .1) a
+        (λ p e. rw (sym (same-node g sc o p e v)) (treeAt-root ls p v (same-root p e ∙ r)))

@@ -4,7 +4,7 @@ use mathlib.Core.List.{List, [], _∷_}
 use Prim.Native.Nat.{ℕ, _+_, _*_, _≤_}
 use lib.ListN.{length}
 use Rattle.graph.specs.Answer.{Answer, gained}
-use Rattle.graph.specs.Difference.{difference}
+use Rattle.graph.specs.Finite.{difference}
 use Rattle.graph.specs.Graph.{Graph}
 use Rattle.graph.specs.Count.{C}
 use Rattle.state.specs.State.{stands, Ordered}
@@ -41,12 +41,12 @@ pub record Phase (made : Progress → Progress) (k : ℕ) (g : Graph) (sc : List
   pub few : t′ .before ≤ t .before + k * 608195
   pub few-after : t′ .after ≤ t .after + k * 608195
 
--- scratch became what all rounds make of it, with the locks ls and s words of scratch
-pub record AllRounds (ls : List ℕ) (s : ℕ) (g : Graph) (sc sc′ : List ℕ) (r : RoundsMade) : Type 0 where
+-- scratch became what all rounds make of it, with the locks ls
+pub record AllRounds (ls : List ℕ) (g : Graph) (sc sc′ : List ℕ) (r : RoundsMade) : Type 0 where
   pub ordered : Ordered g sc′
   pub long : length sc′ ≡ length sc
-  pub carried : Carried (settle ls s (stands g sc) .made) g sc′ (r .before) (r .after)
-  pub rounds : settle ls s (stands g sc) .rounds ≡ r .rounds
+  pub carried : Carried (settle ls (stands g sc) .made) g sc′ (r .before) (r .after)
+  pub rounds : settle ls (stands g sc) .rounds ≡ r .rounds
   pub count : r .count ≡ C (stands g sc′)
   pub few : r .before ≤ 100000000000000000
   pub few-after : r .after ≤ 100000000000000000
@@ -60,11 +60,11 @@ pub record Fair (r : Figures) : Type 0 where
 abbrev pub figured : Figures → Answer
 figured r = gained (r .rounds ∷ r .before ∷ r .after ∷ []) (difference (r .before + r .later) (r .after + r .odd)) (difference (r .odd) (r .later))
 
--- the tables of g became those of h by settling with the locks ls and s words of scratch
-pub record SettledTo (ls : List ℕ) (s : ℕ) (g h : Graph) (r : Figures) : Type 0 where
-  pub graph : settle ls s g .made .graph ≡ h
-  pub others : settle ls s g .made .others ≡ difference (r .odd) (r .later)
-  pub rounds : settle ls s g .rounds ≡ r .rounds
+-- the tables of g became those of h by settling with the locks ls
+pub record SettledTo (ls : List ℕ) (g h : Graph) (r : Figures) : Type 0 where
+  pub graph : settle ls g .made .graph ≡ h
+  pub others : settle ls g .made .others ≡ difference (r .odd) (r .later)
+  pub rounds : settle ls g .rounds ≡ r .rounds
   pub before : r .before ≡ C g
   pub after : r .after ≡ C h
   pub fair : Fair r

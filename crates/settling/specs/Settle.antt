@@ -1,6 +1,5 @@
 -- What settling answers, as document 01's number and values.
-use mathlib.Core.List.{[], _∷_}
-use Rattle.graph.specs.Answer.{Answer, refused, gained, numberOf}
+use Rattle.graph.specs.All.{[], _∷_, Answer, refused, gained, numberOf}
 use Rattle.settling.specs.declared.Settled.{Settled}
 use Rattle.settling.specs.declared.Settled.the-variants as answer
 

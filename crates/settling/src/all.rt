@@ -6,7 +6,7 @@ ghost use Rattle.graph.specs.Admission.{Admitted, LockBytes};
 ghost use Rattle.graph.specs.Count.{C};
 ghost use Rattle.graph.specs.Literals.{graphIn};
 ghost use Rattle.state.specs.State.{stands, Ordered};
-ghost use Rattle.rounds.specs.Round.{phases};
+ghost use Rattle.rounds.specs.Inner.{phases};
 ghost use Rattle.settling.specs.Phase.{Room, Phase, AllRounds, SettledTo};
 use crate::phases;
 use crate::phases::Tally;
@@ -44,7 +44,7 @@ pub fn one_round(
         ⌜ Ordered g (now scratch) × (tally .count ≡ C (stands g (now scratch))) × Room tally 100000000000000000 × LockBytes nodes (now locks) ⌝ }
     ensures { λ r.
         let g = graphIn inputs nodes outputs (now («node_table» .entry)) (now («node_bits» .entry)) (now («output_table» .entry)) (now («output_bits» .entry)) in
-        ⌜ Phase (phases (now (locks .entry)) (length (now (scratch .entry))) nodes) 500000 g (now (scratch .entry)) tally (now (scratch .exit)) r ⌝ }
+        ⌜ Phase (phases (now (locks .entry)) nodes) 500000 g (now (scratch .entry)) tally (now (scratch .exit)) r ⌝ }
 {
     let a = phases::tree_calls(
         inputs,
@@ -101,7 +101,7 @@ pub fn all_rounds(
         ⌜ Ordered g (now scratch) × (count ≡ C (stands g (now scratch))) × LockBytes nodes (now locks) ⌝ }
     ensures { λ r.
         let g = graphIn inputs nodes outputs (now («node_table» .entry)) (now («node_bits» .entry)) (now («output_table» .entry)) (now («output_bits» .entry)) in
-        ⌜ AllRounds (now (locks .entry)) (length (now (scratch .entry))) g (now (scratch .entry)) (now (scratch .exit)) r ⌝ }
+        ⌜ AllRounds (now (locks .entry)) g (now (scratch .entry)) (now (scratch .exit)) r ⌝ }
 {
     let mut rounds: u32 = 0;
     let mut before = count + 1;
@@ -153,7 +153,7 @@ pub fn settle_admitted(
     ensures { λ r.
         let g = graphIn inputs nodes outputs (now («node_table» .entry)) (now («node_bits» .entry)) (now («output_table» .entry)) (now («output_bits» .entry)) in
         let k = graphIn inputs nodes outputs (now («node_table» .entry)) (now («node_bits» .exit)) (now («output_table» .entry)) (now («output_bits» .exit)) in
-        ⌜ SettledTo (now (locks .entry)) (length (now (scratch .entry))) g k r ⌝ }
+        ⌜ SettledTo (now (locks .entry)) g k r ⌝ }
 {
     let before = graph::edges::complemented(
         inputs,

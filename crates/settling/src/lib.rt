@@ -1,7 +1,7 @@
 ghost use mathlib.Core.Path.{_≡_};
 ghost use lib.ListN.{length};
 ghost use Rattle.graph.specs.Answer.{outcome, ScratchKept};
-ghost use Rattle.graph.specs.Literals.{graphIn};
+ghost use Rattle.graph.specs.Literals.{before, after, graphBefore, graphAfter};
 ghost use Rattle.rounds.specs.Settle.{settleCall};
 ghost use Rattle.settling.specs.Settle.{settledAnswer};
 ghost use Rattle.settling.specs.Phase.{Fair, figured};
@@ -57,10 +57,10 @@ pub fn settle(
     scratch: &mut [u32],
 ) -> Settled
     ensures call { λ r.
-        let g = graphIn inputs nodes outputs (now («node_table» .entry)) (now («node_bits» .entry)) (now («output_table» .entry)) (now («output_bits» .entry)) in
-        let k = graphIn inputs nodes outputs (now («node_table» .entry)) (now («node_bits» .exit)) (now («output_table» .entry)) (now («output_bits» .exit)) in
-        ⌜ outcome (settledAnswer r) k ≡ settleCall g (now (locks .entry)) (length (now (scratch .entry))) ⌝ }
-    ensures scratch { λ r. ⌜ ScratchKept (settledAnswer r) (now (scratch .entry)) (now (scratch .exit)) ⌝ }
+        let g = graphBefore inputs nodes outputs «node_table» «node_bits» «output_table» «output_bits» in
+        let k = graphAfter inputs nodes outputs «node_table» «node_bits» «output_table» «output_bits» in
+        ⌜ outcome (settledAnswer r) k ≡ settleCall g (before locks) (length (before scratch)) ⌝ }
+    ensures scratch { λ r. ⌜ ScratchKept (settledAnswer r) (before scratch) (after scratch) ⌝ }
 {
     let refusal = faults::settle_number(
         inputs,

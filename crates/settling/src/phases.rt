@@ -51,7 +51,7 @@ pub fn tree_call_at(
         ⌜ Ordered g (now scratch) × (v < nodes) × (tally .count ≡ C (stands g (now scratch))) × Room tally 300000000000000000 × LockBytes nodes (now locks) ⌝ }
     ensures { λ r.
         let g = graphIn inputs nodes outputs (now («node_table» .entry)) (now («node_bits» .entry)) (now («output_table» .entry)) (now («output_bits» .entry)) in
-        ⌜ Phase (treeAt (now (locks .entry)) (length (now (scratch .entry))) v) 1 g (now (scratch .entry)) tally (now (scratch .exit)) r ⌝ }
+        ⌜ Phase (treeAt (now (locks .entry)) v) 1 g (now (scratch .entry)) tally (now (scratch .exit)) r ⌝ }
 {
     let only = 8 * v + 3;
     if scratch[only] != MARK {
@@ -90,7 +90,7 @@ pub fn tree_calls(
         ⌜ Ordered g (now scratch) × (tally .count ≡ C (stands g (now scratch))) × Room tally 200000000000000000 × LockBytes nodes (now locks) ⌝ }
     ensures { λ r.
         let g = graphIn inputs nodes outputs (now («node_table» .entry)) (now («node_bits» .entry)) (now («output_table» .entry)) (now («output_bits» .entry)) in
-        ⌜ Phase (each (treeAt (now (locks .entry)) (length (now (scratch .entry)))) nodes) nodes g (now (scratch .entry)) tally (now (scratch .exit)) r ⌝ }
+        ⌜ Phase (each (treeAt (now (locks .entry))) nodes) nodes g (now (scratch .entry)) tally (now (scratch .exit)) r ⌝ }
 {
     let end = nodes as usize;
     let mut t = tally;

@@ -10,7 +10,7 @@ use Rattle.graph.specs.Count.{C, readers}
 use Rattle.graph.specs.Finite.{count}
 use Rattle.graph.specs.Graph.{Graph, node, isXor}
 use Rattle.graph.proofs.Adds.{C-le}
-use Rattle.choice.specs.Choice.{FirstBelow}
+use Rattle.choice.specs.Inner.{FirstBelow}
 use Rattle.moves.specs.Apply.{none, at, put, apply}
 use Rattle.moves.specs.Call.{moved, bestAt}
 use Rattle.moves.specs.Cost.{shown}

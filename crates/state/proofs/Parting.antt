@@ -4,9 +4,9 @@ use mathlib.Core.List.{List, [], _∷_}
 use Prim.Native.Nat.{ℕ, _<_}
 use native.Mathlib.Omega.{arith}
 use Rattle.graph.specs.Answer.{Outcome, othersOf}
-use Rattle.graph.specs.Difference.{difference}
+use Rattle.graph.specs.Finite.{difference}
 use Rattle.graph.specs.Graph.{Graph, node}
-use Rattle.choice.specs.Choice.{FirstBelow}
+use Rattle.choice.specs.Inner.{FirstBelow}
 use Rattle.moves.specs.Call.{bestAt, rewrite}
 use Rattle.moves.specs.Decide.{numbersOf, naming, costOf}
 use Rattle.moves.specs.Outside.{NodeOdds, PairOdds}

@@ -6,7 +6,7 @@ use mathlib.Core.List.{List}
 use Prim.Native.Nat.{ℕ, _*_, _≤_, _<_}
 use lib.ListN.{length}
 use Rattle.graph.specs.Answer.{Outcome, othersOf}
-use Rattle.graph.specs.Difference.{difference}
+use Rattle.graph.specs.Finite.{difference}
 use Rattle.graph.specs.Graph.{Graph}
 use Rattle.graph.specs.Count.{C, named, outputNamed}
 use Rattle.graph.specs.Turned.{turnedBy, upTo, only, never}

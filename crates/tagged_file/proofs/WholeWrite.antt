@@ -8,7 +8,8 @@ use lib.ListN.{length, length-append}
 use lib.Seq.{sets}
 use Rattle.graph.specs.Graph.{Graph}
 use Rattle.graph.specs.Admission.{admissionNumber}
-use Rattle.graph.specs.Answer.{IsRefusal, accepted, refused}
+use Rattle.graph.specs.Answer.{accepted, refused}
+use Rattle.graph.specs.Inner.{IsRefusal}
 use Rattle.graph.proofs.Tests.{both, off}
 use Rattle.graph.proofs.Answers.{ifLess-le, first-le, admission-le}
 use Rattle.tagged_file.specs.Write.{big, fieldOf, headField, endField, nodeFieldAt, outputFieldAt, lockFieldAt, inOrder, fileOf, writeNumber, writeOutcome, writeBy, writeCall}

@@ -1,4 +1,5 @@
 pub mod Load
 pub mod Write
 pub mod Inner
+pub mod All
 pub mod Promises

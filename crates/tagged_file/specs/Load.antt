@@ -1,14 +1,8 @@
 -- What loading answers, and what it leaves in the tables and the lock bytes.
-use Prim.Native.Nat.{ℕ, _+_}
-use mathlib.Core.List.{List, [], _∷_, _++_}
-use lib.ListN.{length, drop}
-use Rattle.graph.specs.Finite.{ifEqual, tab}
-use Rattle.graph.specs.Graph.{Graph, graphOf}
-use Rattle.graph.specs.Literals.{held, filled}
-use Rattle.graph.specs.Answer.{Answer, accepted, refused, numberOf, LockedOutcome, lockedOutcome, guardedLocks}
+use Rattle.graph.specs.All.{ℕ, _+_, List, [], _∷_, _++_, length, drop, ifEqual, tab, Graph, graphOf, held, filled, Answer, accepted, refused, numberOf, LockedOutcome, lockedOutcome, guardedLocks}
+use Rattle.file_checks.specs.All.{be4, fileNumber, nodeWords, singleWords, afterNodes, locksFrom, lockIndices}
 use Rattle.tagged_file.specs.declared.Loaded.{Loaded}
 use Rattle.tagged_file.specs.declared.Loaded.the-variants as loaded
-use Rattle.file_checks.specs.File.{be4, fileNumber, nodeWords, singleWords, afterNodes, locksFrom, lockIndices}
 
 abbrev pub loadedAnswer : Loaded → Answer
 loadedAnswer (loaded.Graph i n o) = accepted (i ∷ n ∷ o ∷ [])

@@ -1,14 +1,6 @@
 -- What files promise beside their definitions: loading and writing a graph with its locks are opposite to each other.
-use mathlib.Core.Path.{_≡_}
-use mathlib.Core.List.{List, [], _∷_, _++_}
-use Prim.Native.Nat.{ℕ, _*_, _≤_, _<_}
-use lib.ListN.{length, getD, take, drop}
-use Rattle.graph.specs.Graph.{Graph, graphOf, word, output}
-use Rattle.graph.specs.Literals.{held, filled}
-use Rattle.graph.specs.Admission.{Admitted, LockBytes}
-use Rattle.graph.specs.Answer.{accepted, LockedOutcome, lockedOutcome}
-use Rattle.tagged_file.specs.Load.{freeLocks, loadCall}
-use Rattle.tagged_file.specs.Write.{headField, nodeFieldAt, outputFieldAt, endField, inOrder, fileOf}
+use Rattle.graph.specs.All.{ℕ, _*_, _≤_, _<_, _≡_, List, [], _∷_, _++_, length, getD, take, drop, Graph, graphOf, word, output, held, filled, Admitted, LockBytes, accepted, LockedOutcome, lockedOutcome}
+use Rattle.tagged_file.specs.{Load.freeLocks, Load.loadCall, Write.headField, Write.nodeFieldAt, Write.outputFieldAt, Write.endField, Write.inOrder, Write.fileOf}
 
 -- a list of bytes
 abbrev pub Bytes : List ℕ → Type 0

@@ -1,11 +1,5 @@
 -- The file of a graph with its locks, and what writing answers and leaves in the buffer.
-use Prim.Native.Nat.{ℕ, zero, suc, _+_, _*_, _/_, _%_}
-use mathlib.Core.List.{List, [], _∷_, _++_}
-use lib.ListN.{length, getD, drop}
-use Rattle.graph.specs.Finite.{ifLess, ifEqual, first}
-use Rattle.graph.specs.Graph.{Graph, mark}
-use Rattle.graph.specs.Admission.{admissionNumber}
-use Rattle.graph.specs.Answer.{Answer, accepted, refused, numberOf}
+use Rattle.graph.specs.All.{ℕ, zero, suc, _+_, _*_, _/_, _%_, List, [], _∷_, _++_, length, getD, drop, ifLess, ifEqual, first, Graph, mark, admissionNumber, Answer, accepted, refused, numberOf}
 use Rattle.tagged_file.specs.declared.Written.{Written}
 use Rattle.tagged_file.specs.declared.Written.the-variants as written
 

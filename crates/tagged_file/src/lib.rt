@@ -1,7 +1,7 @@
 // The tagged file: one field of it, loading a graph from it, writing a graph as one.
 ghost use mathlib.Core.Path.{_≡_};
 ghost use Rattle.graph.specs.Answer.{lockedOutcome};
-ghost use Rattle.graph.specs.Literals.{graphIn, literals};
+ghost use Rattle.graph.specs.Literals.{before, after, tableBefore, tableAfter, graphBefore};
 ghost use Rattle.file_checks.specs.File.{fieldNumber, fieldPayload};
 ghost use Rattle.tagged_file.specs.Load.{loadedAnswer, loadedGraph, loadCall};
 ghost use Rattle.tagged_file.specs.Write.{writtenAnswer, writeOutcome, writeCall};
@@ -32,14 +32,14 @@ pub enum Written {
 
 // The number that refuses the field at the front, 0 where it is accepted.
 pub fn field_number(bytes: &[u8]) -> u32
-    ensures { λ r. ⌜ r ≡ fieldNumber (now (bytes .entry)) ⌝ }
+    ensures { λ r. ⌜ r ≡ fieldNumber (before bytes) ⌝ }
 {
     fields::due(bytes, 1, 6)
 }
 
 // The payload of the field at the front, empty where it is refused.
 pub fn field(bytes: &[u8]) -> &[u8]
-    ensures { λ r. ⌜ now r ≡ fieldPayload (now (bytes .entry)) ⌝ }
+    ensures { λ r. ⌜ now r ≡ fieldPayload (before bytes) ⌝ }
 {
     if fields::due(bytes, 1, 6) != 0 {
         return &bytes[..0];
@@ -58,10 +58,10 @@ pub fn load(
     locks: &mut [u8],
 ) -> Loaded
     ensures { λ r.
-        let ns = literals (now («node_table» .entry)) (now («node_bits» .entry)) in
-        let os = literals (now («output_table» .entry)) (now («output_bits» .entry)) in
-        let g = loadedGraph r (literals (now («node_table» .exit)) (now («node_bits» .exit))) (literals (now («output_table» .exit)) (now («output_bits» .exit))) in
-        ⌜ lockedOutcome (loadedAnswer r) g (now (locks .exit)) ≡ loadCall (now (file .entry)) ns os (now (locks .entry)) ⌝ }
+        let ns = tableBefore «node_table» «node_bits» in
+        let os = tableBefore «output_table» «output_bits» in
+        ⌜ lockedOutcome (loadedAnswer r) (loadedGraph r (tableAfter «node_table» «node_bits») (tableAfter «output_table» «output_bits»)) (after locks)
+        ≡ loadCall (before file) ns os (before locks) ⌝ }
 {
     let refusal = file_checks::faults::file_number(
         file,
@@ -99,8 +99,8 @@ pub fn write(
     buffer: &mut [u8],
 ) -> Written
     ensures { λ r.
-        let g = graphIn inputs nodes outputs (now («node_table» .entry)) (now («node_bits» .entry)) (now («output_table» .entry)) (now («output_bits» .entry)) in
-        ⌜ writeOutcome (writtenAnswer r) (now (buffer .exit)) ≡ writeCall g (now (locks .entry)) (now (buffer .entry)) ⌝ }
+        let g = graphBefore inputs nodes outputs «node_table» «node_bits» «output_table» «output_bits» in
+        ⌜ writeOutcome (writtenAnswer r) (after buffer) ≡ writeCall g (before locks) (before buffer) ⌝ }
 {
     let number = faults::write_number(
         inputs,

@@ -12,12 +12,14 @@ use Rattle.graph.specs.Graph.{Graph}
 use Rattle.graph.specs.Count.{readers, nodeReaders}
 use Rattle.graph.specs.Admission.{admissionNumber, Admitted}
 use Rattle.graph.proofs.Admit.{admitted, locks-admitted}
-use Rattle.graph.specs.Answer.{Answer, IsRefusal, Outcome, outcome, refused}
+use Rattle.graph.specs.Answer.{Answer, Outcome, outcome, refused}
+use Rattle.graph.specs.Inner.{IsRefusal}
 use Rattle.graph.proofs.Answers.{first-le, ifLess-le, admission-le, refused-outcome, accepted-outcome}
 use Rattle.graph.proofs.Cases.{cond-le}
 use Rattle.graph.proofs.Tests.{off, both, fault, none, passes, less, no-less}
 use Rattle.moves.specs.Call.{nodeFault, rootFault, scratchFault, treeNumber, rewrite, treeCall}
-use Rattle.moves.specs.Tree.{isRoot, IsRoot, tree}
+use Rattle.moves.specs.Tree.{isRoot, tree}
+use Rattle.moves.specs.Compose.{IsRoot}
 use Rattle.moves.proofs.Known.{node-known, node-fault-le}
 
 -- the test of a root, as the code makes it

@@ -7,10 +7,11 @@ use native.Mathlib.Omega.{arith}
 use Rattle.graph.specs.Graph.{Graph, node}
 use Rattle.graph.specs.Count.{C}
 use Rattle.graph.specs.Answer.{Answer, othersOf, outcome}
-use Rattle.graph.specs.Difference.{difference}
+use Rattle.graph.specs.Finite.{difference}
 use Rattle.moves.specs.Call.{rewrite}
 use Rattle.moves.specs.Outside.{savedBy}
-use Rattle.moves.specs.Tree.{isRoot, IsRoot, tree}
+use Rattle.moves.specs.Tree.{isRoot, tree}
+use Rattle.moves.specs.Compose.{IsRoot}
 use Rattle.moves.proofs.Split.{rewrite-others, saved-outcome}
 use Rattle.state.specs.State.{stands}
 use Rattle.state.specs.Step.{Made, Parted}

@@ -1,7 +1,7 @@
 ghost use mathlib.Core.Path.{_≡_};
 ghost use lib.ListN.{length};
 ghost use Rattle.graph.specs.Answer.{outcome, ScratchKept};
-ghost use Rattle.graph.specs.Literals.{graphIn};
+ghost use Rattle.graph.specs.Literals.{before, after, graphBefore, graphAfter};
 ghost use Rattle.moves.specs.Call.{savingAnswer, treeCall};
 
 pub mod faults;
@@ -26,10 +26,10 @@ pub fn tree_call(
     scratch: &mut [u32],
 ) -> Saving
     ensures outcome { λ r.
-        let g = graphIn inputs nodes outputs (now («node_table» .entry)) (now («node_bits» .entry)) (now («output_table» .entry)) (now («output_bits» .entry)) in
-        let k = graphIn inputs nodes outputs (now («node_table» .entry)) (now («node_bits» .exit)) (now («output_table» .entry)) (now («output_bits» .exit)) in
-        ⌜ outcome (savingAnswer r) k ≡ treeCall g (now (locks .entry)) (length (now (scratch .entry))) root ⌝ }
-    ensures scratch { λ r. ⌜ ScratchKept (savingAnswer r) (now (scratch .entry)) (now (scratch .exit)) ⌝ }
+        let g = graphBefore inputs nodes outputs «node_table» «node_bits» «output_table» «output_bits» in
+        let k = graphAfter inputs nodes outputs «node_table» «node_bits» «output_table» «output_bits» in
+        ⌜ outcome (savingAnswer r) k ≡ treeCall g (before locks) (length (before scratch)) root ⌝ }
+    ensures scratch { λ r. ⌜ ScratchKept (savingAnswer r) (before scratch) (after scratch) ⌝ }
 {
     let number = faults::tree_number(
         inputs,

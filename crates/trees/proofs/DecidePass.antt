@@ -12,7 +12,7 @@ use Rattle.graph.specs.Count.{readers}
 use Rattle.graph.specs.Admission.{Admitted}
 use Rattle.graph.proofs.Cases.{eq-or-ne, lt-or-le}
 use Rattle.graph.proofs.Tests.{equal, unequal}
-use Rattle.choice.specs.Choice.{FirstBelow}
+use Rattle.choice.specs.Inner.{FirstBelow}
 use Rattle.moves.specs.Rows.{movesAt}
 use Rattle.moves.specs.Apply.{own}
 use Rattle.moves.specs.Tree.{isRoot, place, rootOf}

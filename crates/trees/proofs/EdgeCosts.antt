@@ -10,7 +10,7 @@ use lib.Dec.{eqb}
 use Rattle.graph.specs.Finite.{ifEqual}
 use Rattle.graph.specs.Graph.{Graph, mark, node, word, isEdge, isXor}
 use Rattle.moves.specs.Cost.{edgeCost, turnedCost, wordCosts, bitCost}
-use Rattle.choice.specs.Choice.{FirstBelow}
+use Rattle.choice.specs.Inner.{FirstBelow}
 use Rattle.moves.specs.Rows.{movesAt}
 use Rattle.moves.specs.Decide.{Numbers, MovesOf, numbersOf, costWith}
 use Rattle.moves.proofs.Deciding as deciding

@@ -11,7 +11,8 @@ use Rattle.graph.specs.Graph.{Graph, node, isXor}
 use Rattle.graph.specs.Admission.{Admitted}
 use Rattle.graph.proofs.Cases.{eq-or-ne, lt-or-le}
 use Rattle.moves.specs.Rows.{kindMoves}
-use Rattle.moves.specs.Apply.{Choice, Permitted, none, at, put, apply, compose}
+use Rattle.moves.specs.Apply.{Choice, none, at, put, apply}
+use Rattle.moves.specs.Compose.{Permitted, compose}
 use Rattle.moves.specs.Tree.{rootOf, tree}
 use Rattle.moves.specs.Call.{moved, bestAt}
 use Rattle.moves.proofs.Changed.{at-same, at-other}

@@ -8,7 +8,7 @@ use native.Mathlib.Omega.{arith}
 use Rattle.graph.specs.Graph.{Graph, node}
 use Rattle.graph.specs.Turned.{turnedBy}
 use Rattle.graph.specs.Answer.{othersOf}
-use Rattle.graph.specs.Difference.{difference}
+use Rattle.graph.specs.Finite.{difference}
 use Rattle.moves.specs.Call.{rewrite}
 use Rattle.moves.specs.Cost.{shown}
 use Rattle.moves.specs.Decide.{numbersOf}

@@ -5,7 +5,7 @@ use mathlib.Core.List.{List}
 use Prim.Native.Nat.{ℕ, _+_, _-_, _*_, _/_, _%_, _≤_}
 use native.Mathlib.Omega.{arith}
 use Rattle.graph.specs.Graph.{Graph, node, isXor}
-use Rattle.choice.specs.Choice.{FirstBelow}
+use Rattle.choice.specs.Inner.{FirstBelow}
 use Rattle.moves.specs.Rows.{movesAt}
 use Rattle.moves.specs.Cost.{wordCosts, nodeCost, baseCost, bitCost}
 use Rattle.moves.specs.Decide.{costWith}

@@ -10,7 +10,7 @@ use lib.ListN.{length, getD}
 use Rattle.graph.specs.Finite.{ifEqual}
 use Rattle.graph.specs.Graph.{Graph, mark, node}
 use Rattle.moves.specs.Tree.{rootOf}
-use Rattle.choice.specs.Choice.{FirstBelow}
+use Rattle.choice.specs.Inner.{FirstBelow}
 use Rattle.moves.specs.Cost.{inner, bitCost}
 use Rattle.moves.specs.Decide.{costWith}
 use Rattle.state.specs.State.{field}

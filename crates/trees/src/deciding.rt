@@ -5,7 +5,7 @@ ghost use Prim.Native.Nat.{_+_, _*_, _/_, _≤_, _<_};
 ghost use lib.ListN.{length};
 ghost use Rattle.graph.specs.Graph.{isEdge, isXor};
 ghost use Rattle.graph.specs.Literals.{graphIn};
-ghost use Rattle.choice.specs.Choice.{FirstBelow};
+ghost use Rattle.choice.specs.Inner.{FirstBelow};
 ghost use Rattle.moves.specs.Rows.{kindMoves, movesAt};
 ghost use Rattle.moves.specs.Tree.{isRoot};
 ghost use Rattle.moves.specs.Cost.{wordCosts};

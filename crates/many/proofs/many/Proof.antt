@@ -3,7 +3,7 @@ use borrow.Author.Needs.{needs}
 use mathlib.Core.Path.{sym, ap, ap₂, _∙_}
 use Rattle.graph.specs.Answer.{whole, outcome}
 use Rattle.graph.specs.Count.{C}
-use Rattle.graph.specs.Difference.{difference}
+use Rattle.graph.specs.Finite.{difference}
 use Rattle.graph.specs.Graph.{Graph, graphOf}
 use Rattle.graph.proofs.Answers.{refused-outcome, accepted-outcome}
 use Rattle.graph.proofs.Difference.{read-as}

@@ -5,7 +5,7 @@ use Rattle.graph.specs.Graph.{Graph, graphOf}
 use Rattle.graph.specs.Answer.{whole}
 use Rattle.graph.proofs.Answers.{refused-is, accepted-is}
 use Rattle.graph.proofs.Difference.{read-as}
-use Rattle.moves.specs.Trial.{trialNumber, trialSaving, trialCall}
+use Rattle.moves.specs.Call.{trialNumber, trialSaving, trialCall}
 use Rattle.node_call.proofs.Refusing.{trial-range}
 use Rattle.graph.specs.Literals.{literals}
 use Rattle.node_call.proofs.trial.Statement.{statement}

@@ -10,7 +10,7 @@ use Rattle.reducer.proofs.reducer_export.Tie as tie
 returns : tie.Need-returns
 returns c =
     let t = c .before .before .before .before .before .before .before .export .ensures in
-    (text-left _ _ (c .written-number .ensures) _ _ _ _ (c .before .written-told .ensures) (t .0), same-kept _ _ (ap (λ (o : WriteOutcome). o .answer) (t .0)) (t .1))
+    (text-left _ _ (c .written-number .ensures) _ _ _ (c .before .written-told .ensures) (t .0), same-kept _ _ (ap (λ (o : WriteOutcome). o .answer) (t .0)) (t .1))
 
 pub reducer-export-spec : {M : Type 1} → statement M
 reducer-export-spec =

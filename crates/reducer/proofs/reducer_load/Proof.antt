@@ -7,7 +7,7 @@ use Rattle.reducer.proofs.reducer_load.Tie as tie
 returns : tie.Need-returns
 returns c =
     let l = c .before .before .before .before .before .before .before .before .before .before .before .before .before .load in
-    graph-left _ _ (c .loaded-number .ensures) _ _ _ _ _ _ _ (c .before .loaded-told .ensures) (loaded-nodes (l .result) _ _) (loaded-outputs (l .result) _ _) (l .ensures)
+    graph-left _ _ (c .loaded-number .ensures) _ _ _ _ _ _ _ _ (c .before .loaded-told .ensures) (loaded-nodes (l .result) _ _) (loaded-outputs (l .result) _ _) (l .ensures)
 
 pub reducer-load-spec : {M : Type 1} → statement M
 reducer-load-spec =

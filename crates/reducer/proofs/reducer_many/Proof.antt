@@ -10,11 +10,12 @@ use Rattle.reducer.proofs.reducer_many.Tie as tie
 returns : tie.Need-returns
 returns c =
     let told = c .before in
-    let e = told .before .before .before .before .before .before .many .ensures in (
-      c .gain-number .ensures ∙ ap (λ (o : Outcome). o .answer .number) e,
-      ap (λ (o : Outcome). o .graph) e,
-      read-as _ (told .gain-told .ok) ∙ told .gain-told .ensures ∙ same-gain (ap (λ (o : Outcome). o .answer) e) (read-as _ (told .before .before2 .given)),
-    )
+    let e = told .before .before .before .before .before .before .many .ensures in
+    record {
+      number = c .gain-number .ensures ∙ ap (λ (o : Outcome). o .answer .number) e;
+      graph = ap (λ (o : Outcome). o .graph) e;
+      tells = read-as _ (told .gain-told .ok) ∙ told .gain-told .ensures ∙ same-gain (ap (λ (o : Outcome). o .answer) e) (read-as _ (told .before .before2 .given));
+    }
 
 pub reducer-many-spec : {M : Type 1} → statement M
 reducer-many-spec =

@@ -5,7 +5,7 @@ use Rattle.reducer.proofs.reducer_node.Statement.{statement}
 use Rattle.reducer.proofs.reducer_node.Tie as tie
 
 returns : tie.Need-returns
-returns c = saving-left _ _ (c .saving-number .ensures) _ _ _ _ (c .before .saving-told .ensures) (c .before .before .before .before .before .before .before .node-call .ensures)
+returns c = saving-left _ _ (c .saving-number .ensures) _ _ _ (c .before .saving-told .ensures) (c .before .before .before .before .before .before .before .node-call .ensures)
 
 pub reducer-node-spec : {M : Type 1} → statement M
 reducer-node-spec =

@@ -5,7 +5,7 @@ use Rattle.reducer.proofs.reducer_pair.Statement.{statement}
 use Rattle.reducer.proofs.reducer_pair.Tie as tie
 
 returns : tie.Need-returns
-returns c = saving-left _ _ (c .saving-number .ensures) _ _ _ _ (c .before .saving-told .ensures) (c .before .before .before .before .before .before .before .pair-call .ensures)
+returns c = saving-left _ _ (c .saving-number .ensures) _ _ _ (c .before .saving-told .ensures) (c .before .before .before .before .before .before .before .pair-call .ensures)
 
 pub reducer-pair-spec : {M : Type 1} → statement M
 reducer-pair-spec =

@@ -11,7 +11,7 @@ returns c =
     let p = c .before .before .before .before .before .before .before .before .before .before .before .before .before .before .before .before .replay in
     let e = p .ensures .0 in
     let t = c .before .replayed-told .ensures in (
-      graph-left _ _ (c .replayed-number .ensures) _ _ _ _ _ _ _ t (replayed-nodes (p .result) _ _) (replayed-outputs (p .result) _ _) e,
+      graph-left _ _ (c .replayed-number .ensures) _ _ _ _ _ _ _ _ t (replayed-nodes (p .result) _ _) (replayed-outputs (p .result) _ _) e,
       (
         p .ensures .1 .0,
         (

@@ -11,11 +11,8 @@ returns : tie.Need-returns
 returns c =
     let t = c .before .before .before .before .before .before .before .before .before .before .before .settle .ensures in
     let a = ap (λ (o : Outcome). o .answer) (t .0) in (
-      (
-        saving-left _ _ (c .settled-number .ensures) _ _ _ _ (c .before .settled-sums .ensures) (t .0),
-        c .before .before .before .settled-told .ensures ∙ same-told _ a,
-      ),
-      same-kept _ _ a (t .1),
+      saving-left _ _ (c .settled-number .ensures) _ _ _ (c .before .settled-sums .ensures) (t .0),
+      (c .before .before .before .settled-told .ensures ∙ same-told _ a, same-kept _ _ a (t .1)),
     )
 
 pub reducer-settle-spec : {M : Type 1} → statement M

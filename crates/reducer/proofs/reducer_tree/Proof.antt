@@ -9,7 +9,7 @@ use Rattle.reducer.proofs.reducer_tree.Tie as tie
 returns : tie.Need-returns
 returns c =
     let t = c .before .before .before .before .before .before .before .before .before .tree-call .ensures in
-    (saving-left _ _ (c .saving-number .ensures) _ _ _ _ (c .before .saving-told .ensures) (t .0), same-kept _ _ (ap (λ (o : Outcome). o .answer) (t .0)) (t .1))
+    (saving-left _ _ (c .saving-number .ensures) _ _ _ (c .before .saving-told .ensures) (t .0), same-kept _ _ (ap (λ (o : Outcome). o .answer) (t .0)) (t .1))
 
 pub reducer-tree-spec : {M : Type 1} → statement M
 reducer-tree-spec =

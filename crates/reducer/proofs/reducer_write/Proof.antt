@@ -6,7 +6,7 @@ use Rattle.reducer.proofs.reducer_write.Statement.{statement}
 use Rattle.reducer.proofs.reducer_write.Tie as tie
 
 returns : tie.Need-returns
-returns c = text-left _ _ (c .written-number .ensures) _ _ _ _ (c .before .written-told .ensures) (c .before .before .before .before .before .write .ensures)
+returns c = text-left _ _ (c .written-number .ensures) _ _ _ (c .before .written-told .ensures) (c .before .before .before .before .before .write .ensures)
 
 pub reducer-write-spec : {M : Type 1} → statement M
 reducer-write-spec =

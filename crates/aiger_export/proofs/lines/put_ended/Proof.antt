@@ -1,7 +1,7 @@
 -- `put_ended` meets its contract: a number, and a byte after it. From the laws on runs of stores.
 use mathlib.Core.Path.{refl}
 use mathlib.Core.List.{[], _∷_}
-use Rattle.graph.specs.Decimal.{decimal}
+use Rattle.graph.specs.Finite.{decimal}
 use Rattle.tagged_file.proofs.Stores.{in-a-row}
 use Rattle.aiger.specs.Export.{ended}
 use Rattle.aiger.proofs.Length.{length-ended}

@@ -4,7 +4,7 @@ use borrow.Author.Needs.{needs}
 use mir.Syntax.{w64}
 use mir.ValLaws.{toZ-ofZ}
 use Rattle.graph.proofs.Difference.{read-as}
-use Rattle.moves.specs.Trial.{gainAnswer}
+use Rattle.moves.specs.Call.{gainAnswer}
 use Rattle.answers.specs.Told.{toldGain}
 use Rattle.answers.proofs.told.gain_told.Statement.{statement}
 use Rattle.answers.proofs.told.gain_told.Tie as tie

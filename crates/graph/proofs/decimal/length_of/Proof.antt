@@ -3,7 +3,7 @@ use mathlib.Core.Path.{_≡_, refl}
 use Prim.Native.Nat.{_+_, _≤_}
 use native.Mathlib.Omega.{arith}
 use lib.ListN.{length}
-use Rattle.graph.specs.Decimal.{decimal}
+use Rattle.graph.specs.Finite.{decimal}
 use Rattle.graph.proofs.Digits.{length-small, length-more, length-some, length-at-most}
 use Rattle.graph.proofs.decimal.length_of.Statement.{statement}
 use Rattle.graph.proofs.decimal.length_of.Tie as tie

@@ -4,7 +4,7 @@ use mathlib.Core.Path.{_≡_, ap, ap₂, _∙_}
 use native.Mathlib.Omega.{arith}
 use borrow.Author.Needs.{needs}
 use Rattle.graph.specs.Count.{C}
-use Rattle.graph.specs.Difference.{difference}
+use Rattle.graph.specs.Finite.{difference}
 use Rattle.graph.specs.Graph.{Graph, graphOf}
 use Rattle.graph.specs.Literals.{literals}
 use Rattle.graph.proofs.Difference.{read-as}

@@ -7,8 +7,7 @@ use Rattle.graph.specs.Graph.{Graph, graphOf}
 use Rattle.graph.specs.Literals.{literals}
 use Rattle.graph.proofs.Tests.{fault}
 use Rattle.graph.proofs.Words.{readable}
-use Rattle.moves.specs.Call.{namedBy}
-use Rattle.moves.specs.Trial.{trialNumber}
+use Rattle.moves.specs.Call.{namedBy, trialNumber}
 use Rattle.node_call.proofs.Refusing.{AcceptedWord, pair-accepted, named-below, named-low, within-three, trial-is}
 use Rattle.node_call.proofs.faults.trial_number.Statement.{statement}
 use Rattle.node_call.proofs.faults.trial_number.Tie as tie

@@ -3,7 +3,7 @@ use native.Mathlib.Omega.{arith}
 use Prim.Native.Nat.{_≤_}
 use lib.ListN.{length}
 use borrow.Author.Needs.{needs}
-use Rattle.moves.specs.Trial.{gainAnswer}
+use Rattle.moves.specs.Call.{gainAnswer}
 use Rattle.replay.proofs.One.{part-by, part-length, told-many}
 use Rattle.replay.proofs.Refusing.{lesser-le}
 use Rattle.replay.proofs.calls.part_call.Statement.{statement}

@@ -1,8 +1,7 @@
 -- `put_head` meets its contract: two lines, one after the other. From the laws on lines.
 use native.Mathlib.Omega.{arith}
 use borrow.Author.Needs.{needs}
-use Rattle.report.specs.Text.{inputsText, nodesText, outputsText, beforeText, afterText, roundsText}
-use Rattle.report.specs.Report.{sizesLine, countsLine}
+use Rattle.report.specs.Report.{sizesLine, countsLine, inputsText, nodesText, outputsText, beforeText, afterText, roundsText}
 use Rattle.report.proofs.Put.{two-lines}
 use Rattle.report.proofs.LineLaws.{length-sizes, length-counts}
 use Rattle.report.proofs.lines.put_head.Statement.{statement}

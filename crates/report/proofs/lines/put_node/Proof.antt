@@ -1,7 +1,7 @@
 -- `put_node` meets its contract: an XOR's line or a majority's. From the laws on lines.
 use native.Mathlib.Omega.{arith}
 use borrow.Author.Needs.{needs}
-use Rattle.report.specs.Text.{nodeText, majText, xorText, spaceText, line3, line4}
+use Rattle.report.specs.Report.{nodeText, majText, xorText, spaceText, line3, line4}
 use Rattle.report.proofs.Put.{put-as}
 use Rattle.report.proofs.LineLaws.{length-xor, length-majority, xor-line, majority-line}
 use Rattle.report.proofs.lines.put_node.Statement.{statement}

@@ -2,8 +2,7 @@
 use native.Mathlib.Omega.{arith}
 use borrow.Author.Needs.{needs}
 use mathlib.Core.Path.{refl}
-use Rattle.report.specs.Text.{outText, line1}
-use Rattle.report.specs.Report.{outputLine}
+use Rattle.report.specs.Report.{outputLine, outText, line1}
 use Rattle.report.proofs.Put.{put-as}
 use Rattle.report.proofs.LineLaws.{length-out}
 use Rattle.report.proofs.lines.put_output.Statement.{statement}

@@ -3,7 +3,7 @@ use native.Mathlib.Omega.{arith}
 use borrow.Author.Needs.{needs}
 use mathlib.Core.Path.{ap}
 use Rattle.graph.specs.Answer.{numberOf}
-use Rattle.report.specs.Text.{refusedText, line1}
+use Rattle.report.specs.Report.{refusedText, line1}
 use Rattle.report.proofs.Put.{put-front}
 use Rattle.report.proofs.LineLaws.{length-refused}
 use Rattle.report.proofs.lines.put_refused.Statement.{statement}

@@ -3,7 +3,7 @@ use native.Mathlib.Omega.{arith}
 use borrow.Author.Needs.{needs}
 use mathlib.Core.Path.{refl}
 use mathlib.Core.List.{[], _∷_}
-use Rattle.report.specs.Text.{numbered, line1}
+use Rattle.report.specs.Report.{numbered, line1}
 use Rattle.tagged_file.proofs.Stores.{in-a-row}
 use Rattle.report.proofs.Put.{room-first, room-byte}
 use Rattle.report.proofs.text.put_line1.Statement.{statement}

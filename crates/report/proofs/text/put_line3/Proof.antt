@@ -1,7 +1,7 @@
 -- `put_line3` meets its contract: a numbered text, and the rest of the line after it. From the laws on texts put in a row.
 use native.Mathlib.Omega.{arith}
 use borrow.Author.Needs.{needs}
-use Rattle.report.specs.Text.{numbered, line2, line3}
+use Rattle.report.specs.Report.{numbered, line2, line3}
 use Rattle.tagged_file.proofs.Stores.{in-a-row}
 use Rattle.report.proofs.Put.{room-first, room-rest}
 use Rattle.report.proofs.text.put_line3.Statement.{statement}

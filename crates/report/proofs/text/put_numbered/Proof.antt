@@ -1,8 +1,8 @@
 -- `put_numbered` meets its contract: a text, and a number after it. From the laws on texts put in a row.
 use native.Mathlib.Omega.{arith}
 use borrow.Author.Needs.{needs}
-use Rattle.graph.specs.Decimal.{decimal}
-use Rattle.report.specs.Text.{numbered}
+use Rattle.graph.specs.Finite.{decimal}
+use Rattle.report.specs.Report.{numbered}
 use Rattle.tagged_file.proofs.Stores.{in-a-row}
 use Rattle.report.proofs.Put.{room-first, room-rest}
 use Rattle.report.proofs.text.put_numbered.Statement.{statement}

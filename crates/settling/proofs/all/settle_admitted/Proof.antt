@@ -18,7 +18,7 @@ returns c =
     let a = w .before .before .before .before .before .before in
     let f = a .before .before .before .before .before .before in
     let m = f .before .before .before .before in
-    settled-to _ _ _ _ _ _ _ _ _ (f .fill-scratch .kept .1 .1 .1 .1 .1 .1 .1 .0) (f .fill-scratch .ensures .1) (a .all-rounds .ensures) (w .write-out .ensures) (m .complemented .ensures .0)
+    settled-to _ _ _ _ _ _ _ (f .fill-scratch .ensures .1) (a .all-rounds .ensures) (w .write-out .ensures) (m .complemented .ensures .0)
 
 pub settle-admitted-spec : {M : Type 1} → statement M
 settle-admitted-spec =

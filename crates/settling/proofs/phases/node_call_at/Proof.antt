@@ -13,7 +13,7 @@ returns : tie.Need-returns
 returns c =
     let t = c .before .before .before in
     let s = t .before .before .before .before .before .before .before .before in
-    node-phase (graph-of s) (s .args .scratch .now) (s .pre .0) (s .args .locks .now) (s .pre .4) (s .args .v) (s .pre .1) _ _ _ _ (t .node-step .ensures) (c .with-step .ensures)
+    node-phase (graph-of s) (s .args .scratch .now) (s .pre .0) (s .args .locks .now) (s .args .v) _ _ _ _ (t .node-step .ensures) (c .with-step .ensures)
 
 pub node-call-at-spec : {M : Type 1} → statement M
 node-call-at-spec =

@@ -13,7 +13,7 @@ returns : tie.Need-returns
 returns c =
     let t = c .before .before .before in
     let s = t .before .before .before .before .before .before .before .before in
-    pair-phase (graph-of s) (s .args .scratch .now) (s .pre .0) (s .args .locks .now) (s .pre .5) (s .args .v) (s .args .k) (s .pre .1) (s .pre .2) _ _ _ _ (t .pair-step .ensures) (c .with-step .ensures)
+    pair-phase (graph-of s) (s .args .scratch .now) (s .pre .0) (s .args .locks .now) (s .args .v) (s .args .k) (s .pre .2) _ _ _ _ (t .pair-step .ensures) (c .with-step .ensures)
 
 pub pair-call-at-spec : {M : Type 1} → statement M
 pair-call-at-spec =

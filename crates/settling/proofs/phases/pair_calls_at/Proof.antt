@@ -34,7 +34,7 @@ returns c =
     let s = t₁ .before .before .before .before .before .before .before .before in
     let x₂ = t₂ .pair-call-at2 .ensures in
     let none = no-third-word (graph-of s) (s .args .v) (sym (x .ensures (s .args .inputs) (s .args .nodes) (s .args .outputs) (literals (s .args .output-table .now) (s .args .output-bits .now))) ∙ c .if1 .taken) in
-    pairs-phase (s .args .locks .now) (s .args .v) _ _ _ _ _ _ _ _ _ (t₁ .pair-call-at .ensures) x₂ (pair-idle (graph-of s) _ (x₂ .ordered) _ (s .pre .4) (s .args .v) 3 _ none (x₂ .count))
+    pairs-phase (s .args .locks .now) (s .args .v) _ _ _ _ _ _ _ _ _ (t₁ .pair-call-at .ensures) x₂ (pair-idle (graph-of s) _ (x₂ .ordered) _ (s .args .v) 3 _ none (x₂ .count))
 
 pair-call-at-requires-3 : tie.Need-pair-call-at-requires-3
 pair-call-at-requires-3 c κs =

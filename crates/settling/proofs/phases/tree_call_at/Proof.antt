@@ -12,7 +12,7 @@ graph-of s = graphIn (s .args .inputs) (s .args .nodes) (s .args .outputs) (s .a
 returns : tie.Need-returns
 returns c =
     let s = c .before .before .before .before .before .before .before .before in
-    tree-idle (graph-of s) (s .args .scratch .now) (s .pre .0) (s .args .v) (s .pre .1) (s .args .locks .now) (s .pre .4) (s .args .tally) (s .pre .2)
+    tree-idle (graph-of s) (s .args .scratch .now) (s .pre .0) (s .args .v) (s .pre .1) (s .args .locks .now) (s .args .tally) (s .pre .2)
     (unmarked-inner (graph-of s) (s .args .scratch .now) (s .pre .0) (s .args .v) (s .pre .1) (c .if1 .taken))
 
 tree-step-requires : tie.Need-tree-step-requires
@@ -29,7 +29,7 @@ returns-2 c =
     let t = c .before .before .before in
     let l = t .before .before in
     let s = l .before .before .before .before .before .before .before .before in
-    tree-phase (graph-of s) (s .args .scratch .now) (s .pre .0) (s .args .v) (s .pre .1) (s .args .locks .now) (s .pre .4)
+    tree-phase (graph-of s) (s .args .scratch .now) (s .pre .0) (s .args .v) (s .pre .1) (s .args .locks .now)
     (marked-root (graph-of s) (s .args .scratch .now) (s .pre .0) (s .args .v) (s .pre .1) (l .if1 .left)) _ _ _ _ (t .tree-step .ensures) (c .with-step .ensures)
 
 pub tree-call-at-spec : {M : Type 1} → statement M

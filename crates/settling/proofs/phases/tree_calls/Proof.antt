@@ -2,7 +2,6 @@
 use mathlib.Core.Path.{_≡_, refl}
 use Prim.Native.Nat.{ℕ, _+_, _-_, _≤_}
 use native.Mathlib.Omega.{arith}
-use lib.ListN.{length}
 use Rattle.graph.specs.Literals.{graphIn}
 use Rattle.rounds.specs.Round.{each, treeAt}
 use Rattle.settling.specs.Phase.{Phase}
@@ -13,7 +12,7 @@ use Rattle.settling.proofs.phases.tree_calls.Tie as tie
 abbrev Inv-loop : tie.InvT-loop
 Inv-loop inputs nodes outputs node-table node-bits output-table output-bits locks scratch₀ end t₀ left₀ scratch t left =
     (left ≤ nodes) × (end ≡ nodes)
-    × Phase (each (treeAt locks (length scratch₀)) (nodes - left)) (nodes - left) (graphIn inputs nodes outputs node-table node-bits output-table output-bits) scratch₀ t₀ scratch t
+    × Phase (each (treeAt locks) (nodes - left)) (nodes - left) (graphIn inputs nodes outputs node-table node-bits output-table output-bits) scratch₀ t₀ scratch t
 
 abbrev μ-loop : tie.MeasureT-loop
 μ-loop inputs nodes outputs node-table node-bits output-table output-bits locks scratch₀ end t₀ left₀ scratch t left = left
@@ -22,7 +21,7 @@ loop-holds : tie.Need-loop-holds Inv-loop μ-loop
 loop-holds c =
     let s = c .before .before .before .before .before .before in
     let e : s .args .nodes - s .args .nodes ≡ 0 = omega arith in
-    (omega arith, refl, rw e (each-none (treeAt _ _) _ _ _ (s .pre .0) (s .pre .1)))
+    (omega arith, refl, rw e (each-none (treeAt _) _ _ _ (s .pre .0) (s .pre .1)))
 
 tree-call-at-requires : tie.Need-tree-call-at-requires Inv-loop μ-loop
 tree-call-at-requires c κs =
@@ -39,7 +38,7 @@ loop-again c =
     let a = l .before .before .before .before .before .before .before .args in
     let n : ℕ = a .nodes - l .loop .left in
     let e : a .nodes - (l .loop .left - 1) ≡ n + 1 = omega arith in
-    (omega arith, refl, rw e (each-more (treeAt (a .locks .now) (length (a .scratch .now))) _ _ n n 1 _ _ _ _ _ (l .loop .inv .2) (rw (l .loop .inv .2 .long) at (t .tree-call-at .ensures))))
+    (omega arith, refl, rw e (each-more (treeAt (a .locks .now)) _ _ n n 1 _ _ _ _ _ (l .loop .inv .2) (t .tree-call-at .ensures)))
 
 returns : tie.Need-returns Inv-loop μ-loop
 returns c =

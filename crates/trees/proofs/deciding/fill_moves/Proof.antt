@@ -6,7 +6,7 @@ use mathlib.Core.Logic.{_≢_}
 use Prim.Native.Nat.{ℕ, suc, _≤_, _<_}
 use Rattle.graph.specs.Graph.{Graph, graphOf, mark, node, isXor}
 use Rattle.graph.specs.Turned.{turnedBy}
-use Rattle.choice.specs.Choice.{FirstBelow}
+use Rattle.choice.specs.Inner.{FirstBelow}
 use Rattle.moves.specs.Rows.{movesAt}
 use Rattle.moves.specs.Tree.{isRoot, rootOf}
 use Rattle.moves.specs.Cost.{wordCosts}
