@@ -5,6 +5,7 @@ use Prim.Native.Nat.{ℕ, suc, _+_, _-_, _*_, _/_, _%_, _^_, _≤_, _<_}
 use lib.ListN.{length, getD, set}
 use Rattle.graph.specs.Finite.{tab, ifLess, ifEqual}
 use Rattle.graph.specs.Graph.{index, mark}
+use Rattle.graph.specs.Turned.{only}
 use Rattle.graph.specs.Literals.{bitAt, indexAt, held, bitOf, evened, wordsFor}
 
 -- u stands in the index table where the table says x: it is the index of x, or neither is one that a literal has
@@ -27,6 +28,16 @@ pub record Readable (l : List ℕ) (v : ℕ) : Type 0 where
 -- the same of the first n nodes
 abbrev pub AllReadable : ℕ → List ℕ → Type 0
 AllReadable n l = (v : ℕ) → v < n → Readable l v
+
+-- what turning the word at place j of the table l t times asks
+pub record Turnable (l : List ℕ) (j t : ℕ) : Type 0 where
+  pub few : t ≤ 2
+  pub there : j < held l
+  pub low : 0 < t → index (getD l j 0) < 2147483647
+
+-- three words turned, from place j on
+unfoldable pub threeTurns : ℕ → ℕ → ℕ → ℕ → ℕ → ℕ
+threeTurns j x y z i = only j x i + only (j + 1) y i + only (j + 2) z i
 
 -- the bits of the words of node v, as one number
 unfoldable pub threeBits : List ℕ → ℕ → ℕ

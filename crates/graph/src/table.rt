@@ -7,7 +7,7 @@ ghost use lib.Dec.{eqb};
 ghost use lib.ListN.{length, getD, set};
 ghost use Rattle.graph.specs.Finite.{sum};
 ghost use Rattle.graph.specs.Graph.{index, mark};
-ghost use Rattle.graph.specs.Inner.{Names, IsWord, Readable, threeBits, Twelve, Thirds, begun, wordPut, wordsPut, BitPut};
+ghost use Rattle.graph.specs.Inner.{Names, IsWord, Readable, Turnable, threeTurns, threeBits, Twelve, Thirds, begun, wordPut, wordsPut, BitPut};
 ghost use Rattle.graph.specs.Literals.{bit, bitAt, indexAt, literalOf, literals, held, bitOf, wordsFor, strays, onesIn};
 ghost use Rattle.graph.specs.Turned.{turnedTable, only};
 use crate::literal::MARK;
@@ -205,6 +205,25 @@ pub fn turn_word(table: &[u32], bits: &mut [u64], j: usize, t: u32)
 {
     let k = j / 64;
     bits[k] = flipped(bits[k], j % 64, t);
+}
+
+// Turns three words from place j on, by one store, unless their bits lie in two words of bits.
+pub fn turn_three(table: &[u32], bits: &mut [u64], j: usize, x: u32, y: u32, z: u32)
+    requires { let l = literals (now table) (now bits) in
+        ⌜ Turnable l j x × Turnable l (j + 1) y × Turnable l (j + 2) z ⌝ }
+    ensures { λ _. ⌜ literals (now (table .entry)) (now (bits .exit)) ≡ turnedTable (literals (now (table .entry)) (now (bits .entry))) (threeTurns j x y z) ⌝ }
+{
+    let s = j % 64;
+    if s < 62 {
+        let k = j / 64;
+        let one = flipped(bits[k], s, x);
+        let two = flipped(one, s + 1, y);
+        bits[k] = flipped(two, s + 2, z);
+        return;
+    }
+    turn_word(table, bits, j, x);
+    turn_word(table, bits, j + 1, y);
+    turn_word(table, bits, j + 2, z);
 }
 
 // Stores the word x there.

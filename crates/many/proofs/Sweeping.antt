@@ -1,30 +1,34 @@
 -- Words turned place by place, as a listed choice turns them: the graph stays one on which the list can be made, and after both sweeps
 -- it is the one that the choice gives. From the laws of a sweep and of graphs alike in kinds and wiring.
 use mathlib.Core.Path.{_≡_, refl, sym, ap, ap₂, _∙_}
-use mathlib.Core.Bool.{Bool, true, false}
+use mathlib.Core.Bool.{Bool, true, false, cond}
 use mathlib.Core.List.{List, [], _∷_}
 use mathlib.Core.Logic.{⊎-elim, _≢_}
-use Prim.Native.Nat.{ℕ, zero, suc, _+_, _-_, _*_, _/_, _%_, _^_, _≤_, _<_}
+use Prim.Native.Nat.{ℕ, zero, suc, _+_, _*_, _/_, _%_, _^_, _≤_, _<_}
 use native.Mathlib.Omega.{arith}
 use native.Mathlib.Nat.{zero-div}
+use mir.Val.{boolByte}
 use lib.ListN.{length, getD, replicate, length-replicate}
 use Rattle.graph.specs.Admission.{Admitted}
 use Rattle.graph.specs.Graph.{Graph, graphOf, node, output, index, isEdge, isXor}
-use Rattle.graph.specs.Finite.{sum}
+use Rattle.graph.specs.Finite.{ifLess, sum}
 use Rattle.graph.specs.Literals.{bit, bitAt, held, strays}
+use Rattle.graph.specs.Inner.{threeTurns}
 use Rattle.graph.specs.Turned.{turnedTable, never, only, upTo}
 use Rattle.graph.proofs.Alike.{Alike, alike-xor, alike-admitted}
 use Rattle.graph.proofs.Cases.{eq-or-ne, lt-or-le}
 use Rattle.graph.proofs.Literals.{bitAt-le, held-le}
-use Rattle.graph.proofs.Turned.{Sparing, turned-both, turned-held, turned-left, turned-same, turned-never, turned-more, turned-start, upTo-in, upTo-past, upTo-zero, only-at, only-off, only-zero, only-sparing, by-alike}
+use Rattle.graph.proofs.Edge.{edge-early, third-majority, third-xor}
+use Rattle.graph.proofs.Places.{three-turned}
+use Rattle.graph.proofs.Turned.{Sparing, turned-both, turned-held, turned-left, turned-same, turned-never, turned-more, turned-start, upTo-in, upTo-past, upTo-zero, only-at, only-off, by-alike}
 use Rattle.moves.specs.Apply.{Choice, none, at, put, own, seen, turns, outputTurns, apply}
 use Rattle.moves.specs.Call.{moved}
-use Rattle.moves.specs.Rows.{arity, flag, kindMoves}
+use Rattle.moves.specs.Rows.{arity, firstRow, flag, kindMoves, rows}
 use Rattle.moves.proofs.Apply.{admitted, turns-past, turns-mark, turns-edge, outputTurns-past, outputTurns-at}
-use Rattle.moves.proofs.Changed.{at-same, at-other, seen-by-move}
+use Rattle.moves.proofs.Changed.{at-same, at-other, own-by-move, seen-by-move}
 use Rattle.moves.proofs.Compose.{alike-turns, seen-low}
 use Rattle.moves.proofs.Moves.{kind-moves, kind-pos}
-use Rattle.many.specs.Making.{Listed, Ready, Noted, bare, chosen, nodesTo, named}
+use Rattle.many.specs.Making.{Listed, Ready, Noted, Row, bare, chosen, nodesTo, named}
 
 -- every move of a listed choice is one that its node's kind has
 pub put-has : (K : ℕ → ℕ) (us ms : List ℕ) (d : Choice) → ((u : ℕ) → d u < K u) → ((j : ℕ) → j < length us → getD ms j 0 < K (getD us j 0)) → (u : ℕ) → put d us ms u < K u
@@ -117,19 +121,8 @@ module _ (i n : ℕ) (us ms : List ℕ) where
       }
 
 -- what turning an edge asks
-pub edge-asks : (i n : ℕ) (m : List ℕ) (j : ℕ) → Admitted (bare i n m) → j < 3 * n → isEdge (bare i n m) j ≡ true → (j < held m) × (index (getD m j 0) < 104128)
+edge-asks : (i n : ℕ) (m : List ℕ) (j : ℕ) → Admitted (bare i n m) → j < 3 * n → isEdge (bare i n m) j ≡ true → (j < held m) × (index (getD m j 0) < 104128)
 edge-asks i n m j adm h z = (omega (arith, adm .held-nodes), omega (arith, adm .below j h z, adm .few-inputs, adm .few-nodes))
-
--- one edge turned leaves the graph alike
-module _ (i n : ℕ) (m k : List ℕ) (j t : ℕ) (adm : Admitted (bare i n m)) (h : j < 3 * n) (z : isEdge (bare i n m) j ≡ true) (e : k ≡ turnedTable m (only j t)) where
-  edge-alike : Alike (bare i n m) (bare i n k)
-  edge-alike = nodes-alike (bare i n m) (only j t) k adm (only-sparing (bare i n m) j t h (λ f. cc)) e
-
-  pub edge-admitted : Admitted (bare i n k)
-  edge-admitted = alike-admitted (bare i n m) (bare i n k) edge-alike adm
-
-  pub edge-xor : (v : ℕ) → isXor (bare i n k) v ≡ isXor (bare i n m) v
-  edge-xor = alike-xor (bare i n m) (bare i n k) edge-alike
 
 module _ (i n : ℕ) (d : Choice) where
   -- a sweep at its start, and one that has come to place j
@@ -145,31 +138,83 @@ module _ (i n : ℕ) (d : Choice) where
     pub ready-to : (us ms : List ℕ) → Ready i n ns us ms → Ready i n m us ms
     ready-to us ms r = ready-alike i n us ms ns m r (to-alike (r .admitted))
 
-    module _ (adm : Admitted (bare i n ns)) where
-      -- one word further, and past a mark
-      to-next : (k : List ℕ) → k ≡ turnedTable m (only j (turns (bare i n m) d j)) → k ≡ nodesTo i n ns d (j + 1)
-      unfolding nodesTo
-      to-next k f = turned-more ns (turns (bare i n ns) d) j m k e (f ∙ ap (λ (y : ℕ). turnedTable m (only j y)) (alike-turns (bare i n ns) (bare i n m) (to-alike adm) d j))
+-- what the words of node v are: two edges, and a third unless it is an XOR
+module _ (i n : ℕ) (m : List ℕ) (v : ℕ) (adm : Admitted (bare i n m)) (h : v < n) where
+  pub first-asks : (3 * v < held m) × (index (getD m (3 * v) 0) < 104128)
+  first-asks = edge-asks i n m (3 * v) adm (omega arith) (edge-early (bare i n m) _ (λ y. omega arith))
 
-      pub to-mark : isEdge (bare i n m) j ≡ false → m ≡ nodesTo i n ns d (j + 1)
-      to-mark z = to-next m (sym (turned-never m (only j (turns (bare i n m) d j)) (λ q. rw (turns-mark (bare i n m) d j z) (only-zero j q))))
+  pub second-asks : (3 * v + 1 < held m) × (index (getD m (3 * v + 1) 0) < 104128)
+  second-asks = edge-asks i n m (3 * v + 1) adm (omega arith) (edge-early (bare i n m) _ (λ y. omega arith))
 
-      -- an edge further, by its own node's move and by what is noted of the index that it names
-      pub to-edge : (bs : List ℕ) (u f : ℕ) (k : List ℕ) → Noted (bare i n ns) d bs u → i + 1 + j / 3 ≤ u → j < 3 * n → isEdge (bare i n m) j ≡ true → f ≡ own (bare i n m) d j
-          → k ≡ turnedTable m (only j (f + named bs m j)) → k ≡ nodesTo i n ns d (j + 1)
-      unfolding named
-      to-edge bs u f k b q h z p r =
-          let a = to-alike adm in
-          let l : index (getD m j 0) < u = omega (arith, alike-admitted (bare i n ns) (bare i n m) a adm .below j h z) in
-          to-next k
-          (r
-          ∙ ap (λ (y : ℕ). turnedTable m (only j y))
-          (ap₂ _+_ p (b .below (index (getD m j 0)) l ∙ sym (alike-seen (bare i n ns) (bare i n m) a d (index (getD m j 0)))) ∙ sym (turns-edge (bare i n m) d j h z)))
+  pub third-there : 3 * v + 2 < held m
+  third-there = omega (arith, adm .held-nodes)
 
-      -- whether the readers of node v are turned, by the kind that was read
-      pub to-seen : (v k : ℕ) (x : Bool) (f : ℕ) → v < n → x ≡ isXor (bare i n m) v → k ≡ d (i + 1 + v) → f ≡ flag x k 3 → f ≡ seen (bare i n ns) d (i + 1 + v)
-      to-seen v k x f h q p r =
-          seen-by-move (bare i n ns) d v k x (q ∙ alike-xor (bare i n ns) (bare i n m) (to-alike adm) v) (i + 1 + v) f (omega arith) (omega arith) (omega arith) p r
+  pub third-asks : (x : Bool) → x ≡ isXor (bare i n m) v → x ≡ false → index (getD m (3 * v + 2) 0) < 104128
+  third-asks x q z = edge-asks i n m (3 * v + 2) adm (omega arith) (third-majority (bare i n m) v (sym q ∙ z)) .1
+
+-- the row of a move, as it is computed
+pub row-is : (x : Bool) (m : ℕ) → m < arity x → Row x m (11088112 / 2 ^ (4 * (2 * boolByte x + m)) % 16)
+unfolding arity flag rows firstRow ifLess
+row-is true zero h = record { first = refl; second = refl; third = refl; readers = refl }
+row-is true (suc zero) h = record { first = refl; second = refl; third = refl; readers = refl }
+row-is true (suc (suc zero)) h = record { first = refl; second = refl; third = refl; readers = refl }
+row-is true (suc (suc (suc zero))) h = record { first = refl; second = refl; third = refl; readers = refl }
+row-is true (suc (suc (suc (suc m)))) h = absurd (omega arith)
+row-is false zero h = record { first = refl; second = refl; third = refl; readers = refl }
+row-is false (suc zero) h = record { first = refl; second = refl; third = refl; readers = refl }
+row-is false (suc (suc m)) h = absurd (omega arith)
+
+pub row-low : (x : Bool) (m : ℕ) → m < arity x → 2 * boolByte x + m < 6
+unfolding arity
+row-low true m h = omega arith
+row-low false m h = omega arith
+
+-- three places further
+three-more : (l : List ℕ) (t : ℕ → ℕ) (j : ℕ) (m k : List ℕ) (a b c : ℕ) → m ≡ turnedTable l (upTo j t) → a ≡ t j → b ≡ t (j + 1) → c ≡ t (j + 2) → k ≡ turnedTable m (threeTurns j a b c)
+    → k ≡ turnedTable l (upTo (j + 3) t)
+three-more l t j m k a b c e p q r f =
+    let m₁ : List ℕ = turnedTable m (only j a) in
+    let m₂ : List ℕ = turnedTable m₁ (only (j + 1) b) in
+    let m₃ : List ℕ = turnedTable m₂ (only (j + 2) c) in
+    let i₂ : j + 1 + 1 ≡ j + 2 = omega arith in
+    let i₃ : j + 2 + 1 ≡ j + 3 = omega arith in
+    let e₁ = turned-more l t j m m₁ e (ap (λ (y : ℕ). turnedTable m (only j y)) p) in
+    let e₂ = turned-more l t (j + 1) m₁ m₂ e₁ (ap (λ (y : ℕ). turnedTable m₁ (only (j + 1) y)) q) ∙ ap (λ (y : ℕ). turnedTable l (upTo y t)) i₂ in
+    let e₃ = turned-more l t (j + 2) m₂ m₃ e₂ (ap (λ (y : ℕ). turnedTable m₂ (only (j + 2) y)) r) ∙ ap (λ (y : ℕ). turnedTable l (upTo y t)) i₃ in
+    f ∙ sym (three-turned m m₁ m₂ m₃ j a b c refl refl refl) ∙ e₃
+
+-- a sweep that has come to node v, and knows of the indices below it
+module _ (i n : ℕ) (d : Choice) (ns : List ℕ) (adm : Admitted (bare i n ns)) (bs : List ℕ) (v : ℕ) (b : Noted (bare i n ns) d bs (i + 1 + v)) (h : v < n) (l : List ℕ) (e : l ≡ nodesTo i n ns d (3 * v))
+    (x : Bool) (q : x ≡ isXor (bare i n l) v) (r : ℕ) (w : Row x (d (i + 1 + v)) r) where
+  here : Alike (bare i n ns) (bare i n l)
+  here = to-alike i n d ns (3 * v) l e adm
+
+  edge-turns : (k j f : ℕ) → k < 3 → j ≡ 3 * v + k → f ≡ flag x (d (i + 1 + v)) k → isEdge (bare i n l) j ≡ true → f + named bs l j ≡ turns (bare i n ns) d j
+  unfolding named
+  edge-turns k j f c o p z =
+      let g : Graph = bare i n l in
+      let u : index (getD l j 0) < i + 1 + v = omega (arith, alike-admitted (bare i n ns) g here adm .below j (omega arith) z) in
+      ap₂ _+_ (own-by-move g d v _ x q k j f c o refl p) (b .below (index (getD l j 0)) u ∙ sym (alike-seen (bare i n ns) g here d (index (getD l j 0))))
+      ∙ sym (turns-edge g d j (omega arith) z)
+      ∙ alike-turns (bare i n ns) g here d j
+
+  third-turns : (k : Bool) → x ≡ k → cond k 0 (r / 4 % 2 + named bs l (3 * v + 2)) ≡ turns (bare i n ns) d (3 * v + 2)
+  third-turns true c = sym (sym (alike-turns (bare i n ns) (bare i n l) here d (3 * v + 2)) ∙ turns-mark (bare i n l) d (3 * v + 2) (third-xor (bare i n l) v (sym q ∙ c)))
+  third-turns false c = edge-turns 2 (3 * v + 2) _ (omega arith) refl (w .third) (third-majority (bare i n l) v (sym q ∙ c))
+
+  -- it goes past the node's words
+  pub words-turned : (a c z : ℕ) (k : List ℕ) → a ≡ r % 2 + named bs l (3 * v) → c ≡ r / 2 % 2 + named bs l (3 * v + 1) → z ≡ cond x 0 (r / 4 % 2 + named bs l (3 * v + 2))
+      → k ≡ turnedTable l (threeTurns (3 * v) a c z) → k ≡ nodesTo i n ns d (3 * v + 3)
+  unfolding nodesTo
+  words-turned a c z k p₁ p₂ p₃ f =
+      three-more ns (turns (bare i n ns) d) (3 * v) l k a c z e
+      (p₁ ∙ edge-turns 0 (3 * v) _ (omega arith) (omega arith) (w .first) (edge-early (bare i n l) _ (λ y. omega arith)))
+      (p₂ ∙ edge-turns 1 (3 * v + 1) _ (omega arith) refl (w .second) (edge-early (bare i n l) _ (λ y. omega arith)))
+      (p₃ ∙ third-turns x refl) f
+
+  -- whether the node's readers are turned
+  pub readers-turned : r / 8 % 2 ≡ seen (bare i n ns) d (i + 1 + v)
+  readers-turned = seen-by-move (bare i n ns) d v _ x (q ∙ alike-xor (bare i n ns) (bare i n l) here v) (i + 1 + v) _ (omega arith) (omega arith) (omega arith) refl (w .readers)
 
 -- words of 0 have no bit set
 zeros-at : (n k : ℕ) → _≡_ {A = ℕ} (getD (replicate n 0) k 0) 0
@@ -210,11 +255,11 @@ module _ (bs l : List ℕ) (j : ℕ) (m : List ℕ) (e : m ≡ turnedTable l (up
   pub named-asks : index (getD l j 0) < 104128 → (j < held m) × (index (getD m j 0) < 104128)
   named-asks b = (omega (arith, ap held e ∙ turned-held l _), omega (arith, named-left))
 
-  pub named-more : (k : List ℕ) → k ≡ turnedTable m (only j (0 + named bs m j)) → k ≡ turnedTable l (upTo (j + 1) (named bs l))
+  pub named-more : (t : ℕ) (k : List ℕ) → t ≡ 0 + named bs m j → k ≡ turnedTable m (only j t) → k ≡ turnedTable l (upTo (j + 1) (named bs l))
   unfolding named
-  named-more k f =
+  named-more t k p f =
       let z : 0 + bitAt bs (index (getD m j 0)) ≡ bitAt bs (index (getD l j 0)) = rw named-left (omega arith) in
-      turned-more l _ j m k e (f ∙ ap (λ (y : ℕ). turnedTable m (only j y)) z)
+      turned-more l _ j m k e (f ∙ ap (λ (y : ℕ). turnedTable m (only j y)) (p ∙ z))
 
 -- both sweeps
 module _ (g : Graph) (us ms ns : List ℕ) (adm : Admitted g) (e : ns ≡ nodesTo (g .I) (g .N) (g .nodes) (chosen us ms) (3 * g .N)) where

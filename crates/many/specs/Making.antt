@@ -1,15 +1,16 @@
 -- Moves looked up in a rising list and made word by word, in one sweep of each table: what the inner functions ask of each other, and
 -- no promise to a caller.
 use mathlib.Core.Path.{_≡_}
+use mathlib.Core.Bool.{Bool}
 use mathlib.Core.List.{List, []}
-use Prim.Native.Nat.{ℕ, _≤_, _<_}
+use Prim.Native.Nat.{ℕ, _/_, _%_, _≤_, _<_}
 use lib.ListN.{length, getD}
 use Rattle.graph.specs.Graph.{Graph, graphOf, index}
 use Rattle.graph.specs.Inner.{Readable}
 use Rattle.graph.specs.Admission.{Admitted}
 use Rattle.graph.specs.Literals.{bitAt}
 use Rattle.graph.specs.Turned.{turnedTable, upTo}
-use Rattle.moves.specs.Rows.{kindMoves}
+use Rattle.moves.specs.Rows.{flag, kindMoves}
 use Rattle.moves.specs.Apply.{Choice, none, put, seen, turns}
 
 -- indices rise
@@ -59,6 +60,13 @@ pub record Noted (g : Graph) (m : Choice) (bs : List ℕ) (u : ℕ) : Type 0 whe
   pub below : (w : ℕ) → w < u → bitAt bs w ≡ seen g m w
   pub after : (w : ℕ) → u ≤ w → bitAt bs w ≡ 0
 
--- what they say of the index that the word at place j of a table names
+-- r has what move m of a kind turns, a bit each: words 1 to 3, and every reader
+pub record Row (x : Bool) (m r : ℕ) : Type 0 where
+  pub first : r % 2 ≡ flag x m 0
+  pub second : r / 2 % 2 ≡ flag x m 1
+  pub third : r / 4 % 2 ≡ flag x m 2
+  pub readers : r / 8 % 2 ≡ flag x m 3
+
+-- what is noted of the index that the word at place j of a table names
 unfoldable pub named : List ℕ → List ℕ → ℕ → ℕ
 named bs l j = bitAt bs (index (getD l j 0))

@@ -1,6 +1,7 @@
 // A list of moves made by one sweep of each table. A node's words name indices below its own, so that when the sweep comes to a node it is
 // known of each of them whether its readers are turned: a bit an index says so, in words of this call's own.
 ghost use mathlib.Core.Path.{_≡_};
+ghost use mathlib.Core.Bool.{false, cond};
 ghost use mathlib.Core.List.{List};
 ghost use Prim.Native.Nat.{ℕ, _+_, _*_, _%_, _≤_, _<_};
 ghost use lib.ListN.{length, getD};
@@ -13,13 +14,22 @@ ghost use Rattle.graph.specs.Literals.{bitAt, graphIn, held, literals};
 ghost use Rattle.moves.specs.Apply.{Choice};
 ghost use Rattle.moves.specs.Call.{moved};
 ghost use Rattle.moves.specs.Rows.{arity, kindMoves};
-ghost use Rattle.many.specs.Making.{Ready, Listed, Noted, bare, chosen, nodesTo, named};
+ghost use Rattle.many.specs.Making.{Ready, Listed, Noted, Row, bare, chosen, nodesTo, named};
 use crate::walk;
 use graph::table;
 use moves::rows;
 
 // Words for a bit of each index that a graph can have: 4,096 inputs, 100,000 nodes and the constant.
 const SEEN: usize = 1627;
+
+// What move m of a kind turns, four bits: words 1 to 3, lowest first, and every reader. The rows of document 01's table are one number: a table
+// would be written out at each use.
+fn row_of(xor: bool, m: u32) -> u32
+    requires { ⌜ m < arity xor ⌝ }
+    ensures { λ r. ⌜ Row xor m r ⌝ }
+{
+    (11088112u32 >> (4 * (2 * xor as u32 + m))) % 16
+}
 
 // Turns bit u t times.
 fn note(seen: &mut [u64], u: usize, t: u32)
@@ -30,21 +40,44 @@ fn note(seen: &mut [u64], u: usize, t: u32)
     seen[k] = table::flipped(seen[k], u % 64, t);
 }
 
-// Turns the word at place j, which its own node's move turns f times.
-fn turn_place(node_table: &[u32], node_bits: &mut [u64], seen: &[u64], j: usize, f: u32)
-    requires { let l = literals (now «node_table») (now «node_bits») in
+// How often the word at place j is turned, by its own node's move, which turns it f times, and by that of the index that it names.
+fn turns_at(table: &[u32], bits: &[u64], seen: &[u64], j: usize, f: u32) -> u32
+    requires { let l = literals (now table) (now bits) in
         ⌜ (f ≤ 1) × (j < held l) × (index (getD l j 0) < 104128) × (length (now seen) ≡ 1627) ⌝ }
-    ensures { λ _.
-        let l = literals (now («node_table» .entry)) (now («node_bits» .entry)) in
-        let k = literals (now («node_table» .entry)) (now («node_bits» .exit)) in
-        ⌜ k ≡ turnedTable l (only j (f + named (now (seen .entry)) l j)) ⌝ }
+    ensures { λ r.
+        let l = literals (now (table .entry)) (now (bits .entry)) in
+        ⌜ (r ≡ f + named (now (seen .entry)) l j) × (r ≤ 2) ⌝ }
 {
-    let u = table::index_at(node_table, node_bits, j);
-    let t = f + table::bit_at(seen, u as usize);
-    table::turn_word(node_table, node_bits, j, t);
+    let u = table::index_at(table, bits, j);
+    f + table::bit_at(seen, u as usize)
 }
 
-// Turns the words of node v, whose move is m: an XOR's two or a majority's three. A sweep that has come to the node goes past it.
+// The first of two indices where `xor` holds, else the second.
+fn either_index(xor: bool, u: u32, v: u32) -> u32
+    ensures { λ r. ⌜ r ≡ cond xor u v ⌝ }
+{
+    if xor {
+        return u;
+    }
+    v
+}
+
+// The same of the third word of the node whose words are from place `at` on. An XOR has none: its first index is looked up, so that nothing jumps by
+// the kind, which a processor could not foresee.
+fn third_turns(table: &[u32], bits: &[u64], seen: &[u64], at: usize, xor: bool, f: u32) -> u32
+    requires { let l = literals (now table) (now bits) in
+        ⌜ (f ≤ 1) × (at + 2 < held l) × (index (getD l at 0) < 104128) × (xor ≡ false → index (getD l (at + 2) 0) < 104128) × (length (now seen) ≡ 1627) ⌝ }
+    ensures { λ r.
+        let l = literals (now (table .entry)) (now (bits .entry)) in
+        ⌜ (r ≡ cond xor 0 (f + named (now (seen .entry)) l (at + 2))) × (r ≤ 2) ⌝ }
+{
+    let first = table::index_at(table, bits, at);
+    let third = table::index_at(table, bits, at + 2);
+    let u = either_index(xor, first, third);
+    (f + table::bit_at(seen, u as usize)) * (1 - xor as u32)
+}
+
+// Turns the words of node v as its move's row says: an XOR's two or a majority's three. A sweep that has come to the node goes past it.
 fn turn_words(
     inputs: u32,
     nodes: u32,
@@ -53,35 +86,21 @@ fn turn_words(
     seen: &[u64],
     v: usize,
     xor: bool,
-    m: u32,
+    row: u32,
 )
     requires { let g = bare inputs nodes (literals (now «node_table») (now «node_bits»)) in
-        ⌜ Admitted g × (v < nodes) × (xor ≡ isXor g v) × (m < arity xor) × (length (now seen) ≡ 1627) ⌝ }
+        ⌜ Admitted g × (v < nodes) × (xor ≡ isXor g v) × (length (now seen) ≡ 1627) ⌝ }
     ensures { λ _.
         let l = literals (now («node_table» .entry)) (now («node_bits» .entry)) in
         let k = literals (now («node_table» .entry)) (now («node_bits» .exit)) in
         ⌜ ((d : Choice) (ns : List ℕ) → Admitted (bare inputs nodes ns) → Noted (bare inputs nodes ns) d (now (seen .entry)) (inputs + 1 + v)
-        → m ≡ d (inputs + 1 + v) → l ≡ nodesTo inputs nodes ns d (3 * v) → k ≡ nodesTo inputs nodes ns d (3 * v + 3)) ⌝ }
+        → Row xor (d (inputs + 1 + v)) row → l ≡ nodesTo inputs nodes ns d (3 * v) → k ≡ nodesTo inputs nodes ns d (3 * v + 3)) ⌝ }
 {
     let at = 3 * v;
-    turn_place(node_table, node_bits, seen, at, rows::flag_of(xor, m, 0));
-    turn_place(
-        node_table,
-        node_bits,
-        seen,
-        at + 1,
-        rows::flag_of(xor, m, 1),
-    );
-    if xor {
-        return;
-    }
-    turn_place(
-        node_table,
-        node_bits,
-        seen,
-        at + 2,
-        rows::flag_of(xor, m, 2),
-    );
+    let x = turns_at(node_table, node_bits, seen, at, row % 2);
+    let y = turns_at(node_table, node_bits, seen, at + 1, row / 2 % 2);
+    let z = third_turns(node_table, node_bits, seen, at, xor, row / 4 % 2);
+    table::turn_three(node_table, node_bits, at, x, y, z);
 }
 
 // The same, and notes whether the node's readers are turned.
@@ -104,6 +123,7 @@ fn turn_node(
         → (k ≡ nodesTo inputs nodes ns d (3 * v + 3)) × Noted (bare inputs nodes ns) d (now (seen .exit)) (inputs + 1 + v + 1)) ⌝ }
 {
     let xor = rows::is_xor(node_table, node_bits, v as usize);
+    let row = row_of(xor, m);
     turn_words(
         inputs,
         nodes,
@@ -112,9 +132,9 @@ fn turn_node(
         seen,
         v as usize,
         xor,
-        m,
+        row,
     );
-    note(seen, (inputs + 1 + v) as usize, rows::flag_of(xor, m, 3));
+    note(seen, (inputs + 1 + v) as usize, row / 8 % 2);
 }
 
 // The nodes go by rising index, and the list beside them.
@@ -156,7 +176,8 @@ fn turn_outputs(outputs: u32, output_table: &[u32], output_bits: &mut [u64], see
     let end = outputs as usize;
     let mut j: usize = 0;
     while j < end {
-        turn_place(output_table, output_bits, seen, j, 0);
+        let t = turns_at(output_table, output_bits, seen, j, 0);
+        table::turn_word(output_table, output_bits, j, t);
         j += 1;
     }
 }

@@ -1,147 +1,70 @@
--- `turn_words` meets its contract: each of the node's words is one place further of the sweep, and a mark is passed over. From the laws of
--- the sweep.
-use mathlib.Core.Path.{_≡_, sym, ap, _∙_}
+-- `turn_words` meets its contract: the node's three places are one step of the sweep. From the laws of the sweep.
+use mathlib.Core.Path.{_≡_, refl}
+use mathlib.Core.Bool.{Bool, true, false, cond}
 use mathlib.Core.List.{List}
 use native.Mathlib.Omega.{arith}
 use borrow.Author.Needs.{needs}
-use Prim.Native.Nat.{ℕ, _+_, _*_}
-use Rattle.graph.specs.Admission.{Admitted}
-use mathlib.Core.Bool.{true}
-use Rattle.graph.specs.Graph.{Graph, isEdge, isXor}
-use Rattle.graph.specs.Literals.{literals}
-use Rattle.graph.proofs.Edge.{edge-early, third-majority, third-xor}
-use Rattle.moves.specs.Apply.{Choice}
-use Rattle.moves.proofs.Changed.{own-by-move}
-use Rattle.many.specs.Making.{Noted, bare, nodesTo}
-use Rattle.many.proofs.Sweeping.{edge-asks, edge-admitted, edge-xor, to-edge, to-mark}
+use Prim.Native.Nat.{ℕ, _+_, _*_, _<_}
+use lib.ListN.{getD}
+use Rattle.graph.specs.Graph.{index}
+use Rattle.graph.specs.Literals.{held, literals}
+use Rattle.many.proofs.Sweeping.{first-asks, second-asks, third-there, third-asks, words-turned}
 use Rattle.many.proofs.making.turn_words.Statement.{statement}
 use Rattle.many.proofs.making.turn_words.Tie as tie
 
--- the table at entry, after one word and after two
-abbrev table : (s : tie.Start) → List ℕ
-table s = literals (s .args .node-table .now) (s .args .node-bits .now)
+module _ (s : tie.Start) where
+  abbrev table : List ℕ
+  table = literals (s .args .node-table .now) (s .args .node-bits .now)
 
-turn-place-requires : tie.Need-turn-place-requires
-turn-place-requires c κs =
-    let s = c .before .before .before .before .before in
-    let a = s .args in
-    let e = edge-asks (a .inputs) (a .nodes) (table s) (3 * a .v) (s .pre .0) (omega (arith, s .pre .1)) (edge-early (bare (a .inputs) (a .nodes) (table s)) _ (λ z. omega arith)) in
-    (c .flag-of .ensures .1, e .0, e .1, s .pre .4)
+  first : (3 * s .args .v < held table) × (index (getD table (3 * s .args .v) 0) < 104128)
+  first = first-asks (s .args .inputs) (s .args .nodes) table (s .args .v) (s .pre .0) (s .pre .1)
 
-module _ (c : tie.After-turn-place) where
-  abbrev s1 : tie.Start
-  s1 = c .before .before .before .before .before .before
+  second : (3 * s .args .v + 1 < held table) × (index (getD table (3 * s .args .v + 1) 0) < 104128)
+  second = second-asks (s .args .inputs) (s .args .nodes) table (s .args .v) (s .pre .0) (s .pre .1)
 
-  abbrev table1 : List ℕ
-  table1 = literals (s1 .args .node-table .now) (c .turn-place .last .1 .0)
+  third : s .args .xor ≡ false → index (getD table (3 * s .args .v + 2) 0) < 104128
+  third = third-asks (s .args .inputs) (s .args .nodes) table (s .args .v) (s .pre .0) (s .pre .1) (s .args .xor) (s .pre .2)
 
-  one-admitted : Admitted (bare (s1 .args .inputs) (s1 .args .nodes) table1)
-  one-admitted =
-      let a = s1 .args in
-      edge-admitted (a .inputs) (a .nodes) (table s1) table1 (3 * a .v) _ (s1 .pre .0) (omega (arith, s1 .pre .1)) (edge-early (bare (a .inputs) (a .nodes) (table s1)) _ (λ z. omega arith)) (c .turn-place .ensures)
+  there : 3 * s .args .v + 2 < held table
+  there = third-there (s .args .inputs) (s .args .nodes) table (s .args .v) (s .pre .0) (s .pre .1)
 
-  one-kind : s1 .args .xor ≡ isXor (bare (s1 .args .inputs) (s1 .args .nodes) table1) (s1 .args .v)
-  one-kind =
-      let a = s1 .args in
-      s1 .pre .2
-      ∙ sym (edge-xor (a .inputs) (a .nodes) (table s1) table1 (3 * a .v) _ (s1 .pre .0) (omega (arith, s1 .pre .1)) (edge-early (bare (a .inputs) (a .nodes) (table s1)) _ (λ z. omega arith)) (c .turn-place .ensures) (a .v))
+-- an XOR's third word is not turned
+third-low : (k : Bool) (i t z : ℕ) → (k ≡ false → i < 104128) → z ≡ cond k 0 t → 0 < z → i < 2147483647
+third-low true i t z h e p = absurd (omega (arith, e))
+third-low false i t z h e p = omega (arith, h refl)
 
-turn-place-requires-2 : tie.Need-turn-place-requires-2
-turn-place-requires-2 c κs =
-    let p = c .before .before .before .before in
-    let s = s1 p in
-    let a = s .args in
-    let e = edge-asks (a .inputs) (a .nodes) (table1 p) (3 * a .v + 1) (one-admitted p) (omega (arith, s .pre .1)) (edge-early (bare (a .inputs) (a .nodes) (table1 p)) _ (λ z. omega arith)) in
-    (c .flag-of2 .ensures .1, e .0, e .1, s .pre .4)
-
-module _ (c : tie.After-turn-place2) where
-  abbrev p1 : tie.After-turn-place
-  p1 = c .before .before .before .before .before
-
-  abbrev s2 : tie.Start
-  s2 = s1 p1
-
-  abbrev table2 : List ℕ
-  table2 = literals (s2 .args .node-table .now) (c .turn-place2 .last .1 .0)
-
-  two-admitted : Admitted (bare (s2 .args .inputs) (s2 .args .nodes) table2)
-  two-admitted =
-      let a = s2 .args in
-      edge-admitted (a .inputs) (a .nodes) (table1 p1) table2 (3 * a .v + 1) _ (one-admitted p1) (omega (arith, s2 .pre .1)) (edge-early (bare (a .inputs) (a .nodes) (table1 p1)) _ (λ z. omega arith)) (c .turn-place2 .ensures)
-
-  two-kind : s2 .args .xor ≡ isXor (bare (s2 .args .inputs) (s2 .args .nodes) table2) (s2 .args .v)
-  two-kind =
-      let a = s2 .args in
-      one-kind p1
-      ∙ sym (edge-xor (a .inputs) (a .nodes) (table1 p1) table2 (3 * a .v + 1) _ (one-admitted p1) (omega (arith, s2 .pre .1)) (edge-early (bare (a .inputs) (a .nodes) (table1 p1)) _ (λ z. omega arith)) (c .turn-place2 .ensures) (a .v))
-
-  -- the sweep has passed both words
-  module _ (d : Choice) (ns : List ℕ) (adm : Admitted (bare (s2 .args .inputs) (s2 .args .nodes) ns)) (b : Noted (bare (s2 .args .inputs) (s2 .args .nodes) ns) d (s2 .args .seen .now) (s2 .args .inputs + 1 + s2 .args .v)) (m : s2 .args .m ≡ d (s2 .args .inputs + 1 + s2 .args .v)) (e : table s2 ≡ nodesTo (s2 .args .inputs) (s2 .args .nodes) ns d (3 * s2 .args .v)) where
-    one-swept : table1 p1 ≡ nodesTo (s2 .args .inputs) (s2 .args .nodes) ns d (3 * s2 .args .v + 1)
-    one-swept =
-        let a = s2 .args in
-        let g : Graph = bare (a .inputs) (a .nodes) (table s2) in
-        to-edge (a .inputs) (a .nodes) d ns (3 * a .v) (table s2) e adm (a .seen .now) _ _ (table1 p1) b (omega arith) (omega (arith, s2 .pre .1)) (edge-early g _ (λ z. omega arith))
-        (own-by-move g d (a .v) _ _ (s2 .pre .2) 0 _ _ (omega arith) (omega arith) m (p1 .before .flag-of .ensures .0)) (p1 .turn-place .ensures)
-
-    two-swept : table2 ≡ nodesTo (s2 .args .inputs) (s2 .args .nodes) ns d (3 * s2 .args .v + 2)
-    two-swept =
-        let a = s2 .args in
-        let g : Graph = bare (a .inputs) (a .nodes) (table1 p1) in
-        let k : 3 * a .v + 1 + 1 ≡ 3 * a .v + 2 = omega arith in
-        to-edge (a .inputs) (a .nodes) d ns (3 * a .v + 1) (table1 p1) one-swept adm (a .seen .now) _ _ table2 b (omega arith) (omega (arith, s2 .pre .1)) (edge-early g _ (λ z. omega arith))
-        (own-by-move g d (a .v) _ _ (one-kind p1) 1 _ _ (omega arith) (omega arith) m (c .before .flag-of2 .ensures .0)) (c .turn-place2 .ensures)
-        ∙ ap (nodesTo (a .inputs) (a .nodes) ns d) k
+turn-three-requires : tie.Need-turn-three-requires
+turn-three-requires c κs =
+    let z = c .before in
+    let y = z .before .before in
+    let x = y .before .before in
+    let s = x .before .before .before .before .before in (
+      record { few = x .turns-at .ensures .1; there = first s .0; low = λ p. omega (arith, first s .1) },
+      record { few = y .turns-at2 .ensures .1; there = second s .0; low = λ p. omega (arith, second s .1) },
+      record { few = z .third-turns .ensures .1; there = there s; low = third-low (s .args .xor) _ _ _ (third s) (z .third-turns .ensures .0) },
+    )
 
 returns : tie.Need-returns
 returns c =
-    let q = c .before .before .before in
-    let a = s2 q .args in
-    let k : 3 * a .v + 2 + 1 ≡ 3 * a .v + 3 = omega arith in
-    λ d ns adm b m e.
-    to-mark (a .inputs) (a .nodes) d ns (3 * a .v + 2) (table2 q) (two-swept q d ns adm b m e) adm (third-xor (bare (a .inputs) (a .nodes) (table2 q)) (a .v) (sym (two-kind q) ∙ c .if1 .taken))
-    ∙ ap (nodesTo (a .inputs) (a .nodes) ns d) k
-
--- a majority's third word
-third-edge : (c : tie.Else1) → let q = c .before .before .before in let a = s2 q .args in isEdge (bare (a .inputs) (a .nodes) (table2 q)) (3 * a .v + 2) ≡ true
-third-edge c = let q = c .before .before .before in let a = s2 q .args in third-majority (bare (a .inputs) (a .nodes) (table2 q)) (a .v) (sym (two-kind q) ∙ c .if1 .left)
-
-turn-place-requires-3 : tie.Need-turn-place-requires-3
-turn-place-requires-3 c κs =
-    let i = c .before .before in
-    let q = i .before .before .before in
-    let s = s2 q in
+    let t = c .before .before in
+    let z = t .before .before in
+    let y = z .before .before in
+    let x = y .before .before in
+    let s = x .before .before .before .before .before in
     let a = s .args in
-    let e = edge-asks (a .inputs) (a .nodes) (table2 q) (3 * a .v + 2) (two-admitted q) (omega (arith, s .pre .1)) (third-edge i) in
-    (c .flag-of3 .ensures .1, e .0, e .1, s .pre .4)
-
-returns-2 : tie.Need-returns-2
-returns-2 c =
-    let r = c .before .before in
-    let i = r .before .before .before in
-    let q = i .before .before .before in
-    let a = s2 q .args in
-    let g : Graph = bare (a .inputs) (a .nodes) (table2 q) in
-    let k : 3 * a .v + 2 + 1 ≡ 3 * a .v + 3 = omega arith in
-    λ d ns adm b m e.
-    to-edge (a .inputs) (a .nodes) d ns (3 * a .v + 2) (table2 q) (two-swept q d ns adm b m e) adm (a .seen .now) _ _ (literals (a .node-table .now) (r .turn-place3 .last .1 .0)) b (omega arith) (omega (arith, s2 q .pre .1)) (third-edge i)
-    (own-by-move g d (a .v) _ _ (two-kind q) 2 _ _ (omega arith) (omega arith) m (r .before .flag-of3 .ensures .0)) (r .turn-place3 .ensures)
-    ∙ ap (nodesTo (a .inputs) (a .nodes) ns d) k
+    λ d ns adm b w e.
+    words-turned (a .inputs) (a .nodes) d ns adm (a .seen .now) (a .v) b (s .pre .1) (table s) e (a .xor) (s .pre .2) (a .row) w (x .turns-at .result) (y .turns-at2 .result) (z .third-turns .result) (literals (a .node-table .now) (t .turn-three .last .1 .0))
+    (x .turns-at .ensures .0) (y .turns-at2 .ensures .0) (z .third-turns .ensures .0) (t .turn-three .ensures)
 
 pub turn-words-spec : {M : Type 1} → statement M
 turn-words-spec =
     tie.close
     (tie.spec
+    (λ c. let s = c .before .before .before in omega (arith, s .pre .0 .few-nodes, s .pre .1))
+    (λ c κs. let s = c .before .before .before .before in (omega arith, first s .0, first s .1, s .pre .3))
+    (λ c. let s = c .before .before .before .before .before .before in omega (arith, s .pre .0 .few-nodes, s .pre .1))
+    (λ c κs. let s = c .before .before .before .before .before .before in (omega arith, second s .0, second s .1, s .pre .3))
+    (λ c κs. let s = c .before .before .before .before .before .before .before .before in (omega arith, there s, first s .1, third s, s .pre .3))
+    turn-three-requires
     (λ c. search needs)
-    (λ c κs. search needs)
-    turn-place-requires
-    (λ c. search needs)
-    (λ c κs. search needs)
-    turn-place-requires-2
-    (λ c. search needs)
-    returns
-    (λ c. search needs)
-    (λ c κs. search needs)
-    turn-place-requires-3
-    (λ c. search needs)
-    returns-2)
+    returns)
