@@ -75,6 +75,11 @@ module _ (g : Graph) (v : ℕ) (ws : List ℕ) (x y r : ℕ) (p : x ≡ literalW
       let o : 3 * v + 0 ≡ 3 * v = omega arith in
       simp (o, ← e) (cc)
 
+-- one of two indices, the second of which is looked up at a majority alone
+pub either-below : (k : Bool) (u v end : ℕ) → u < end → (k ≡ false → v < end) → cond k u v < end
+either-below true u v end h f = h
+either-below false u v end h f = f refl
+
 -- a node whose words name indices below its own can be read
 pub readable-of : (i : ℕ) (l : List ℕ) (v : ℕ) → NodeBelow i l v → v ≤ 100000 → Readable l v
 readable-of i l v b h =

@@ -45,3 +45,8 @@ NodeWords g words nodeWords n = (j : ℕ) → j < 64 → column j (byIndex (g .I
 -- where the front of s had the words of the first v nodes, that of t has those of the first u
 abbrev pub Filled : ℕ → List ℕ → List ℕ → List ℕ → ℕ → List ℕ → ℕ → Type 0
 Filled i table words s v t u = (n : ℕ) → NodeWords (nodesOf i n table) words (take v s) v → NodeWords (nodesOf i n table) words (take u t) u
+
+-- the front of s has the words of all indices below node v, each at its index: those of the constant and the inputs first
+pub record Front (g : Graph) (words s : List ℕ) (v : ℕ) : Type 0 where
+  pub low : take (g .I + 1) s ≡ byIndex (g .I) words []
+  pub rows : (j : ℕ) → j < 64 → column j (take (g .I + 1 + v) s) ≡ values g (assignmentAt words j) v

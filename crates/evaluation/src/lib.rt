@@ -6,6 +6,7 @@ ghost use Rattle.graph.specs.Literals.{before, after, graphBefore};
 ghost use Rattle.evaluation.specs.Evaluation.{evaluateNumber, resultsAfter, evaluatedAnswer};
 
 mod faults;
+mod front;
 mod results;
 mod values;
 

@@ -8,12 +8,13 @@ ghost use Rattle.graph.specs.Inner.{threeBits};
 ghost use Rattle.graph.specs.Literals.{bit, bitOf, held, literals};
 ghost use Rattle.evaluation.specs.Word.{gather};
 ghost use Rattle.evaluation.specs.Inner.{byIndex, column, literalWord, nodesOf, NodeBelow, NodeWords, Filled};
+use crate::front;
 use graph::table;
 
 const ONES: u64 = 18446744073709551615;
 
 // All bits of `word` turned where b is 1.
-fn turned(word: u64, b: u32) -> u64
+pub fn turned(word: u64, b: u32) -> u64
     requires { ⌜ b ≤ 1 ⌝ }
     ensures { λ r. ⌜ r ≡ gather (λ j. (bit j word + b) % 2) 64 ⌝ }
 {
@@ -68,7 +69,7 @@ pub fn literal_word(
 }
 
 // The first of two indices where `xor` holds, else the second.
-fn either_index(xor: bool, u: u32, v: u32) -> u32
+pub fn either_index(xor: bool, u: u32, v: u32) -> u32
     ensures { λ r. ⌜ r ≡ cond xor u v ⌝ }
 {
     if xor {
@@ -107,7 +108,7 @@ fn third_word(
 }
 
 // The words of a node's literals joined as its kind says, by a mask.
-fn joined_word(xor: bool, x: u64, y: u64, z: u64) -> u64
+pub fn joined_word(xor: bool, x: u64, y: u64, z: u64) -> u64
     ensures { λ r. ⌜ ((j : ℕ) → j < 64 → bit j r ≡ cond xor (exclusive (bit j x) (bit j y)) (majority (bit j x) (bit j y) (bit j z))) ⌝ }
 {
     let a = majority_word(x, y, z);
@@ -191,96 +192,23 @@ fn fill_node(
     scratch[v] = w;
 }
 
-// The same of node v and the three after it, whose bits are read at once.
-fn fill_four(
-    inputs: u32,
-    node_table: &[u32],
-    node_bits: &[u64],
-    v: usize,
-    input_words: &[u64],
-    scratch: &mut [u64],
-)
-    requires { let l = literals (now «node_table») (now «node_bits») in
-        ⌜ (inputs ≤ length (now «input_words»)) × (v + 4 ≤ length (now scratch)) × (v + 4 ≤ 100000) × ((u : ℕ) → u < v + 4 → NodeBelow inputs l u) ⌝ }
-    ensures { λ r.
-        let l = literals (now («node_table» .entry)) (now («node_bits» .entry)) in
-        ⌜ Filled inputs l (now («input_words» .entry)) (now (scratch .entry)) v (now (scratch .exit)) (v + 4) ⌝ }
-{
-    let b = table::twelve_at(node_table, node_bits, v);
-    fill_node(
-        inputs,
-        node_table,
-        node_bits,
-        v,
-        b % 8,
-        input_words,
-        scratch,
-    );
-    fill_node(
-        inputs,
-        node_table,
-        node_bits,
-        v + 1,
-        b / 8 % 8,
-        input_words,
-        scratch,
-    );
-    fill_node(
-        inputs,
-        node_table,
-        node_bits,
-        v + 2,
-        b / 64 % 8,
-        input_words,
-        scratch,
-    );
-    fill_node(
-        inputs,
-        node_table,
-        node_bits,
-        v + 3,
-        b / 512 % 8,
-        input_words,
-        scratch,
-    );
-}
-
-// Fills in the words of the first nodes, four a turn.
-fn fill_fours(
-    inputs: u32,
-    nodes: u32,
-    node_table: &[u32],
-    node_bits: &[u64],
-    input_words: &[u64],
-    scratch: &mut [u64],
-)
-    requires { let l = literals (now «node_table») (now «node_bits») in
-        ⌜ (inputs ≤ length (now «input_words»)) × (nodes ≤ length (now scratch)) × (nodes ≤ 100000) × ((v : ℕ) → v < nodes → NodeBelow inputs l v) ⌝ }
-    ensures { λ r.
-        let l = literals (now («node_table» .entry)) (now («node_bits» .entry)) in
-        ⌜ Filled inputs l (now («input_words» .entry)) (now (scratch .entry)) 0 (now (scratch .exit)) (4 * (nodes / 4)) ⌝ }
-{
-    for j in 0..nodes as usize / 4 {
-        fill_four(inputs, node_table, node_bits, 4 * j, input_words, scratch);
-    }
-}
-
-// Fills in those of the nodes after them.
+// Fills in the words of the nodes from the one on where these begin.
 fn fill_rest(
     inputs: u32,
     nodes: u32,
+    begin: usize,
     node_table: &[u32],
     node_bits: &[u64],
     input_words: &[u64],
     scratch: &mut [u64],
 )
     requires { let l = literals (now «node_table») (now «node_bits») in
-        ⌜ (inputs ≤ length (now «input_words»)) × (nodes ≤ length (now scratch)) × (nodes ≤ 100000) × ((v : ℕ) → v < nodes → NodeBelow inputs l v) ⌝ }
+        ⌜ (inputs ≤ length (now «input_words»)) × (nodes ≤ length (now scratch)) × (nodes ≤ 100000) × ((v : ℕ) → v < nodes → NodeBelow inputs l v) × (begin ≤ nodes) ⌝ }
     ensures { λ r.
         let l = literals (now («node_table» .entry)) (now («node_bits» .entry)) in
-        ⌜ Filled inputs l (now («input_words» .entry)) (now (scratch .entry)) (4 * (nodes / 4)) (now (scratch .exit)) nodes ⌝ }
+        ⌜ Filled inputs l (now («input_words» .entry)) (now (scratch .entry)) begin (now (scratch .exit)) nodes ⌝ }
 {
-    for v in 4 * (nodes as usize / 4)..nodes as usize {
+    for v in begin..nodes as usize {
         let three = table::three_at(node_table, node_bits, v);
         fill_node(
             inputs,
@@ -309,6 +237,14 @@ pub fn fill_nodes(
         let g = nodesOf inputs nodes (literals (now («node_table» .entry)) (now («node_bits» .entry))) in
         ⌜ NodeWords g (now («input_words» .entry)) (take nodes (now (scratch .exit))) nodes ⌝ }
 {
-    fill_fours(inputs, nodes, node_table, node_bits, input_words, scratch);
-    fill_rest(inputs, nodes, node_table, node_bits, input_words, scratch);
+    let begin = front::fill_front(inputs, nodes, node_table, node_bits, input_words, scratch);
+    fill_rest(
+        inputs,
+        nodes,
+        begin,
+        node_table,
+        node_bits,
+        input_words,
+        scratch,
+    );
 }

@@ -1,6 +1,6 @@
 // The move of a node in a rising list, found by walking along it.
 ghost use mathlib.Core.Path.{_≡_};
-ghost use Prim.Native.Nat.{_+_, _≤_, _<_};
+ghost use Prim.Native.Nat.{_+_, _≤_};
 ghost use lib.ListN.{length};
 ghost use Rattle.many.specs.Making.{Rises, Stands, chosen};
 use graph::table::byte_at;

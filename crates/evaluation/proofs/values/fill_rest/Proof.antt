@@ -1,8 +1,7 @@
 -- `values::fill_rest` meets its contract. The invariant: the words of the nodes passed are filled in. From the contract of one.
 use mathlib.Core.Path.{_≡_, refl, subst}
-use Prim.Native.Nat.{ℕ, _*_, _-_, _/_, _≤_}
+use Prim.Native.Nat.{ℕ, _-_, _≤_}
 use native.Mathlib.Omega.{arith}
-use borrow.Author.Needs.{needs}
 use lib.ListN.{length, take}
 use Rattle.graph.specs.Literals.{literals}
 use Rattle.evaluation.specs.Inner.{NodeWords, nodesOf, Filled}
@@ -11,11 +10,11 @@ use Rattle.evaluation.proofs.values.fill_rest.Statement.{statement}
 use Rattle.evaluation.proofs.values.fill_rest.Tie as tie
 
 abbrev Inv-loop : tie.InvT-loop
-Inv-loop inputs nodes node-table node-bits input-words scratch₀ v₀ v-end scratch v =
-    (v ≤ nodes) × (v-end ≡ nodes) × (length scratch ≡ length scratch₀) × Filled inputs (literals node-table node-bits) input-words scratch₀ (4 * (nodes / 4)) scratch v
+Inv-loop inputs nodes begin node-table node-bits input-words scratch₀ v₀ v-end scratch v =
+    (v ≤ nodes) × (v-end ≡ nodes) × (length scratch ≡ length scratch₀) × Filled inputs (literals node-table node-bits) input-words scratch₀ begin scratch v
 
 abbrev μ-loop : tie.MeasureT-loop
-μ-loop inputs nodes node-table node-bits input-words scratch₀ v₀ v-end scratch v = nodes - v
+μ-loop inputs nodes begin node-table node-bits input-words scratch₀ v₀ v-end scratch v = nodes - v
 
 loop-holds : tie.Need-loop-holds Inv-loop μ-loop
 loop-holds c = (omega arith, refl, refl, λ n h. h)
@@ -51,7 +50,6 @@ fill-rest-spec =
     (tie.spec
     Inv-loop
     μ-loop
-    (λ c. omega arith)
     loop-holds
     three-at-requires
     fill-node-requires

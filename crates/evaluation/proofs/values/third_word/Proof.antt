@@ -1,8 +1,8 @@
 -- `values::third_word` meets its contract: a majority's third index, turned as its bit says. From what the leaves tell of a literal with a
 -- low index, and the laws on words by index.
-use mathlib.Core.Path.{_≡_, refl, ap, _∙_}
-use mathlib.Core.Bool.{Bool, true, false, cond}
-use Prim.Native.Nat.{ℕ, _+_, _<_}
+use mathlib.Core.Path.{_≡_, ap, _∙_}
+use mathlib.Core.Bool.{Bool, false, cond}
+use Prim.Native.Nat.{_+_, _<_}
 use native.Mathlib.Omega.{arith}
 use borrow.Author.Needs.{needs}
 use lib.ListN.{length, getD}
@@ -11,13 +11,9 @@ use Rattle.graph.specs.Literals.{literals}
 use Rattle.graph.proofs.Literals.{held-index, names-index}
 use Rattle.graph.proofs.Words.{edge-bit}
 use Rattle.evaluation.specs.Inner.{byIndex}
-use Rattle.evaluation.proofs.Index.{literal-is}
+use Rattle.evaluation.proofs.Index.{either-below, literal-is}
 use Rattle.evaluation.proofs.values.third_word.Statement.{statement}
 use Rattle.evaluation.proofs.values.third_word.Tie as tie
-
-either-below : (k : Bool) (u v end : ℕ) → u < end → (k ≡ false → v < end) → cond k u v < end
-either-below true u v end h f = h
-either-below false u v end h f = f refl
 
 third-low : (s : tie.Start) → s .args .xor ≡ false → let a = s .args in index (getD (literals (a .table .now) (a .bits .now)) (a .at + 2) 0) < 2147483647
 third-low s e = omega (arith, s .pre .1, s .pre .4 e)
