@@ -1,0 +1,12 @@
+pub mod Truth
+pub mod Class
+pub mod Majority
+pub mod Find
+pub mod Drop
+pub mod Call
+pub mod Keeps
+pub mod Inner
+pub mod Ways
+pub mod Worked
+pub mod All
+pub mod Promises
