@@ -3,7 +3,7 @@ ghost use mathlib.Core.Path.{_≡_};
 ghost use Prim.Native.Nat.{ℕ, _+_, _*_, _≤_, _<_};
 ghost use lib.ListN.{length};
 ghost use Rattle.state.specs.State.{field};
-ghost use Rattle.trees.specs.Filling.{Cleared, Counting, Noted, Noting, Notes, onlyPlace, Gathered, GatheredTo};
+ghost use Rattle.trees.specs.Filling.{Counting, Noted, Noting, Notes, onlyPlace, Gathered, GatheredTo};
 ghost use Rattle.graph.specs.Inner.{Names, Readable};
 ghost use Rattle.graph.specs.Literals.{bitOf, held, literals};
 use crate::fields::read;
@@ -13,17 +13,6 @@ use graph::table;
 use moves::words::narrow;
 use moves::words::node_of;
 use moves::words::wide;
-
-pub fn clear(nodes: usize, scratch: &mut [u32])
-    requires { ⌜ (nodes ≤ 100000) × (8 * nodes ≤ length (now scratch)) ⌝ }
-    ensures { λ _. ⌜ Cleared nodes (now (scratch .exit)) ⌝ }
-{
-    let mut k: usize = 0;
-    while k < 8 * nodes {
-        scratch[k] = 0;
-        k += 1;
-    }
-}
 
 // The word at place p, which has the index u and the bit b, noted at the node that it names: counted in field f, its bit added in field
 // 1, its place kept in field f + 1. The mark names none.

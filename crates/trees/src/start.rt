@@ -5,6 +5,7 @@ ghost use lib.ListN.{length};
 ghost use Rattle.graph.specs.Admission.{Admitted};
 ghost use Rattle.graph.specs.Literals.{graphIn};
 ghost use Rattle.state.specs.State.{stands, Ordered};
+use crate::fields::clear;
 use crate::fill;
 use crate::links;
 
@@ -27,7 +28,7 @@ pub fn fill_scratch(
 {
     let i = inputs as usize;
     let n = nodes as usize;
-    fill::clear(n, scratch);
+    clear(n, scratch);
     fill::note_all(i, n, node_table, node_bits, 3 * n, 4, scratch);
     fill::note_all(
         i,
