@@ -1,0 +1,66 @@
+-- A triple whose signatures do not fit is passed over as one that was tried and gives no majority, and so are all with two indices that do not fit. From the
+-- laws on votes and on trials.
+use mathlib.Core.Path.{_≡_, refl, sym, ap, _∙_}
+use mathlib.Core.Bool.{Bool, true, false}
+use mathlib.Core.List.{List}
+use Prim.Native.Nat.{ℕ, zero, suc, _+_, _-_, _<_}
+use native.Mathlib.Omega.{arith}
+use lib.ListN.{getD, take}
+use Rattle.graph.specs.Admission.{Admitted}
+use Rattle.graph.specs.Graph.{Graph, node}
+use Rattle.hidden.specs.Truth.{Triple, triple, truth}
+use Rattle.hidden.specs.Majority.{isMajority}
+use Rattle.hidden.specs.Find.{firstMade}
+use Rattle.hidden.specs.Inner.{Rising, left₂, left₃}
+use Rattle.hidden.proofs.Order.{passed-over}
+use Rattle.majority_call.specs.Valuing.{Facts, Framed}
+use Rattle.finder.specs.Signs.{Signed, signOf, Votes}
+use Rattle.finder.specs.Trying.{Ready, SignsRead, Tried, Sought}
+use Rattle.finder.proofs.Fitting.{could-passed}
+use Rattle.finder.proofs.Trials.{third-step, thirds-end, triple-rising}
+
+untouched : (v : ℕ) (sc : List ℕ) → Framed v sc sc
+untouched v sc = record { same = refl; above = λ j h. refl; first = λ w. refl; last = λ w f h k. refl }
+
+-- one triple
+pub unfit-tried : (g : Graph) → Admitted g → (v : ℕ) → v < g .N → (sc : List ℕ) → Facts g sc → Signed g (v + 1) sc → (t : Triple) → Rising t (node g v) → (b : Bool)
+    → ((c : ℕ) → Votes c (signOf (g .I) sc (node g v)) (signOf (g .I) sc (t .one)) (signOf (g .I) sc (t .two)) (signOf (g .I) sc (t .three)) → b ≡ true)
+    → b ≡ false → Tried g t v 256 sc sc
+unfit-tried g adm v within sc facts s t r b f e =
+    record {
+      value = λ h. absurd (omega arith);
+      majority = λ h. absurd (omega arith);
+      none = λ h. could-passed g adm t v within r sc s b f e;
+      framed = untouched v sc;
+      facts = facts;
+    }
+
+-- by what is read of signatures
+pub unfit-read : (g : Graph) → Admitted g → (v : ℕ) → v < g .N → (sc : List ℕ) → Facts g sc → (t : Triple) → Rising t (node g v) → (w x y z : ℕ)
+    → SignsRead g v (t .one) (t .two) w x y sc → z ≡ signOf (g .I) sc (t .three) → (b : Bool) → ((c : ℕ) → Votes c w x y z → b ≡ true) → b ≡ false → Tried g t v 256 sc sc
+unfit-read g adm v within sc facts t r w x y z k e b f n =
+    unfit-tried g adm v within sc facts (k .signed) t r b (rw (← k .here, ← k .first, ← k .second, ← e) f) n
+
+-- all with the indices at places a and b of a list
+module _ (g : Graph) (v m : ℕ) (list sc : List ℕ) (ready : Ready g v m list sc) (s : Signed g (v + 1) sc) (a b : ℕ) (h : a < b) (k : b < m) (x : Bool)
+    (f : (c z : ℕ) → Votes c (signOf (g .I) sc (node g v)) (signOf (g .I) sc (getD list a 0)) (signOf (g .I) sc (getD list b 0)) z → x ≡ true) (e : x ≡ false) where
+  none-here : (c : ℕ) → b < c → c < m → isMajority (truth g (triple (getD list a 0) (getD list b 0) (getD list c 0)) (node g v)) ≡ false
+  none-here c l q =
+      could-passed g (ready .admitted) (triple (getD list a 0) (getD list b 0) (getD list c 0)) v (ready .within) (triple-rising g v m list sc ready a b c h l q) sc s x (λ d. f d _) e
+
+  none-left : (n c : ℕ) → c + n ≡ m → b < c → firstMade g (node g v) (left₃ (take m list) a b c) ≡ firstMade g (node g v) (left₂ (take m list) a (suc b))
+  none-left zero c q l = ap (firstMade g (node g v)) (thirds-end m list (ready .listed) a b c (omega arith))
+  none-left (suc n) c q l =
+      ap (firstMade g (node g v)) (third-step m list (ready .listed) a b c h l (omega arith))
+      ∙ passed-over g (node g v) (triple (getD list a 0) (getD list b 0) (getD list c 0)) (left₃ (take m list) a b (c + 1)) (none-here c l (omega arith))
+      ∙ none-left n (c + 1) (omega arith) (omega arith)
+
+  pub unfit-sought : (t : Triple) → Sought g v (left₃ (take m list) a b (suc b)) (left₂ (take m list) a (suc b)) 256 t sc sc
+  unfit-sought t =
+      record {
+        gives = λ z. absurd (omega arith);
+        found = λ z. absurd (omega arith);
+        left = λ z. sym (none-left (m - suc b) (suc b) (omega arith) (omega arith));
+        framed = untouched v sc;
+        facts = ready .facts;
+      }

@@ -1,0 +1,60 @@
+-- `try_near` meets its contract. From the laws on trials and on nodes at which there is nothing to find.
+use mathlib.Core.Path.{_≡_, refl}
+use Prim.Native.Nat.{ℕ, _+_, _*_, _≤_, _<_}
+use native.Mathlib.Omega.{arith}
+use Rattle.graph.specs.Graph.{Graph}
+use Rattle.graph.specs.Literals.{literals}
+use Rattle.evaluation.specs.Inner.{nodesOf}
+use Rattle.finder.specs.Barred.{NoMajority}
+use Rattle.finder.proofs.Barring.{barred-sought}
+use Rattle.finder.proofs.Trials.{near-ready, sought-near}
+use borrow.Author.Needs.{needs}
+use Rattle.finder.proofs.trying.try_near.Statement.{statement}
+use Rattle.finder.proofs.trying.try_near.Tie as tie
+
+abbrev graph : tie.Start → Graph
+graph s = nodesOf (s .args .inputs) (s .args .nodes) (literals (s .args .node-table .now) (s .args .node-bits .now))
+
+nothing-to-find-requires : tie.Need-nothing-to-find-requires
+nothing-to-find-requires c κs = let s = c .before .before .before .before in (s .pre .0, omega (arith, s .pre .2, c .wide .ensures))
+
+returns : tie.Need-returns
+returns c =
+    let w = c .before .before .wide in
+    let s = c .before .before .before .before .before .before in
+    let a = s .args in
+    let none : NoMajority (graph s) (a .v) = rw (w .ensures) at (c .before .nothing-to-find .ensures (c .if1 .taken)) in
+    barred-sought (graph s) (a .v) none (a .scratch .now) (s .pre .3) _
+
+try-triples-requires : tie.Need-try-triples-requires
+try-triples-requires c κs =
+    let o = c .before .before .before .reach-three in
+    let w = c .before .before .before .before .before .before .before .wide in
+    let s = c .before .before .before .before .before .before .before .before .before .before .before in
+    let a = s .args in
+    near-ready (graph s) (a .v) (w .result) (o .result) _ (o .last .1 .1 .1 .1 .0) (w .ensures) (o .ensures) (a .scratch .now) (s .pre .0) (s .pre .1) (s .pre .2) (s .pre .3) (s .pre .4) refl
+
+returns-2 : tie.Need-returns-2
+returns-2 c =
+    let t = c .before .before .try-triples in
+    let o = c .before .before .before .before .before .before .reach-three in
+    let w = c .before .before .before .before .before .before .before .before .before .before .wide in
+    let s = c .before .before .before .before .before .before .before .before .before .before .before .before .before .before in
+    let a = s .args in
+    sought-near (graph s) (a .v) (w .result) (o .result) _ (o .last .1 .1 .1 .1 .0) (w .ensures) (o .ensures) (t .result .byte) _ (a .scratch .now) _ (t .ensures)
+
+pub try-near-spec : {M : Type 1} → statement M
+try-near-spec =
+    tie.close
+    (tie.spec
+    (λ c κs. search needs)
+    nothing-to-find-requires
+    returns
+    (λ c. search needs)
+    (λ c. search needs)
+    (λ c. search needs)
+    (λ c κs. search needs)
+    (λ c. search needs)
+    try-triples-requires
+    (λ c. search needs)
+    returns-2)

@@ -1,0 +1,9 @@
+pub mod Living
+pub mod Numbering
+pub mod Compacting
+pub mod Nearness
+pub mod Signs
+pub mod Barred
+pub mod Trying
+pub mod Ways
+pub mod Passing
