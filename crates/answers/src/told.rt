@@ -7,6 +7,7 @@ ghost use Rattle.tagged_file.specs.Write.{writtenAnswer};
 ghost use Rattle.evaluation.specs.Evaluation.{evaluatedAnswer};
 ghost use Rattle.moves.specs.Call.{savingAnswer, gainAnswer};
 ghost use Rattle.settling.specs.Settle.{settledAnswer};
+ghost use Rattle.hidden.specs.Call.{majorityAnswer, foundAnswer};
 ghost use Rattle.answers.specs.Told.{told, toldOne, toldSigned, toldGain};
 
 // The payload of a field starts after the 3 bytes of its head.
@@ -152,5 +153,47 @@ pub fn settled_sums(answer: settling::Settled, before: [i64; 2]) -> [i64; 2]
     match answer {
         settling::Settled::Rounds { own, others, .. } => [own, others],
         settling::Settled::Refused(_) => before,
+    }
+}
+
+pub fn majority_number(answer: hidden::Majority) -> u32
+    ensures { λ r. ⌜ r ≡ majorityAnswer answer .number ⌝ }
+{
+    match answer {
+        hidden::Majority::Made => 0,
+        hidden::Majority::NotMajority => 0,
+        hidden::Majority::NotCovered => 0,
+        hidden::Majority::Refused(refusal) => graph::faults::number_of(refusal),
+    }
+}
+
+// 0 where the node is a majority now, 1 where it is none, 2 where the three do not cover it.
+pub fn majority_told(answer: hidden::Majority, before: u32) -> u32
+    ensures { λ r. ⌜ r ≡ toldOne (majorityAnswer answer) before ⌝ }
+{
+    match answer {
+        hidden::Majority::Made => 0,
+        hidden::Majority::NotMajority => 1,
+        hidden::Majority::NotCovered => 2,
+        hidden::Majority::Refused(_) => before,
+    }
+}
+
+pub fn found_number(answer: hidden::Found) -> u32
+    ensures { λ r. ⌜ r ≡ foundAnswer answer .number ⌝ }
+{
+    match answer {
+        hidden::Found::Nodes(_) => 0,
+        hidden::Found::Refused(refusal) => graph::faults::number_of(refusal),
+    }
+}
+
+// The new number of nodes.
+pub fn found_told(answer: hidden::Found, before: u32) -> u32
+    ensures { λ r. ⌜ r ≡ toldOne (foundAnswer answer) before ⌝ }
+{
+    match answer {
+        hidden::Found::Nodes(nodes) => nodes,
+        hidden::Found::Refused(_) => before,
     }
 }

@@ -34,7 +34,7 @@ is-node-in : (g : Graph) (u : ℕ) → isNode (trimmed g) u ≡ isNode g u
 unfolding isNode
 is-node-in g u = refl
 
-node-fault-in : (g : Graph) (u : ℕ) → nodeFault (trimmed g) u ≡ nodeFault g u
+pub node-fault-in : (g : Graph) (u : ℕ) → nodeFault (trimmed g) u ≡ nodeFault g u
 unfolding nodeFault isNode
 node-fault-in g u = refl
 

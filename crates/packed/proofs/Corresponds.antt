@@ -1,26 +1,34 @@
--- Every call, and every list of calls, keeps packed graphs and their old ones in step. From the calls on a trimmed graph, by induction over
--- the list.
-use mathlib.Core.Path.{_≡_, refl, ap, _∙_}
+-- Every call, and every list of calls, keeps packed graphs and their old ones in step. From the calls on a trimmed graph and from two graphs that
+-- are alike but for tails, by induction over the list.
+use mathlib.Core.Path.{_≡_, refl, sym, ap, ap₂, _∙_}
+use mathlib.Core.Bool.{false, true≢false}
 use mathlib.Core.List.{List, [], _∷_}
 use Prim.Native.Nat.{ℕ, zero, suc}
 use lib.ListN.{length}
-use Rattle.graph.specs.Admission.{Admitted}
-use Rattle.graph.specs.Answer.{Answer, Outcome, LockedOutcome, lockedOutcome, guarded}
+use Rattle.graph.specs.Admission.{Admitted, admissionNumber}
+use Rattle.graph.specs.Answer.{Answer, Outcome, LockedOutcome, lockedOutcome, guarded, guardedLocks}
 use Rattle.graph.specs.Graph.{Graph}
-use Rattle.moves.specs.Call.{moved}
+use Rattle.graph.proofs.Admit.{locks-admitted}
+use Rattle.graph.proofs.Tests.{both, off}
+use Rattle.moves.specs.Call.{moved, nodeFault, scratchFault}
 use Rattle.moves.specs.Apply.{none, put}
 use Rattle.moves.proofs.Apply as applied
 use Rattle.many.specs.Many.{manyNumber, manyCall}
 use Rattle.rounds.specs.Settle.{settle, settled, settleNumber, settleCall}
 use Rattle.rounds.proofs.Calls.{node-honest, pair-honest, tree-honest}
 use Rattle.rounds.proofs.Rounds.{settle-ended}
-use Rattle.promises.specs.Demand.{Call, nodeAt, pairAt, treeAt, settling, manyAt, Locked, withLocks, beside, step, left, run}
+use Rattle.hidden.specs.Truth.{Triple}
+use Rattle.hidden.specs.Call.{tripleFault, majorityNumber, majorityOutcome, majorityCall, findNumber, found, findCall}
+use Rattle.hidden.proofs.MajorityCall.{node-is, rising-is, outcome-same}
+use Rattle.hidden.proofs.FindCall.{found-finds}
+use Rattle.promises.specs.Demand.{Call, nodeAt, pairAt, treeAt, settling, manyAt, majorityAt, finding, Locked, withLocks, beside, step, left, run, rewires, NoneRewires}
 use Rattle.packed.specs.Old.{trimmed}
 use Rattle.packed.specs.Corresponds.{answers, Corresponds}
-use Rattle.packed.proofs.Admitting.{admission-in}
+use Rattle.packed.proofs.Admitting.{trimmed-admitted, admission-in}
 use Rattle.packed.proofs.Calls.{node-in, pair-in, tree-call-in, many-in, trial-in}
-use Rattle.packed.proofs.Old.{told-alike, in-step}
+use Rattle.packed.proofs.Old.{told-alike, in-step, in-graph}
 use Rattle.packed.proofs.Reading.{count-in, evaluate-number-in, results-in, write-in, export-in, preview-answer-in, preview-bytes-in}
+use Rattle.packed.proofs.Rewiring.{trimmed-twice, trimmedLeft, majority-in, find-in}
 use Rattle.packed.proofs.Settling.{settle-call-in}
 
 -- an admitted graph stays one, whatever the locks
@@ -38,6 +46,28 @@ module _ (g : Graph) (adm : Admitted g) (ls : List ℕ) where
   unfolding manyCall moved
   many-keeps us ms = guarded-keeps (manyNumber g ls us ms) g _ adm (λ e. applied.admitted g (put none us ms) adm)
 
+  majority-keeps : (s u : ℕ) (t : Triple) → Admitted (majorityCall g ls s t u .graph)
+  unfolding majorityCall majorityNumber
+  majority-keeps s u t =
+      guarded-keeps (majorityNumber g ls s t u) g (majorityOutcome g t u) adm
+      (λ e.
+      let b = both (nodeFault g u) _ (both (admissionNumber g ls) _ e .1) in
+      let n = node-is g u (b .0) in
+      outcome-same g adm t u (n .0) (n .1) (rising-is t u (both (tripleFault t u) _ (b .1) .0)) .keeps .admitted)
+
+  found-keeps : (k : ℕ) → (k ≡ 0 → Admitted (found g ls .graph)) → Admitted (guardedLocks k g ls (found g ls) .graph)
+  unfolding guardedLocks
+  found-keeps zero h = h refl
+  found-keeps (suc k) h = adm
+
+  find-keeps : (s : ℕ) → Admitted (findCall g ls s .graph)
+  unfolding findCall findNumber
+  find-keeps s = found-keeps (findNumber g ls s) (λ e. found-finds g ls adm (locks-admitted g ls (both (admissionNumber g ls) _ e .0)) .keeps .admitted)
+
+-- what is trimmed has no more to trim
+twice-left : (o : LockedOutcome) → trimmedLeft (trimmedLeft o) ≡ trimmedLeft o
+twice-left o = ap (λ (h : Graph). lockedOutcome (o .answer) h (o .locks)) (trimmed-twice (o .graph))
+
 -- a graph with its locks, trimmed
 abbrev pub trimmedLocked : Locked → Locked
 trimmedLocked d = withLocks (trimmed (d .graph)) (d .locks)
@@ -49,42 +79,86 @@ module _ (d : Locked) (adm : Admitted (d .graph)) where
   step-keeps (treeAt r scratch) = tree-honest (d .locks) (λ x. r) (length scratch) .keeps (d .graph) adm .stays .admitted
   step-keeps (settling scratch) = settle-keeps (d .graph) adm (d .locks) (length scratch)
   step-keeps (manyAt us ms) = many-keeps (d .graph) adm (d .locks) us ms
+  step-keeps (majorityAt u t scratch) = majority-keeps (d .graph) adm (d .locks) (length scratch) u t
+  step-keeps (finding scratch) = find-keeps (d .graph) adm (d .locks) (length scratch)
 
-  pub step-in : (c : Call) → step (trimmedLocked d) c ≡ lockedOutcome (step d c .answer) (trimmed (step d c .graph)) (step d c .locks)
-  step-in (nodeAt u) = ap (beside d) (node-in (d .graph) adm (d .locks) u)
-  step-in (pairAt u k) = ap (beside d) (pair-in (d .graph) adm (d .locks) u k)
-  step-in (treeAt r scratch) = ap (beside d) (tree-call-in (d .graph) adm (d .locks) (length scratch) r)
-  step-in (settling scratch) = ap (beside d) (settle-call-in (d .graph) adm (d .locks) (length scratch))
-  step-in (manyAt us ms) = ap (beside d) (many-in (d .graph) adm (d .locks) us ms)
+  pub step-in : (c : Call) → rewires c ≡ false → step (trimmedLocked d) c ≡ lockedOutcome (step d c .answer) (trimmed (step d c .graph)) (step d c .locks)
+  step-in (nodeAt u) w = ap (beside d) (node-in (d .graph) adm (d .locks) u)
+  step-in (pairAt u k) w = ap (beside d) (pair-in (d .graph) adm (d .locks) u k)
+  step-in (treeAt r scratch) w = ap (beside d) (tree-call-in (d .graph) adm (d .locks) (length scratch) r)
+  step-in (settling scratch) w = ap (beside d) (settle-call-in (d .graph) adm (d .locks) (length scratch))
+  step-in (manyAt us ms) w = ap (beside d) (many-in (d .graph) adm (d .locks) us ms)
+  step-in (majorityAt u t scratch) w = absurd (true≢false w)
+  step-in (finding scratch) w = absurd (true≢false w)
+
+  still-left : (c : Call) → rewires c ≡ false → trimmedLeft (step (trimmedLocked d) c) ≡ trimmedLeft (step d c)
+  still-left c w = ap trimmedLeft (step-in c w) ∙ twice-left (step d c)
+
+  -- and of every call, but for tails
+  step-left : (c : Call) → trimmedLeft (step (trimmedLocked d) c) ≡ trimmedLeft (step d c)
+  step-left (nodeAt u) = still-left (nodeAt u) refl
+  step-left (pairAt u k) = still-left (pairAt u k) refl
+  step-left (treeAt r scratch) = still-left (treeAt r scratch) refl
+  step-left (settling scratch) = still-left (settling scratch) refl
+  step-left (manyAt us ms) = still-left (manyAt us ms) refl
+  step-left (majorityAt u t scratch) =
+      ap (λ (o : Outcome). trimmedLeft (beside d o)) (majority-in (d .graph) adm (d .locks) (length scratch) t u) ∙ twice-left (beside d (majorityCall (d .graph) (d .locks) (length scratch) t u))
+  step-left (finding scratch) = find-in (d .graph) adm (d .locks) (length scratch)
+
+-- two graphs that are alike but for tails, with the same locks: each call answers alike, and leaves such graphs again
+pub step-alike : (d e : Locked) → Admitted (d .graph) → Admitted (e .graph) → trimmedLocked d ≡ trimmedLocked e → (c : Call) → trimmedLeft (step d c) ≡ trimmedLeft (step e c)
+step-alike d e x y p c = sym (step-left d x c) ∙ ap (λ (l : Locked). trimmedLeft (step l c)) p ∙ step-left e y c
 
 -- a list of calls
 pub run-keeps : (d : Locked) → Admitted (d .graph) → (cs : List Call) → Admitted (run d cs .graph)
 run-keeps d adm [] = adm
 run-keeps d adm (c ∷ cs) = run-keeps (left (step d c)) (step-keeps d adm c) cs
 
-pub run-in : (d : Locked) → Admitted (d .graph) → (cs : List Call) → run (trimmedLocked d) cs ≡ trimmedLocked (run d cs)
-run-in d adm [] = refl
-run-in d adm (c ∷ cs) = ap (λ (o : LockedOutcome). run (left o) cs) (step-in d adm c) ∙ run-in (left (step d c)) (step-keeps d adm c) cs
+run-in : (d : Locked) → Admitted (d .graph) → (cs : List Call) → NoneRewires cs → run (trimmedLocked d) cs ≡ trimmedLocked (run d cs)
+run-in d adm [] n = refl
+run-in d adm (c ∷ cs) n = ap (λ (o : LockedOutcome). run (left o) cs) (step-in d adm c (n .0)) ∙ run-in (left (step d c)) (step-keeps d adm c) cs (n .1)
 
-answers-in : (d : Locked) → Admitted (d .graph) → (cs : List Call) → answers (trimmedLocked d) cs ≡ answers d cs
-answers-in d adm [] = refl
-answers-in d adm (c ∷ cs) =
-    ap (λ (o : LockedOutcome). o .answer ∷ answers (left o) cs) (step-in d adm c)
-    ∙ ap (λ (l : List Answer). step d c .answer ∷ l) (answers-in (left (step d c)) (step-keeps d adm c) cs)
+pub run-alike : (d e : Locked) → Admitted (d .graph) → Admitted (e .graph) → trimmedLocked d ≡ trimmedLocked e → (cs : List Call) → trimmedLocked (run d cs) ≡ trimmedLocked (run e cs)
+run-alike d e x y p [] = p
+run-alike d e x y p (c ∷ cs) = run-alike (left (step d c)) (left (step e c)) (step-keeps d x c) (step-keeps e y c) (ap left (step-alike d e x y p c)) cs
+
+answers-alike : (d e : Locked) → Admitted (d .graph) → Admitted (e .graph) → trimmedLocked d ≡ trimmedLocked e → (cs : List Call) → answers d cs ≡ answers e cs
+answers-alike d e x y p [] = refl
+answers-alike d e x y p (c ∷ cs) =
+    let s = step-alike d e x y p c in
+    ap₂ (λ (a : Answer) (l : List Answer). a ∷ l) (ap (λ (o : LockedOutcome). o .answer) s)
+    (answers-alike (left (step d c)) (left (step e c)) (step-keeps d x c) (step-keeps e y c) (ap left s) cs)
+
+-- a graph and the same without its tails
+module _ (g : Graph) (adm : Admitted g) (ls : List ℕ) (cs : List Call) where
+  twice : trimmedLocked (withLocks (trimmed g) ls) ≡ trimmedLocked (withLocks g ls)
+  twice = ap (λ (h : Graph). withLocks h ls) (trimmed-twice g)
+
+  run-trimmed : trimmedLocked (run (withLocks (trimmed g) ls) cs) ≡ trimmedLocked (run (withLocks g ls) cs)
+  run-trimmed = run-alike (withLocks (trimmed g) ls) (withLocks g ls) (trimmed-admitted g adm) adm twice cs
+
+  answers-trimmed : answers (withLocks (trimmed g) ls) cs ≡ answers (withLocks g ls) cs
+  answers-trimmed = answers-alike (withLocks (trimmed g) ls) (withLocks g ls) (trimmed-admitted g adm) adm twice cs
 
 pub corresponds : (ls : List ℕ) → Corresponds ls
 corresponds ls =
     record {
-      each = λ c.
+      each = λ c w.
           in-step _ _
-          (λ g adm. ap (λ (o : LockedOutcome). o .answer) (step-in (withLocks g ls) adm c))
-          (λ g adm. ap (λ (o : LockedOutcome). o .graph) (step-in (withLocks g ls) adm c))
+          (λ g adm. ap (λ (o : LockedOutcome). o .answer) (step-in (withLocks g ls) adm c w))
+          (λ g adm. ap (λ (o : LockedOutcome). o .graph) (step-in (withLocks g ls) adm c w))
           (λ g adm. step-keeps (withLocks g ls) adm c);
-      lists = λ cs.
+      lists = λ cs n.
           in-step _ _
-          (λ g adm. answers-in (withLocks g ls) adm cs)
-          (λ g adm. ap (λ (d : Locked). d .graph) (run-in (withLocks g ls) adm cs))
+          (λ g adm. answers-trimmed g adm ls cs)
+          (λ g adm. ap (λ (d : Locked). d .graph) (run-in (withLocks g ls) adm cs n))
           (λ g adm. run-keeps (withLocks g ls) adm cs);
+      all = λ cs.
+          in-graph _ _
+          (λ g adm. answers-trimmed g adm ls cs)
+          (λ g adm. ap (λ (d : Locked). d .graph) (run-trimmed g adm ls cs))
+          (λ g adm. run-keeps (withLocks g ls) adm cs);
+      locks = λ cs. told-alike _ (λ g adm. ap (λ (d : Locked). d .locks) (run-trimmed g adm ls cs));
       admission = told-alike _ (λ g adm. admission-in g adm ls);
       count = told-alike _ (λ g adm. count-in g adm ls);
       evaluation = λ w s r. told-alike _ (λ g adm. evaluate-number-in g adm ls w s r);

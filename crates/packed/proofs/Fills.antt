@@ -1,6 +1,6 @@
 -- A load, an import, a replay and a report go by how much the tables hold, and leave the old graph of what they leave in packed ones. From
 -- the calls on a trimmed graph.
-use mathlib.Core.Path.{_≡_, refl, sym, ap, _∙_}
+use mathlib.Core.Path.{_≡_, refl, sym, ap, ap₂, _∙_}
 use mathlib.Core.Bool.{Bool, true, false, cond}
 use mathlib.Core.List.{List, [], _∷_, _++_}
 use Prim.Native.Nat.{ℕ, zero, suc, _+_, _*_, _/_, _<_}
@@ -11,7 +11,7 @@ use lib.IntN.{ℤ, pos}
 use lib.Seq.{take-append-seam}
 use lib.ListN.{length, getD, take, drop}
 use Rattle.graph.specs.Admission.{Admitted}
-use Rattle.graph.specs.Answer.{ownOf, othersOf, Outcome, LockedOutcome, lockedOutcome, accepted, guardedLocks}
+use Rattle.graph.specs.Answer.{Answer, othersOf, Outcome, LockedOutcome, lockedOutcome, accepted, guardedLocks}
 use Rattle.graph.specs.Finite.{tab, ifEqual, first}
 use Rattle.graph.specs.Graph.{Graph}
 use Rattle.graph.specs.Literals.{literals, held, filled, wordsFor, cleared}
@@ -28,12 +28,12 @@ use Rattle.tagged_file.proofs.RoundTrip.{load-admitted}
 use Rattle.aiger.specs.Import.{headI, headA, headO, body, gateWord, importNumber, graphImported, importCall}
 use Rattle.aiger.specs.Lines.{numberAt}
 use Rattle.aiger.proofs.Imported.{import-admitted}
-use Rattle.replay.specs.Replay.{Lent, decode, answersOf, codeNumber, replayNumber, replayCall, answersAfter}
+use Rattle.replay.specs.Replay.{Lent, decode, secondOf, answersOf, codeNumber, replayNumber, replayCall, answersAfter}
 use Rattle.report.specs.Report.{nodeLineAt, outputLineAt, settledText, textOf, thenSettle, settledFile, ReportOutcome, printed, reportCall}
 use Rattle.packed.specs.Old.{trimmed}
 use Rattle.packed.specs.Corresponds.{AsLong, FillsAlike, FillsCorrespond}
 use Rattle.packed.proofs.Choosing.{cond-ap, ifEqual-when, ifEqual-read}
-use Rattle.packed.proofs.Corresponds.{trimmedLocked, settle-keeps, step-keeps, step-in, run-keeps, run-in}
+use Rattle.packed.proofs.Corresponds.{trimmedLocked, settle-keeps, step-keeps, step-alike, run-keeps, run-alike}
 use Rattle.packed.proofs.Old.{old-is}
 use Rattle.packed.proofs.Settling.{settle-call-in}
 use Rattle.packed.proofs.Trimmed.{word-in, output-in}
@@ -98,11 +98,12 @@ then-settle-admits o s adm =
     cond-admits (eqb (o .answer .number) 0) _ o (λ e. settle-keeps (o .graph) (adm (eqb-true _ _ e)) (o .locks) s) adm
 
 -- the answers of a replay
-answers-in : (d : Locked) → Admitted (d .graph) → (cs : List Call) → answersOf (trimmedLocked d) cs ≡ answersOf d cs
-answers-in d adm [] = refl
-answers-in d adm (c ∷ cs) =
-    ap (λ (o : LockedOutcome). pos (o .answer .number) ∷ ownOf (o .answer) ∷ othersOf (o .answer) ∷ answersOf (left o) cs) (step-in d adm c)
-    ∙ ap (λ (l : List ℤ). pos (step d c .answer .number) ∷ ownOf (step d c .answer) ∷ othersOf (step d c .answer) ∷ l) (answers-in (left (step d c)) (step-keeps d adm c) cs)
+answers-alike : (d e : Locked) → Admitted (d .graph) → Admitted (e .graph) → trimmedLocked d ≡ trimmedLocked e → (cs : List Call) → answersOf d cs ≡ answersOf e cs
+answers-alike d e x y p [] = refl
+answers-alike d e x y p (c ∷ cs) =
+    let s = step-alike d e x y p c in
+    ap₂ (λ (a : Answer) (l : List ℤ). pos (a .number) ∷ secondOf c a ∷ othersOf a ∷ l) (ap (λ (o : LockedOutcome). o .answer) s)
+    (answers-alike (left (step d c)) (left (step e c)) (step-keeps d x c) (step-keeps e y c) (ap left s) cs)
 
 -- the text of a report
 in-order-same : (f h : ℕ → List ℕ) (v n : ℕ) → ((j : ℕ) → j < v + n → f j ≡ h j) → inOrder f v n ≡ inOrder h v n
@@ -165,16 +166,10 @@ module _ (ns os ms ps ls : List ℕ) (a : held ms ≡ held ns) (b : held ps ≡ 
 
     module _ (x : loadCall s ms ps ls .answer .number ≡ 0) (y : loadCall s ns os ls .answer .number ≡ 0) (cs : List Call) where
       run-same : trimmedLocked (run (left (loadCall s ms ps ls)) cs) ≡ trimmedLocked (run (left (loadCall s ns os ls)) cs)
-      run-same =
-          sym (run-in (left (loadCall s ms ps ls)) (load-admitted s ms ps ls x) cs)
-          ∙ ap (λ (d : Locked). run d cs) left-same
-          ∙ run-in (left (loadCall s ns os ls)) (load-admitted s ns os ls y) cs
+      run-same = run-alike (left (loadCall s ms ps ls)) (left (loadCall s ns os ls)) (load-admitted s ms ps ls x) (load-admitted s ns os ls y) left-same cs
 
       told-same : answersOf (left (loadCall s ms ps ls)) cs ≡ answersOf (left (loadCall s ns os ls)) cs
-      told-same =
-          sym (answers-in (left (loadCall s ms ps ls)) (load-admitted s ms ps ls x) cs)
-          ∙ ap (λ (d : Locked). answersOf d cs) left-same
-          ∙ answers-in (left (loadCall s ns os ls)) (load-admitted s ns os ls y) cs
+      told-same = answers-alike (left (loadCall s ms ps ls)) (left (loadCall s ns os ls)) (load-admitted s ms ps ls x) (load-admitted s ns os ls y) left-same cs
 
     replay-same : (room : ℕ) → trimmedFill (replayCall s words t ms ps ls room) ≡ trimmedFill (replayCall s words t ns os ls room)
     unfolding replayCall
@@ -184,7 +179,7 @@ module _ (ns os ms ps ls : List ℕ) (a : held ms ≡ held ns) (b : held ps ≡ 
         (λ z k.
         let p = accepted-both (length (t .list)) room z in
         let d = run-same (p .0) (p .1) (decode t words) k in
-        lockedOutcome (load-same s k .answer) (d .graph) (d .locks)))
+        lockedOutcome (accepted (d .graph .I ∷ d .graph .N ∷ d .graph .O ∷ [])) (d .graph) (d .locks)))
 
     answers-same : (before : List ℤ) → answersAfter s words t ms ps ls before ≡ answersAfter s words t ns os ls before
     unfolding answersAfter

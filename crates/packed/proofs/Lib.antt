@@ -5,6 +5,7 @@ pub mod Admitting
 pub mod Calls
 pub mod Settling
 pub mod Reading
+pub mod Rewiring
 pub mod Old
 pub mod Packing
 pub mod Corresponds

@@ -17,7 +17,7 @@ use Rattle.graph.proofs.Literals.{bitAt-le, indexAt-le, literal-low, literal-ma
 use Rattle.graph.proofs.Tests.{no-less, equal, unequal, none}
 use Rattle.graph.proofs.Turned.{same-graph}
 use Rattle.graph.proofs.Words.{is-word, out-low}
-use Rattle.packed.specs.Old.{oldTable, oldGraph, oldTablesNumber, oldContentNumber, oldNumber, IsOld, SameRule, Packed, RefusedAlike, ToldAlike, InStep, trimmed}
+use Rattle.packed.specs.Old.{oldTable, oldGraph, oldTablesNumber, oldContentNumber, oldNumber, IsOld, SameRule, Packed, RefusedAlike, ToldAlike, InStep, InGraph, trimmed}
 use Rattle.packed.proofs.Admitting.{room-same, no-strays}
 use Rattle.packed.proofs.Choosing.{firstOf-same}
 use Rattle.packed.proofs.Trimmed.{word-in, output-in, edge-in}
@@ -177,4 +177,12 @@ in-step tells after t a k i n o us bs vs ds cs es adm e =
     let h : Graph = graphIn i n o us cs vs es in (
       told-alike tells t i n o us bs vs ds adm,
       ap after (sym (old-is i n o us bs vs ds adm)) ∙ a g adm ∙ ap trimmed e ∙ old-is i n o us cs vs es (rw e at (k g adm)),
+    )
+
+pub in-graph : {A : Type 0} (tells : Graph → A) (after : Graph → Graph) → ((g : Graph) → Admitted g → tells (trimmed g) ≡ tells g)
+    → ((g : Graph) → Admitted g → trimmed (after (trimmed g)) ≡ trimmed (after g)) → ((g : Graph) → Admitted g → Admitted (after g)) → InGraph tells after
+in-graph tells after t a k i n o m us bs vs ds ws cs xs es adm e =
+    let g : Graph = graphIn i n o us bs vs ds in (
+      told-alike tells t i n o us bs vs ds adm,
+      ap (λ (h : Graph). trimmed (after h)) (sym (old-is i n o us bs vs ds adm)) ∙ a g adm ∙ ap trimmed e ∙ old-is i m o ws cs xs es (rw e at (k g adm)),
     )

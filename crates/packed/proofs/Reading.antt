@@ -28,7 +28,7 @@ use Rattle.packed.proofs.Trimmed.{word-in, output-in, xor-in, C-in, tre
 
 -- values
 module _ (g : Graph) where
-  node-value-in : (vs : List ℕ) (v : ℕ) → v < g .N → nodeValue (trimmed g) vs v ≡ nodeValue g vs v
+  pub node-value-in : (vs : List ℕ) (v : ℕ) → v < g .N → nodeValue (trimmed g) vs v ≡ nodeValue g vs v
   unfolding nodeValue
   node-value-in vs v l =
       rw (xor-in g v l, word-in g (3 * v + 0) (omega arith), word-in g (3 * v + 1) (omega arith), word-in g (3 * v + 2) (omega arith))

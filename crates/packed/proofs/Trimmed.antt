@@ -71,7 +71,7 @@ module _ (g : Graph) where
   unfolding named
   named-in u j l = rw (edge-in j l, word-in j l)
 
-  outputNamed-in : (u j : ℕ) → j < g .O → outputNamed (trimmed g) u j ≡ outputNamed g u j
+  pub outputNamed-in : (u j : ℕ) → j < g .O → outputNamed (trimmed g) u j ≡ outputNamed g u j
   unfolding outputNamed
   outputNamed-in u j l = rw (output-in j l)
 

@@ -1,14 +1,14 @@
 -- M-108: every call answers on an admitted packed graph as on its old one, and the two graphs afterwards correspond.
-use Rattle.graph.specs.All.{ℕ, _≡_, List, [], _∷_, length, ℤ, admissionNumber, Answer, accepted, unless, C, LockedOutcome, literals, graphIn, held}
+use Rattle.graph.specs.All.{ℕ, false, _≡_, List, [], _∷_, length, ℤ, admissionNumber, Answer, accepted, unless, C, LockedOutcome, literals, graphIn, held}
 use Rattle.tagged_file.specs.All.{writeCall, loadCall}
 use Rattle.aiger.specs.All.{exportCall, importCall}
 use Rattle.evaluation.specs.All.{evaluateNumber, resultsAfter}
 use Rattle.moves.specs.All.{trialCall}
 use Rattle.preview.specs.All.{previewAnswer, previewBytes}
-use Rattle.promises.specs.All.{Call, Locked, withLocks, step, left, run}
+use Rattle.promises.specs.All.{Call, Locked, withLocks, step, left, run, rewires, NoneRewires}
 use Rattle.report.specs.All.{settledFile, reportCall}
 use Rattle.replay.specs.All.{Lent, replayCall, answersAfter}
-use Rattle.packed.specs.Old.{ToldAlike, InStep, Indices, oldGraph, trimmed}
+use Rattle.packed.specs.Old.{ToldAlike, InStep, InGraph, Indices, oldGraph, trimmed}
 
 -- what a list of calls answers, each made on what the one before left
 abbrev pub answers : Locked → List Call → List Answer
@@ -17,9 +17,12 @@ answers d (c ∷ cs) = step d c .answer ∷ answers (left (step d c)) cs
 
 -- with any locks ls
 pub record Corresponds (ls : List ℕ) : Type 0 where
-  -- the node, pair, tree, settling and many calls, and every list of them
-  pub each : (c : Call) → InStep (λ g. step (withLocks g ls) c .answer) (λ g. step (withLocks g ls) c .graph)
-  pub lists : (cs : List Call) → InStep (λ g. answers (withLocks g ls) cs) (λ g. run (withLocks g ls) cs .graph)
+  -- the node, pair, tree, settling and many calls, which do not rewire, and every list of them
+  pub each : (c : Call) → rewires c ≡ false → InStep (λ g. step (withLocks g ls) c .answer) (λ g. step (withLocks g ls) c .graph)
+  pub lists : (cs : List Call) → NoneRewires cs → InStep (λ g. answers (withLocks g ls) cs) (λ g. run (withLocks g ls) cs .graph)
+  -- and every list with majority and finder calls among them, by what belongs to the graphs, and by the locks
+  pub all : (cs : List Call) → InGraph (λ g. answers (withLocks g ls) cs) (λ g. run (withLocks g ls) cs .graph)
+  pub locks : (cs : List Call) → ToldAlike (λ g. run (withLocks g ls) cs .locks)
   -- the calls that are lent a graph to be read
   pub admission : ToldAlike (λ g. admissionNumber g ls)
   pub count : ToldAlike (λ g. unless (admissionNumber g ls) (accepted (C g ∷ [])))

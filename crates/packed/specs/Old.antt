@@ -95,3 +95,10 @@ InStep tells after =
 -- trimmed (the team's term): a graph in tables without their tails
 abbrev pub trimmed : Graph → Graph
 trimmed g = graphOf (g .I) (g .N) (g .O) (take (3 * g .N) (g .nodes)) (take (g .O) (g .outputs))
+
+-- the same of a call that may rewire, and leave m nodes: the old graph's tables are as long as they were, so that what belongs to the graph is
+-- told, without their tails
+abbrev pub InGraph : {A : Type 0} → (Graph → A) → (Graph → Graph) → Type 0
+InGraph tells after =
+    (i n o m : ℕ) (us bs vs ds ws cs xs es : List ℕ) → Admitted (graphIn i n o us bs vs ds) → after (graphIn i n o us bs vs ds) ≡ graphIn i m o ws cs xs es
+    → (tells (oldGraph i n o us bs vs ds) ≡ tells (graphIn i n o us bs vs ds)) × (trimmed (after (oldGraph i n o us bs vs ds)) ≡ oldGraph i m o ws cs xs es)

@@ -2,6 +2,7 @@
 use Rattle.promises.specs.Promises.{Promises}
 use Rattle.promises.proofs.Lists.{demand, after-load, after-import}
 use Rattle.promises.proofs.Worked as worked
+use Rattle.promises.proofs.Found.{found-again}
 
 pub promises : Promises
 promises =
@@ -12,4 +13,5 @@ promises =
       worked-graphs = worked.graphs;
       worked-list = worked.there-and-back;
       worked-trials = worked.trials;
+      found-again = found-again;
     }

@@ -1,4 +1,5 @@
 pub mod Demand
 pub mod Worked
+pub mod Found
 pub mod All
 pub mod Promises

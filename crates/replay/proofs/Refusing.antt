@@ -8,29 +8,29 @@ use lib.ListN.{length, getD, drop}
 use Rattle.graph.specs.Finite.{ifLess, ifEqual, first}
 use Rattle.graph.proofs.Cases.{lt-or-le, eq-or-ne}
 use Rattle.graph.proofs.Tests.{equal, unequal, less, no-less, fault, none}
-use Rattle.replay.specs.Replay.{callNumber, wordsNumber, codeNumber, lesser, usable}
+use Rattle.replay.specs.Replay.{partNumber, callNumber, wordsNumber, codeNumber, lesser, usable}
 
 -- what the tests of one call come to
 module _ (n k u w : ℕ) where
-  pub kind-unknown : 4 < k → 102 ≡ callNumber n k u w
+  pub kind-unknown : 6 < k → 102 ≡ callNumber n k u w
   unfolding callNumber
-  kind-unknown h = let q : _≡_ {A = ℕ} 102 (ifLess 4 k 102 0) = less 4 k 102 0 h refl in fault _ _ q (λ z. omega (arith, q))
+  kind-unknown h = let q : _≡_ {A = ℕ} 102 (ifLess 6 k 102 0) = less 6 k 102 0 h refl in fault _ _ q (λ z. omega (arith, q))
 
-  module _ (h : k ≤ 4) where
-    kind-known : _≡_ {A = ℕ} (ifLess 4 k 102 0) 0
-    kind-known = sym (no-less 4 k 102 0 h refl)
+  module _ (h : k ≤ 6) where
+    kind-known : _≡_ {A = ℕ} (ifLess 6 k 102 0) 0
+    kind-known = sym (no-less 6 k 102 0 h refl)
 
-    pub no-part : k ≢ 4 → 0 ≡ callNumber n k u w
+    pub of-many : {x : ℕ} → k ≡ 4 → x ≡ partNumber n (u + w) → x ≡ callNumber n k u w
     unfolding callNumber
-    no-part m = none _ _ kind-known (unequal k 4 _ 0 m refl)
+    of-many e q = none _ _ kind-known (equal k 4 _ _ e q)
 
-    pub part-outside : k ≡ 4 → n < u + w → 105 ≡ callNumber n k u w
+    pub of-three : {x : ℕ} → k ≢ 4 → k ≡ 5 → x ≡ partNumber n (w + 3) → x ≡ callNumber n k u w
     unfolding callNumber
-    part-outside e m = none _ _ kind-known (equal k 4 _ 0 e (less n (u + w) 105 0 m refl))
+    of-three m e q = none _ _ kind-known (unequal k 4 _ _ m (equal k 5 _ _ e q))
 
-    pub part-inside : k ≡ 4 → u + w ≤ n → 0 ≡ callNumber n k u w
+    pub no-part : k ≢ 4 → k ≢ 5 → 0 ≡ callNumber n k u w
     unfolding callNumber
-    part-inside e m = none _ _ kind-known (equal k 4 _ 0 e (no-less n (u + w) 105 0 m refl))
+    no-part m l = none _ _ kind-known (unequal k 4 _ _ m (unequal k 5 _ _ l refl))
 
 module _ (n : ℕ) where
   pub words-step : (s : List ℕ) → 3 ≤ length s → wordsNumber n s ≡ first (callNumber n (getD s 0 0) (getD s 1 0) (getD s 2 0)) (wordsNumber n (drop 3 s))
@@ -46,20 +46,31 @@ module _ (n : ℕ) where
   words-done (k ∷ u ∷ w ∷ s) h = absurd (omega arith)
 
   -- a number of the words that is neither 0 nor 102 is 105
+  part-cases : (end : ℕ) → partNumber n end ≢ 0 → 105 ≡ partNumber n end
+  unfolding partNumber
+  part-cases end z =
+      ⊎-elim
+      (λ (l : n < end). less n end 105 0 l refl)
+      (λ (l : end ≤ n). absurd (z (sym (no-less n end 105 0 l refl))))
+      (lt-or-le n end)
+
+  at-part : (x end : ℕ) → partNumber n end ≡ x → x ≢ 0 → 105 ≡ x
+  at-part x end e z = part-cases end (λ y. z (sym e ∙ y)) ∙ e
+
   call-cases : (k u w : ℕ) → callNumber n k u w ≢ 0 → callNumber n k u w ≢ 102 → 105 ≡ callNumber n k u w
   call-cases k u w z m =
       ⊎-elim
-      (λ (h : 4 < k). absurd (m (sym (kind-unknown n k u w h))))
-      (λ (h : k ≤ 4).
+      (λ (h : 6 < k). absurd (m (sym (kind-unknown n k u w h))))
+      (λ (h : k ≤ 6).
       ⊎-elim
-      (λ (e : k ≡ 4).
+      (λ (e : k ≡ 4). at-part _ (u + w) (of-many n k u w h e refl) z)
+      (λ (f : k ≢ 4).
       ⊎-elim
-      (λ (l : n < u + w). part-outside n k u w h e l)
-      (λ (l : u + w ≤ n). absurd (z (sym (part-inside n k u w h e l))))
-      (lt-or-le n (u + w)))
-      (λ (e : k ≢ 4). absurd (z (sym (no-part n k u w h e))))
+      (λ (e : k ≡ 5). at-part _ (w + 3) (of-three n k u w h f e refl) z)
+      (λ (e : k ≢ 5). absurd (z (sym (no-part n k u w h f e))))
+      (eq-or-ne k 5))
       (eq-or-ne k 4))
-      (lt-or-le 4 k)
+      (lt-or-le 6 k)
 
   first-cases : (a b : ℕ) → first a b ≢ 0 → first a b ≢ 102 → (a ≢ 0 → a ≢ 102 → 105 ≡ a) → (b ≢ 0 → b ≢ 102 → 105 ≡ b) → 105 ≡ first a b
   unfolding first

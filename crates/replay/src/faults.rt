@@ -1,6 +1,6 @@
 // Which number refuses the words of a list of calls, 0 being none; and the lesser of two numbers.
 ghost use mathlib.Core.Path.{_≡_};
-ghost use Rattle.replay.specs.Replay.{lesser, callNumber, wordsNumber};
+ghost use Rattle.replay.specs.Replay.{lesser, partNumber, callNumber, wordsNumber};
 
 pub fn lesser(a: usize, b: usize) -> usize
     ensures { λ r. ⌜ r ≡ lesser a b ⌝ }
@@ -11,18 +11,28 @@ pub fn lesser(a: usize, b: usize) -> usize
     b
 }
 
-// Of one call, where `length` nodes are lent for many moves.
+// Of entries up to the place `end`, where `length` nodes are lent.
+pub fn part_number(length: usize, end: usize) -> u32
+    ensures { λ r. ⌜ r ≡ partNumber length end ⌝ }
+{
+    if length < end {
+        return 105;
+    }
+    0
+}
+
+// Of one call.
 pub fn call_number(length: usize, kind: u32, node: u32, word: u32) -> u32
     ensures { λ r. ⌜ r ≡ callNumber length kind node word ⌝ }
 {
-    if 4 < kind {
+    if 6 < kind {
         return 102;
     }
-    if kind != 4 {
-        return 0;
+    if kind == 4 {
+        return part_number(length, node as usize + word as usize);
     }
-    if length < node as usize + word as usize {
-        return 105;
+    if kind == 5 {
+        return part_number(length, word as usize + 3);
     }
     0
 }

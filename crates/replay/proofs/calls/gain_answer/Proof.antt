@@ -9,7 +9,7 @@ use Rattle.replay.proofs.calls.gain_answer.Tie as tie
 returns : tie.Need-returns
 returns c =
     let n = c .before in
-    answer-alone (n .before .args .answer) _ _ _ (n .gain-number .ensures) (read-as _ (c .gain-told .ok) ∙ c .gain-told .ensures) refl
+    answer-alone (n .before .args .answer) _ _ _ _ (n .gain-number .ensures) (read-as _ (c .gain-told .ok) ∙ c .gain-told .ensures) refl
 
 pub gain-answer-spec : {M : Type 1} → statement M
 gain-answer-spec = tie.close (tie.spec (λ c κs. search needs) (λ c κs. search needs) returns)

@@ -11,8 +11,8 @@ returns : tie.Need-returns
 returns c =
     let t = c .before .before in
     let n = t .before in
-    let a = answers-told (savingAnswer (n .before .args .answer)) _ (t .saving-told .result) (n .saving-number .ensures) (t .saving-told .ensures) in
-    record { number = a .number; own = read-as _ (c .before .t8 .given) ∙ a .own; others = read-as _ (c .t11 .given) ∙ a .others }
+    let a = answers-told (savingAnswer (n .before .args .answer)) _ (t .saving-told .result) _ (n .saving-number .ensures) (t .saving-told .ensures) in
+    record { number = a .number; own = read-as _ (c .before .t9 .given) ∙ a .own; others = read-as _ (c .t12 .given) ∙ a .others; nodes = a .nodes }
 
 pub saving-answer-spec : {M : Type 1} → statement M
 saving-answer-spec =

@@ -11,8 +11,8 @@ returns : tie.Need-returns
 returns c =
     let t = c .before .before in
     let n = t .before in
-    let a = answers-told (settledAnswer (n .before .args .answer)) _ (t .settled-sums .result) (n .settled-number .ensures) (t .settled-sums .ensures) in
-    record { number = a .number; own = read-as _ (c .before .t8 .given) ∙ a .own; others = read-as _ (c .t11 .given) ∙ a .others }
+    let a = answers-told (settledAnswer (n .before .args .answer)) _ (t .settled-sums .result) _ (n .settled-number .ensures) (t .settled-sums .ensures) in
+    record { number = a .number; own = read-as _ (c .before .t9 .given) ∙ a .own; others = read-as _ (c .t12 .given) ∙ a .others; nodes = a .nodes }
 
 pub settled-answer-spec : {M : Type 1} → statement M
 settled-answer-spec =
