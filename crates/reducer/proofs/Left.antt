@@ -17,6 +17,7 @@ use Rattle.tagged_file.specs.declared.Loaded.the-variants as loaded
 use Rattle.tagged_file.specs.Load.{loadedGraph}
 use Rattle.answers.specs.Told.{told, toldOne, toldSigned}
 use Rattle.answers.proofs.Same.{same-told, same-one, same-signed}
+use Rattle.hidden.specs.Call.{nodesAfter}
 use Rattle.promises.specs.Demand.{Call, Locked, withLocks}
 use Rattle.replay.specs.declared.Replayed.{Replayed}
 use Rattle.replay.specs.declared.Replayed.the-variants as replayed
@@ -26,7 +27,7 @@ use Rattle.graph.proofs.Answers.{number-some}
 use Rattle.graph.specs.Literals.{before, after, Slice, tableAfter}
 use denote.Ref.{RefT}
 use denote.Triple.Both.{Both}
-use Rattle.reducer.specs.Interface.{SavingLeft, TextLeft, GraphLeft}
+use Rattle.reducer.specs.Interface.{SavingLeft, TextLeft, GraphLeft, FoundLeft}
 
 -- equal answers keep the same scratch
 pub same-kept : {a b : Answer} (s t : List ℕ) → a ≡ b → ScratchKept a s t → ScratchKept b s t
@@ -57,6 +58,17 @@ module _ (r : ℕ) (a : Answer) (number : r ≡ a .number) where
         outputs = q ∙ ap (λ (x : LockedOutcome). x .graph .outputs) e;
         locks = ap (λ (x : LockedOutcome). x .locks) e;
         tells = t ∙ same-told _ (ap (λ (x : LockedOutcome). x .answer) e);
+      }
+
+  pub found-left : (o : LockedOutcome) (i n q : ℕ) (ns os ls : List ℕ) (was is : ℕ) → is ≡ toldOne a was → lockedOutcome a (graphOf i (nodesAfter n a) q ns os) ls ≡ o
+      → FoundLeft o r (graphOf i (nodesAfter n (o .answer)) q ns os) ls was is
+  found-left o i n q ns os ls was is t e =
+      let p = ap (λ (x : LockedOutcome). x .answer) e in
+      record {
+        number = number ∙ ap (λ (x : LockedOutcome). x .answer .number) e;
+        graph = sym (ap (λ (x : Answer). graphOf i (nodesAfter n x) q ns os) p) ∙ ap (λ (x : LockedOutcome). x .graph) e;
+        locks = ap (λ (x : LockedOutcome). x .locks) e;
+        tells = t ∙ same-one _ p;
       }
 
 -- the tables that an answered load leaves are those of its graph

@@ -36,3 +36,10 @@ pub record TextLeft (o : WriteOutcome) (r : ℕ) (buffer : Slice) (size : Both (
   pub number : r ≡ o .answer .number
   pub bytes : after buffer ≡ o .buffer
   pub tells : after size ≡ toldOne (o .answer) (before size)
+
+-- the finder: the graph k, the locks, and the new number of nodes
+pub record FoundLeft (o : LockedOutcome) (r : ℕ) (k : Graph) (ls : List ℕ) (was is : ℕ) : Type 0 where
+  pub number : r ≡ o .answer .number
+  pub graph : k ≡ o .graph
+  pub locks : ls ≡ o .locks
+  pub tells : is ≡ toldOne (o .answer) was

@@ -18,10 +18,12 @@ ghost use Rattle.moves.specs.Call.{nodeCall, pairCall, treeCall, trialCall};
 ghost use Rattle.preview.specs.Preview.{previewAnswer, previewBytes};
 ghost use Rattle.many.specs.Many.{manyCall};
 ghost use Rattle.rounds.specs.Settle.{settleCall};
+ghost use Rattle.hidden.specs.Truth.{triple};
+ghost use Rattle.hidden.specs.Call.{nodesAfter, majorityCall, findCall};
 ghost use Rattle.answers.specs.Told.{told, toldOne, toldSigned, toldGain};
 ghost use Rattle.promises.specs.Demand.{withLocks, left};
 ghost use Rattle.replay.specs.Replay.{lent, decode, replayCall, answersAfter, DemandMet};
-ghost use Rattle.reducer.specs.Interface.{fieldAnswer, SavingLeft, GainLeft, GraphLeft, TextLeft};
+ghost use Rattle.reducer.specs.Interface.{fieldAnswer, SavingLeft, GainLeft, GraphLeft, TextLeft, FoundLeft};
 
 // Where the payload of the field at the front starts, and its length.
 #[no_mangle]
@@ -523,7 +525,94 @@ pub extern "C" fn reducer_settle(
     answers::told::settled_number(answer)
 }
 
-// Loads the file and makes a list of calls on the loaded graph and its locks; `numbers` are I, N and O.
+// Makes a node one majority of three lower indices where it is one; `answer` is 0 then, 1 for "not majority", 2 for "not covered".
+#[no_mangle]
+pub extern "C" fn reducer_majority(
+    inputs: u32,
+    nodes: u32,
+    outputs: u32,
+    node_table: &mut [u32],
+    node_bits: &mut [u64],
+    output_table: &[u32],
+    output_bits: &[u64],
+    locks: &[u8],
+    node: u32,
+    first: u32,
+    second: u32,
+    third: u32,
+    scratch: &mut [u32],
+    answer: &mut u32,
+) -> u32
+    ensures answer { λ r.
+        let g = graphBefore inputs nodes outputs «node_table» «node_bits» «output_table» «output_bits» in
+        let k = graphAfter inputs nodes outputs «node_table» «node_bits» «output_table» «output_bits» in
+        let o = majorityCall g (before locks) (length (before scratch)) (triple first second third) node in
+        ⌜ (r ≡ o .answer .number) × (k ≡ o .graph) × (after answer ≡ toldOne (o .answer) (before answer)) ⌝ }
+    ensures scratch { λ r.
+        let g = graphBefore inputs nodes outputs «node_table» «node_bits» «output_table» «output_bits» in
+        let o = majorityCall g (before locks) (length (before scratch)) (triple first second third) node in
+        ⌜ ScratchKept (o .answer) (before scratch) (after scratch) ⌝ }
+{
+    let became = majority_call::majority_call(
+        inputs,
+        nodes,
+        outputs,
+        node_table,
+        node_bits,
+        output_table,
+        output_bits,
+        locks,
+        node,
+        first,
+        second,
+        third,
+        scratch,
+    );
+    *answer = answers::told::majority_told(became, *answer);
+    answers::told::majority_number(became)
+}
+
+// Finds hidden majorities, and drops what is not read then; `nodes_after` is the new number of nodes.
+#[no_mangle]
+pub extern "C" fn reducer_find(
+    inputs: u32,
+    nodes: u32,
+    outputs: u32,
+    node_table: &mut [u32],
+    node_bits: &mut [u64],
+    output_table: &mut [u32],
+    output_bits: &mut [u64],
+    locks: &mut [u8],
+    scratch: &mut [u32],
+    nodes_after: &mut u32,
+) -> u32
+    ensures graph { λ r.
+        let g = graphBefore inputs nodes outputs «node_table» «node_bits» «output_table» «output_bits» in
+        let o = findCall g (before locks) (length (before scratch)) in
+        let n = nodesAfter nodes (o .answer) in
+        let k = graphAfter inputs n outputs «node_table» «node_bits» «output_table» «output_bits» in
+        ⌜ FoundLeft o r k (after locks) (before «nodes_after») (after «nodes_after») ⌝ }
+    ensures scratch { λ r.
+        let g = graphBefore inputs nodes outputs «node_table» «node_bits» «output_table» «output_bits» in
+        let o = findCall g (before locks) (length (before scratch)) in
+        ⌜ ScratchKept (o .answer) (before scratch) (after scratch) ⌝ }
+{
+    let answer = finder::find(
+        inputs,
+        nodes,
+        outputs,
+        node_table,
+        node_bits,
+        output_table,
+        output_bits,
+        locks,
+        scratch,
+    );
+    *nodes_after = answers::told::found_told(answer, *nodes_after);
+    answers::told::found_number(answer)
+}
+
+// Loads the file and makes a list of calls on the loaded graph and its locks; `numbers` are the I, N and O that are left.
 #[no_mangle]
 pub extern "C" fn reducer_replay(
     file: &[u8],
