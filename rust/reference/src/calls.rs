@@ -1,6 +1,8 @@
 //! Lists of calls, made one after the other on one graph.
 
+use crate::find::find;
 use crate::graph::{Graph, Number};
+use crate::majority::{majority, Majority};
 use crate::many::many;
 use crate::moves::{node_call, pair_call, tree_call_by, Saving};
 use crate::settling::{settle, Settled, MOST_TRIED};
@@ -13,6 +15,8 @@ pub enum Call {
     Tree(u32),
     Settle,
     Many { list: Vec<u32>, moves: Vec<u8> },
+    Majority { node: u32, three: [u32; 3] },
+    Find,
 }
 
 #[derive(Clone, Copy, Debug, PartialEq, Eq)]
@@ -21,6 +25,9 @@ pub enum Answer {
     Settled(Settled),
     /// Of many moves: one number.
     Total(i64),
+    Majority(Majority),
+    /// Of the finder: the new N.
+    Found(u32),
     Refused(Number),
 }
 
@@ -32,11 +39,11 @@ fn saving(result: Result<Saving, Number>) -> Answer {
 }
 
 pub fn step(g: &mut Graph, call: &Call, scratch: usize) -> Answer {
-    let find = |g: &Graph, nodes: &[u32]| best_within(MOST_TRIED, g, nodes);
+    let least = |g: &Graph, nodes: &[u32]| best_within(MOST_TRIED, g, nodes);
     match *call {
         Call::Node(node) => saving(node_call(g, node)),
         Call::Pair(node, word) => saving(pair_call(g, node, word)),
-        Call::Tree(root) => saving(tree_call_by(g, root, scratch, &find)),
+        Call::Tree(root) => saving(tree_call_by(g, root, scratch, &least)),
         Call::Settle => match settle(g, scratch) {
             Ok(settled) => Answer::Settled(settled),
             Err(number) => Answer::Refused(number),
@@ -45,6 +52,10 @@ pub fn step(g: &mut Graph, call: &Call, scratch: usize) -> Answer {
             ref list,
             ref moves,
         } => many(g, list, moves).map_or_else(Answer::Refused, Answer::Total),
+        Call::Majority { node, three } => {
+            majority(g, node, three, scratch).map_or_else(Answer::Refused, Answer::Majority)
+        }
+        Call::Find => find(g, scratch).map_or_else(Answer::Refused, Answer::Found),
     }
 }
 

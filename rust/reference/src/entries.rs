@@ -75,20 +75,30 @@ pub fn preview(p: &Packed, root: u32, scratch: usize, bytes: &mut [u8]) -> Resul
     preview::preview(&graph_of(p, short)?, root, scratch, bytes)
 }
 
-/// A call that turns literals.
+/// The graph put back; what the finder has freed is put as 0 with the rest, and past the old N nothing changes.
+fn put_back(p: &mut Packed, g: Graph) {
+    let nodes = g.nodes;
+    p.put(&Graph {
+        nodes: p.nodes,
+        ..g
+    });
+    p.nodes = nodes;
+}
+
+/// A call of a list. The finder's new N becomes the packed graph's.
 pub fn step(p: &mut Packed, call: &Call, scratch: usize) -> Answer {
     let short = matches!(call, Call::Many { list, moves } if moves.len() < list.len());
     match graph_of(p, short) {
         Ok(mut g) => {
             let answer = calls::step(&mut g, call, scratch);
-            p.put(&g);
+            put_back(p, g);
             answer
         }
         Err(number) => Answer::Refused(number),
     }
 }
 
-/// A file loaded and a list of calls made; I, N and O become the file's.
+/// A file loaded and a list of calls made; I, N and O become those of the graph that the list leaves.
 pub fn replay(
     file: &[u8],
     words: Words,
@@ -100,9 +110,9 @@ pub fn replay(
     if answers.len() < 3 * calls.len() {
         return Err(4);
     }
-    let numbers = load(file, p)?;
+    load(file, p)?;
     for (call, three) in calls.iter().zip(answers.chunks_mut(3)) {
         three.copy_from_slice(&told(step(p, call, scratch)));
     }
-    Ok(numbers)
+    Ok((p.inputs, p.nodes, p.outputs))
 }

@@ -24,21 +24,25 @@ pub fn value_of_literal(g: &Graph, assignment: &[bool], literal: u32) -> bool {
     value != is_odd(literal)
 }
 
+/// A node's value, from those of all lower indices.
+pub fn node_value(g: &Graph, node: u32, below: &[bool]) -> bool {
+    let of = |word: usize| {
+        let literal = g.word(node, word);
+        below[index_of(literal) as usize] != is_odd(literal)
+    };
+    if g.is_xor(node) {
+        of(0) != of(1)
+    } else {
+        of(0) as u32 + of(1) as u32 + of(2) as u32 >= 2
+    }
+}
+
 /// The value of every index by rising index.
 pub fn values(g: &Graph, assignment: &[bool]) -> Vec<bool> {
     let mut all = vec![false];
     all.extend_from_slice(&assignment[..g.inputs as usize]);
     for node in g.node_indices() {
-        let of = |word: usize| {
-            let literal = g.word(node, word);
-            all[index_of(literal) as usize] != is_odd(literal)
-        };
-        let value = if g.is_xor(node) {
-            of(0) != of(1)
-        } else {
-            of(0) as u32 + of(1) as u32 + of(2) as u32 >= 2
-        };
-        all.push(value);
+        all.push(node_value(g, node, &all));
     }
     all
 }

@@ -102,6 +102,11 @@ impl Graph {
         self.node_table[self.base(node) + word]
     }
 
+    pub fn set_word(&mut self, node: u32, word: usize, literal: u32) {
+        let at = self.base(node) + word;
+        self.node_table[at] = literal;
+    }
+
     pub fn is_xor(&self, node: u32) -> bool {
         self.word(node, 2) == MARK
     }

@@ -5,13 +5,16 @@
 //! hold it to the plain one. Its answers are what the proved crates are run against.
 
 pub mod aiger;
+pub mod buried;
 pub mod calls;
 pub mod entries;
 pub mod evaluation;
 pub mod fast;
 pub mod file;
+pub mod find;
 pub mod generate;
 pub mod graph;
+pub mod majority;
 pub mod many;
 pub mod moves;
 pub mod packed;
@@ -28,9 +31,13 @@ mod aiger_tests;
 #[cfg(test)]
 mod entry_tests;
 #[cfg(test)]
+mod find_tests;
+#[cfg(test)]
 mod lock_file_tests;
 #[cfg(test)]
 mod lock_tests;
+#[cfg(test)]
+mod majority_tests;
 #[cfg(test)]
 mod many_tests;
 #[cfg(test)]

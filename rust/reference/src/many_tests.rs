@@ -262,11 +262,47 @@ fn parts_of_a_list() {
         assert_eq!(calls(&outside, &list, &moves), Err(105), "{outside:?}");
     }
     // Left over first; then call by call, the kind before the part.
-    assert_eq!(calls(&[5, 0, 0, 4], &list, &moves), Err(101));
-    assert_eq!(calls(&[5, 0, 0, 4, 6, 0], &list, &moves), Err(102));
-    assert_eq!(calls(&[4, 6, 0, 5, 0, 0], &list, &moves), Err(105));
-    assert_eq!(calls(&[5, 6, 0], &list, &moves), Err(102));
+    assert_eq!(calls(&[7, 0, 0, 4], &list, &moves), Err(101));
+    assert_eq!(calls(&[7, 0, 0, 4, 6, 0], &list, &moves), Err(102));
+    assert_eq!(calls(&[4, 6, 0, 7, 0, 0], &list, &moves), Err(105));
+    assert_eq!(calls(&[7, 6, 0], &list, &moves), Err(102));
     assert_eq!(calls(&[3, 6, 9], &list, &moves), Ok(vec![Call::Settle]));
+}
+
+#[test]
+fn triples_of_a_list() {
+    let list = [4, 5, 6, 4, 9];
+    let three = |node, three| Ok(vec![Call::Majority { node, three }]);
+    assert_eq!(calls(&[5, 7, 0], &list, &[]), three(7, [4, 5, 6]));
+    assert_eq!(calls(&[5, 0, 2], &list, &[1]), three(0, [6, 4, 9]));
+    for start in [3, 4, 5, 6, MARK - 2, MARK] {
+        assert_eq!(calls(&[5, 7, start], &list, &[]), Err(105), "{start}");
+    }
+    assert_eq!(calls(&[6, 9, 9], &[], &[]), Ok(vec![Call::Find]));
+    assert_eq!(calls(&[7, 0, 0], &list, &[]), Err(102));
+}
+
+/// The import of the export of one majority: a call that makes none, the finder, settling on the one node that is left, and a call at a
+/// node that is no more.
+#[test]
+fn find_and_settle() {
+    let ands = [[0, 5, 7], [0, 2, 9], [0, 4, 6], [0, 11, 13]];
+    let words = Words {
+        calls: &[5, 7, 3, 5, 7, 0, 6, 0, 0, 3, 0, 0, 0, 7, 0, 5, 4, 0],
+        list: &[2, 3, 5, 1, 2, 6],
+        moves: &[],
+    };
+    let mut g = pack(&of(0, &[[77; 3]; 4], &[77]));
+    g.locks = vec![77; 5];
+    let mut answers = [77; 18];
+    let file = file_of(&of(3, &ands, &[15]));
+    let done = replay(&file, words, &mut g, 32, &mut answers);
+    assert_eq!(done, Ok((3, 1, 1)));
+    let due = [0, 2, 0, 0, 1, 0, 0, 1, 0, 0, 3, 1, 7, 0, 0, 7, 0, 0];
+    assert_eq!(answers, due);
+    assert_eq!(g.node_table, [1, 2, 3, 0, 0, 0, 0, 0, 0, 0, 0, 0]);
+    assert_eq!((g.node_bits, g.output_table), (vec![0], vec![4]));
+    assert_eq!((g.output_bits, g.locks), (vec![0], vec![0, 0, 0, 0, 77]));
 }
 
 /// P1 settled, its move taken back, and settled again.

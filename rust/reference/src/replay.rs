@@ -3,7 +3,8 @@
 use crate::calls::{Answer, Call};
 use crate::graph::Number;
 
-/// The words of the calls, and the list of nodes with their moves of which each many call takes a part.
+/// The words of the calls, and the list of nodes with their moves of which each many call takes a part, and each majority call three
+/// entries.
 #[derive(Clone, Copy, Debug)]
 pub struct Words<'a> {
     pub calls: &'a [u32],
@@ -24,6 +25,17 @@ fn part(words: Words, start: u32, count: u32) -> Result<Call, Number> {
     })
 }
 
+/// A majority call with three entries of the list.
+fn triple(words: Words, node: u32, start: u32) -> Result<Call, Number> {
+    match words.list.get(start as usize..).unwrap_or_default() {
+        [first, second, third, ..] => Ok(Call::Majority {
+            node,
+            three: [*first, *second, *third],
+        }),
+        _ => Err(105),
+    }
+}
+
 fn decoded(words: Words, call: &[u32]) -> Result<Call, Number> {
     match *call {
         [0, node, _] => Ok(Call::Node(node)),
@@ -31,6 +43,8 @@ fn decoded(words: Words, call: &[u32]) -> Result<Call, Number> {
         [2, root, _] => Ok(Call::Tree(root)),
         [3, _, _] => Ok(Call::Settle),
         [4, start, count] => part(words, start, count),
+        [5, node, start] => triple(words, node, start),
+        [6, _, _] => Ok(Call::Find),
         _ => Err(102),
     }
 }
@@ -45,12 +59,15 @@ pub fn calls_of(words: Words) -> Result<Vec<Call>, Number> {
     calls.map(|call| decoded(words, call)).collect()
 }
 
-/// The number of an answer, 0 where accepted, and both parts of the saving; that of many moves is one number.
+/// The number of an answer, 0 where accepted, and both parts of the saving; that of many moves is one number, and so are what a
+/// majority call and the finder tell.
 pub fn told(answer: Answer) -> [i64; 3] {
     match answer {
         Answer::Saving(saved) => [0, saved.own, saved.others],
         Answer::Settled(settled) => [0, settled.own, settled.others],
         Answer::Total(saved) => [0, saved, 0],
+        Answer::Majority(answer) => [0, answer.number().into(), 0],
+        Answer::Found(nodes) => [0, nodes.into(), 0],
         Answer::Refused(number) => [number.into(), 0, 0],
     }
 }

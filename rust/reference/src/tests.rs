@@ -404,6 +404,7 @@ fn what_calls_promise() {
                     assert_eq!(i64::from(before.c()), i64::from(now.c()) + saved);
                 }
                 Answer::Refused(_) => assert_eq!(before, now),
+                other => panic!("{call:?} answers {other:?}"),
             }
             assert_eq!(before.wiring(), now.wiring());
             assert_eq!(before.locks, now.locks);

@@ -159,7 +159,7 @@ pub fn packed_cases() -> (Vec<Case>, Vec<Case>) {
             result: 1_000,
             ..Case::lent(WRITE, p.clone())
         });
-        for op in [NODE, PAIR, TREE, SETTLE, MANY] {
+        for op in [NODE, PAIR, TREE, SETTLE, MANY, FIND] {
             direct.push(Case {
                 x: 4,
                 y: 1,
@@ -169,6 +169,12 @@ pub fn packed_cases() -> (Vec<Case>, Vec<Case>) {
                 ..Case::lent(op, p.clone())
             });
         }
+        direct.push(Case {
+            x: 5,
+            scratch: 8 * p.nodes,
+            list: vec![1, 2, 4],
+            ..Case::lent(MAJORITY, p.clone())
+        });
         direct.push(Case {
             longs: vec![0xf0, 0xcc],
             scratch: p.nodes,

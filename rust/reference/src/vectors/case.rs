@@ -20,6 +20,8 @@ pub const PAIR: u32 = 9;
 pub const TREE: u32 = 10;
 pub const SETTLE: u32 = 11;
 pub const MANY: u32 = 12;
+pub const MAJORITY: u32 = 13;
+pub const FIND: u32 = 14;
 
 #[derive(Clone)]
 pub struct Case {
@@ -32,7 +34,7 @@ pub struct Case {
     pub bytes: Vec<u8>,
     /// The words of a list of calls, and the inputs of an evaluation.
     pub calls: Vec<u32>,
-    /// The nodes of many moves, and the moves.
+    /// The nodes of many moves, and the moves; the triple of a majority call.
     pub list: Vec<u32>,
     pub moves: Vec<u8>,
     pub longs: Vec<u64>,
@@ -68,6 +70,8 @@ impl Case {
             TREE => Some([2, self.x, 0]),
             SETTLE => Some([3, 0, 0]),
             MANY => Some([4, 0, self.list.len() as u32]),
+            MAJORITY => Some([5, self.x, 0]),
+            FIND => Some([6, 0, 0]),
             _ => None,
         }
     }

@@ -7,7 +7,7 @@
 //! before all this, and writing the length after the values. A list of calls shows how many words of answers it has there. A list
 //! that is not replayed has the number 1, and shows scratch before that.
 //!
-//! The program makes a node, pair, tree, settling or many call as a list of one; on graphs that no file has, with scratch looked at after a
+//! The program makes a node, pair, tree, settling, many or majority call, and the finder, as a list of one; on graphs that no file has, with scratch looked at after a
 //! refusal, and evaluation, the same cases are run through the C interface, by rust/differential.
 
 use crate::random::Random;
@@ -15,6 +15,7 @@ use bit_cases::*;
 use call_cases::*;
 use case::Case;
 use file_cases::*;
+use hidden_cases::*;
 use many_cases::*;
 
 pub mod answer;
@@ -22,6 +23,7 @@ pub mod bit_cases;
 pub mod call_cases;
 pub mod case;
 pub mod file_cases;
+pub mod hidden_cases;
 pub mod many_cases;
 pub mod samples;
 
@@ -46,6 +48,13 @@ pub fn cases(seed: u64) -> (Vec<Case>, Vec<Case>) {
     let packed = packed_cases();
     stored.extend(packed.0);
     direct.extend(packed.1);
+    // From a seed of their own, so that no other case moves.
+    let other = &mut Random::new(seed + 1);
+    let hidden = hidden_cases(other);
+    let changing = hidden.iter().filter(|case| changes(case));
+    stored.extend(changing.filter_map(Case::as_list));
+    stored.extend(hidden_list_cases(other));
+    direct.extend(hidden);
     let mut lengthen = |cases: Vec<Case>| -> Vec<Case> {
         let all = cases.into_iter();
         all.map(|case| case.lengthened(&mut random)).collect()
