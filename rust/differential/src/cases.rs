@@ -28,6 +28,8 @@ impl Step {
             Call::Tree(v) => Call::Tree(lower(v)),
             Call::Settle => Call::Settle,
             Call::Many { ref list, ref moves } => many_without(list, moves, gone),
+            Call::Majority { node, three } => Call::Majority { node: lower(node), three: three.map(lower) },
+            Call::Find => Call::Find,
         };
         Step { call, ..*self }
     }

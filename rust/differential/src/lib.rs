@@ -10,6 +10,8 @@ pub mod exports;
 pub mod extremes;
 pub mod faults;
 pub mod files;
+pub mod hidden;
+pub mod hidden_faults;
 mod interface;
 pub mod lengths;
 pub mod lists;

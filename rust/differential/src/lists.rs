@@ -1,6 +1,7 @@
 //! Lists of calls on one graph, and single calls of every entry, against the other implementations.
 
 use crate::cases::{random_graph, Case, Step};
+use crate::hidden::{plain_find, plain_majority, random_buried, random_majority};
 use crate::plain;
 use crate::raw;
 use crate::savings;
@@ -64,15 +65,23 @@ pub fn random_call(random: &mut Random, g: &Graph) -> Call {
     }
 }
 
-/// A random call, its scratch a word too short at times.
+/// A random call, of those that rewire at times, its scratch a word too short at times.
 fn random_step(random: &mut Random, g: &Graph) -> Step {
     let spare = if random.one_in(8) { -1 } else { random.below(3) as i64 };
-    Step { call: random_call(random, g), spare }
+    let call = match random.below(8) {
+        0 => random_majority(random, g),
+        1 => Call::Find,
+        _ => random_call(random, g),
+    };
+    Step { call, spare }
 }
 
 pub fn random_case(seed: u64, most_nodes: u32, most_calls: u32) -> Case {
     let mut random = Random::new(seed);
-    let graph = random_graph(&mut random, 6, most_nodes, 4);
+    let graph = match random.below(3) {
+        0 => random_buried(&mut random, most_nodes),
+        _ => random_graph(&mut random, 6, most_nodes, 4),
+    };
     let count = random.between(1, most_calls);
     let steps = (0..count).map(|_| random_step(&mut random, &graph)).collect();
     Case::new(graph, steps, seed)
@@ -172,6 +181,8 @@ fn saving(result: Result<reducer::Saving, u32>) -> Answer {
 pub fn plain_step(g: &mut Packed, call: &Call, scratch: usize) -> Answer {
     let t = &mut tables(g);
     match *call {
+        Call::Majority { node, three } => plain_majority(g, node, three, scratch),
+        Call::Find => plain_find(g, scratch),
         Call::Node(v) => saving(plain::calls::node_call(t, v)),
         Call::Pair(v, word) => saving(plain::calls::pair_call(t, v, word)),
         Call::Tree(root) => saving(plain::sweeps::tree_call(t, root, scratch)),

@@ -4,6 +4,7 @@
 use std::sync::atomic::{AtomicU64, Ordering};
 
 use reference::calls::{Answer, Call};
+use reference::majority::Majority;
 use reference::moves::Saving;
 use reference::packed::{Lengths, Packed};
 use reference::replay::Words;
@@ -103,11 +104,17 @@ pub fn unfilled(lengths: Lengths) -> Packed {
 
 /// I, N and O of what was filled, which become the graph's.
 fn loaded(number: u32, numbers: [u32; 3], g: &mut Packed, before: &Packed) -> Answered<(u32, u32, u32)> {
+    let answer = told_sizes(number, numbers, g)?;
+    graph_left(number, Written::Everything, before, g)?;
+    Ok(answer)
+}
+
+/// I, N and O, which become the graph's.
+fn told_sizes(number: u32, numbers: [u32; 3], g: &mut Packed) -> Answered<(u32, u32, u32)> {
     let answer = answered(number, numbers, [CANARY; 3])?.map(|[inputs, nodes, outputs]| (inputs, nodes, outputs));
     if let Ok(told) = answer {
         (g.inputs, g.nodes, g.outputs) = told;
     }
-    graph_left(number, Written::Everything, before, g)?;
     Ok(answer)
 }
 
@@ -255,6 +262,39 @@ pub fn many(g: &mut Packed, list: &[u32], moves: &[u8]) -> Answered<i64> {
     answered(number, saving, SIGNED_CANARY)
 }
 
+/// With so many words of scratch. Outputs and locks are only read.
+pub fn majority(g: &mut Packed, node: u32, [x, y, z]: [u32; 3], scratch: usize) -> Answered<u32> {
+    let (before, mut told) = (g.clone(), CANARY);
+    let mut lent = vec![CANARY; scratch];
+    let number = on_graph!(reducer_majority, &mut *g, node, x, y, z, lent.as_mut_ptr(), lent.len(), &mut told);
+    graph_left(number, Written::Everything, &before, g)?;
+    left_from("the output table", 0, &before.output_table, &g.output_table)?;
+    left_from("the outputs' bits", 0, &before.output_bits, &g.output_bits)?;
+    left_from("the locks", 0, &before.locks, &g.locks)?;
+    left("scratch", number, &vec![CANARY; scratch], &lent)?;
+    answered(number, told, CANARY)
+}
+
+/// The new N, which becomes the graph's.
+pub fn find(g: &mut Packed, scratch: usize) -> Answered<u32> {
+    let (before, mut nodes) = (g.clone(), CANARY);
+    let mut lent = vec![CANARY; scratch];
+    let number = on_graph!(reducer_find, &mut *g, lent.as_mut_ptr(), lent.len(), &mut nodes);
+    graph_left(number, Written::Everything, &before, g)?;
+    left_from("the outputs' bits", 0, &before.output_bits, &g.output_bits)?;
+    left("scratch", number, &vec![CANARY; scratch], &lent)?;
+    let answer = answered(number, nodes, CANARY)?;
+    g.nodes = answer.unwrap_or(g.nodes);
+    Ok(answer)
+}
+
+/// What the number of a majority call says.
+fn majority_of(told: u32) -> Result<Majority, String> {
+    let all = [Majority::Made, Majority::Not, Majority::NotCovered];
+    let known = all.into_iter().find(|answer| answer.number() == told);
+    known.ok_or(format!("a majority call answers {told}"))
+}
+
 /// With so many words of scratch.
 pub fn replay(
     file: &[u8],
@@ -284,7 +324,11 @@ pub fn replay(
     );
     left("scratch", number, &vec![CANARY; scratch], &lent)?;
     left("the answers", number, &told, answers)?;
-    loaded(number, numbers, g, &before)
+    // Of an accepted one, what stands behind the graph is looked at by the caller: words that the finder has freed are there too.
+    if number != 0 {
+        graph_left(number, Written::Nothing, &before, g)?;
+    }
+    told_sizes(number, numbers, g)
 }
 
 /// One call of a list, with so many words of scratch.
@@ -295,6 +339,11 @@ pub fn step(g: &mut Packed, call: &Call, scratch: usize) -> Result<Answer, Strin
         Call::Tree(root) => tree(g, root, scratch)?.map(Answer::Saving),
         Call::Settle => settle(g, scratch)?.map(Answer::Settled),
         Call::Many { ref list, ref moves } => many(g, list, moves)?.map(Answer::Total),
+        Call::Majority { node, three } => match majority(g, node, three, scratch)? {
+            Ok(told) => Ok(Answer::Majority(majority_of(told)?)),
+            Err(number) => Err(number),
+        },
+        Call::Find => find(g, scratch)?.map(Answer::Found),
     };
     Ok(answer.unwrap_or_else(Answer::Refused))
 }

@@ -2,6 +2,7 @@
 
 use crate::cases::random_graph;
 use crate::files::{damaged_file, FileCase};
+use crate::hidden::{random_buried, random_majority};
 use crate::lists::{differ, random_call};
 use crate::raw;
 use crate::shrink::Shrink;
@@ -64,6 +65,13 @@ impl ReplayCase {
             Call::Pair(node, word) => [1, node, word],
             Call::Tree(root) => [2, root, any()],
             Call::Settle => [3, any(), any()],
+            Call::Majority { node, three } => {
+                let start = self.list.len();
+                self.list.extend(three);
+                self.moves.extend([0; 3]);
+                [5, node, start as u32]
+            }
+            Call::Find => [6, any(), any()],
             Call::Many { list, mut moves } => {
                 let start = self.list.len();
                 moves.resize(list.len(), 0);
@@ -75,7 +83,7 @@ impl ReplayCase {
         self.words.extend(words);
     }
 
-    /// Another part of the list for one of the calls, within it or past its end.
+    /// Another part of the list for one of the calls, within it or past its end, or a triple near its end.
     fn part(&mut self, random: &mut Random, outside: bool) {
         let length = self.list.len() as u32;
         let start = random.below(length + 1);
@@ -88,7 +96,12 @@ impl ReplayCase {
             [4, u32::MAX, u32::MAX],
             [4, random.below(1 << 20), length + 1],
         ];
-        let part = if outside { past[random.below(6) as usize] } else { inside };
+        let triple = [5, random.below(12), length.saturating_sub(random.below(5))];
+        let part = match random.below(4) {
+            0 => triple,
+            _ if outside => past[random.below(6) as usize],
+            _ => inside,
+        };
         let call = 3 * random.below(self.words.len() as u32 / 3) as usize;
         self.words[call..call + 3].copy_from_slice(&part);
     }
@@ -98,7 +111,10 @@ impl ReplayCase {
 /// too few words lent.
 pub fn random_replay(seed: u64) -> ReplayCase {
     let mut random = Random::new(seed);
-    let g = random_graph(&mut random, 6, 7, 4);
+    let g = match random.below(3) {
+        0 => random_buried(&mut random, 9),
+        _ => random_graph(&mut random, 6, 7, 4),
+    };
     let file = if random.one_in(4) {
         damaged_file(&mut random, &g)
     } else {
@@ -110,7 +126,11 @@ pub fn random_replay(seed: u64) -> ReplayCase {
     let mut case = ReplayCase { file, words: vec![], list: vec![], moves: vec![], scratch, answers: 0 };
     let count = random.below(9);
     for _ in 0..count {
-        let call = random_call(&mut random, &g);
+        let call = match random.below(8) {
+            0 => random_majority(&mut random, &g),
+            1 => Call::Find,
+            _ => random_call(&mut random, &g),
+        };
         case.put(&mut random, call);
     }
     case.answers = 3 * count as usize + random.below(4) as usize;
@@ -130,7 +150,7 @@ fn damage(random: &mut Random, case: &mut ReplayCase, count: u32) {
     for _ in 0..2 {
         match random.below(24) {
             0 => case.words.extend((0..random.between(1, 2)).map(|_| 0)),
-            1 if count > 0 => case.words[3 * random.below(count) as usize] = random.between(5, 7),
+            1 if count > 0 => case.words[3 * random.below(count) as usize] = random.between(7, 9),
             2 if count > 0 => case.words[3 * random.below(count) as usize] = u32::MAX,
             3 if count > 0 => case.answers = random.below(3 * count) as usize,
             4 => case.answers = 0,

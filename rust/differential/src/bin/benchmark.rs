@@ -1,5 +1,7 @@
 //! Times each call of the proved reducer beside the plain implementation's, in the same run, and prints a table.
 
+use differential::timing::families::{Family, FAMILIES, HARD};
+use differential::timing::found;
 use differential::timing::races::{call, time, Call, Figure, Side};
 use differential::timing::samples::Sample;
 use differential::timing::{plain, proved, LEAST_RUNS, SHAPES, SIZES, SPREAD};
@@ -110,13 +112,39 @@ fn before_and_after() {
     }
 }
 
+const FIND: &str = "find";
+
+/// The finder's graphs have so many nodes; those that take time by their square, fewer.
+const FOUND: [(&[Family], u32); 2] = [(&FAMILIES, 100_000), (&[HARD], 20_000)];
+
+/// The finder on a graph of each family.
+fn found() {
+    println!("\n| graph | nodes | nodes after | find, proved, ms | plain, ms | proved, ns a node | plain, ns a node | ratio |");
+    println!("|---|---|---|---|---|---|---|---|");
+    for (families, nodes) in FOUND {
+        for family in families {
+            let found::Figure { before, after, times: [ours, theirs] } =
+                found::time(family, nodes, [proved::find, plain::find]);
+            let (a_node, ratio) = (|time: f64| time / f64::from(before), ours / theirs);
+            println!(
+                "| {} | {before} | {after} | {:.1} | {:.1} | {:.0} | {:.0} | {ratio:.2} |",
+                family.name,
+                ours / 1e6,
+                theirs / 1e6,
+                a_node(ours),
+                a_node(theirs),
+            );
+        }
+    }
+}
+
 const BEFORE: &str = "before";
 
 const HEAD: &str = "| call | graph | nodes | proved, µs | plain, µs | proved, ns a node | plain, ns a node | \
     rounds | proved, ns a node and round | ratio |";
 
-/// Times the calls named on the command line, or all; `before` is settling without a state between calls. `tree preview` times
-/// just these two, and says the ratio.
+/// Times the calls named on the command line, or all; `find` is the finder, `before` settling without a state between calls. `tree
+/// preview` times just these two, and says the ratio.
 fn main() {
     println!("{HEAD}\n|---|---|---|---|---|---|---|---|---|---|");
     let wanted: Vec<String> = std::env::args().skip(1).collect();
@@ -138,6 +166,9 @@ fn main() {
     if !grown.is_empty() {
         let (small, large) = (SIZES[0], SIZES[SIZES.len() - 1]);
         println!("\nSettling, ns a node and round at {large} nodes over that at {small}: {}.", grown.join("; "));
+    }
+    if chosen(FIND) {
+        found();
     }
     if chosen(BEFORE) {
         before_and_after();

@@ -7,10 +7,11 @@ use std::time::Instant;
 
 use differential::cases::{Case, Step};
 use differential::extremes::{self, EXTREMES, LOCKED};
-use differential::shrink::hold;
+use differential::shrink::{hold, Check};
 use differential::{
-    bit_faults, call_faults, exports, faults, files, lengths, lists, lock_fields, many, many_faults, preview_faults,
-    previews, raw, replay_faults, replays, savings, stored, text_limits, texts, trial_faults, trials, words,
+    bit_faults, call_faults, exports, faults, files, hidden, hidden_faults, lengths, lists, lock_fields, many,
+    many_faults, preview_faults, previews, raw, replay_faults, replays, savings, stored, text_limits, texts,
+    trial_faults, trials, words,
 };
 use reference::calls::Call;
 use reference::generate::{graph, locked_one_in, moves_of, with_locks, Shape, SHAPES};
@@ -20,7 +21,7 @@ use reference::random::Random;
 /// What one kind of test does with a seed: how many cases it tried, or what failed.
 type Kind = (&'static str, u64, fn(u64) -> Result<u64, String>);
 
-const KINDS: [Kind; 43] = [
+const KINDS: [Kind; 49] = [
     ("stored cases of single calls and evaluation", 1, stored),
     ("the plain implementation, lists of calls", 30_000, plain_lists),
     ("lists of calls on small graphs", 80_000, small_lists),
@@ -64,6 +65,12 @@ const KINDS: [Kind; 43] = [
     ("many moves on thousands of nodes", 20, moved_large),
     ("many moves at the limits", EXTREMES.len() as u64, moved_at_limits),
     ("replays with every choice of faults of known numbers", 1, faulty_replays),
+    ("the plain implementation, hidden majorities", 40_000, plain_hidden),
+    ("the plain implementation, hidden majorities in longer graphs", 300, plain_hidden_longer),
+    ("hidden majorities, made and found", 40_000, hidden_small),
+    ("hidden majorities in longer graphs", 300, hidden_longer),
+    ("hidden majorities with every choice of faults of known numbers", 1, faulty_hidden),
+    ("hidden majorities on thousands of nodes", 60, hidden_large),
 ];
 
 fn stored(_: u64) -> Result<u64, String> {
@@ -338,6 +345,37 @@ fn faulty_replays(_: u64) -> Result<u64, String> {
     replay_faults::check_faults()
 }
 
+fn held_hidden(seed: u64, most_nodes: u32, check: &Check<Case>) -> Result<u64, String> {
+    let case = hidden::random_case(seed, most_nodes);
+    let count = case.steps.len() as u64;
+    hold(seed, case, check)?;
+    Ok(count)
+}
+
+fn plain_hidden(seed: u64) -> Result<u64, String> {
+    held_hidden(seed, 14, &hidden::check_plain)
+}
+
+fn plain_hidden_longer(seed: u64) -> Result<u64, String> {
+    held_hidden(seed, 80, &hidden::check_plain)
+}
+
+fn hidden_small(seed: u64) -> Result<u64, String> {
+    held_hidden(seed, 14, &hidden::check_calls)
+}
+
+fn hidden_longer(seed: u64) -> Result<u64, String> {
+    held_hidden(seed, 80, &hidden::check_calls)
+}
+
+fn faulty_hidden(_: u64) -> Result<u64, String> {
+    hidden_faults::check_faults()
+}
+
+fn hidden_large(seed: u64) -> Result<u64, String> {
+    hidden::check_family(seed).map_err(|wrong| format!("seed {seed}: {wrong}"))
+}
+
 fn run(kind: &Kind, only: Option<u64>) -> Result<u64, String> {
     let (name, seeds, test) = *kind;
     let start = Instant::now();
@@ -375,7 +413,8 @@ fn main() -> ExitCode {
     }
     if only.is_none() {
         let met = all_met().and_then(|()| trials::all_met()).and_then(|()| savings::all_met());
-        if let Err(wrong) = met.and_then(|()| previews::all_met()).and_then(|()| many::all_met()) {
+        let met = met.and_then(|()| previews::all_met()).and_then(|()| many::all_met());
+        if let Err(wrong) = met.and_then(|()| hidden::all_met()) {
             println!("{wrong}");
             failed += 1;
         }

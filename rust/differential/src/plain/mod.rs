@@ -6,11 +6,14 @@ pub mod calls;
 pub mod decide;
 pub mod evaluate;
 pub mod file;
+pub mod find;
 pub mod many;
+pub mod near;
 pub mod preview;
 pub mod settle;
 pub mod sweeps;
 pub mod tree;
+pub mod truth;
 
 use bits::{bit, ones, strays, twelve, words_for};
 use reducer::{MARK, MOST_INPUTS, MOST_NODES, MOST_OUTPUTS};

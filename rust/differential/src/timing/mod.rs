@@ -5,6 +5,8 @@
 //! is the least of several runs of its whole batch, on the processor; the two implementations and the three sizes take
 //! turns: what else the machine does counts little. Both are lent the same tables, restored before the clock is read.
 
+pub mod families;
+pub mod found;
 pub mod plain;
 pub mod proved;
 pub mod races;

@@ -3,8 +3,8 @@
 use reference::packed::Packed;
 
 use super::samples::{as_one, part, Lent};
-use crate::plain::{aiger, calls, complemented_edges, evaluate, file, many, preview, settle, sweeps, tree};
-use crate::tables::{filled, tables, view};
+use crate::plain::{aiger, calls, complemented_edges, evaluate, file, find, many, preview, settle, sweeps, tree};
+use crate::tables::{filled, tables, view, wired};
 
 type Sample = super::samples::Sample<Packed>;
 
@@ -69,4 +69,9 @@ pub fn many_of_a_tenth(s: &mut Sample, _: &mut Lent) -> u64 {
 pub fn settle(s: &mut Sample, l: &mut Lent) -> u64 {
     let settled = settle::settle(&mut tables(&mut s.g), l.scratch.len());
     l.settled(settled.unwrap())
+}
+
+/// The new N.
+pub fn find(g: &mut Packed, scratch: &mut [u32]) -> u32 {
+    find::find(&mut wired(g), scratch.len()).unwrap()
 }

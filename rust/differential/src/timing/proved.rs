@@ -137,6 +137,13 @@ pub fn settle(s: &mut Sample, l: &mut Lent) -> u64 {
     l.settled(accepted(number, Settled { rounds, before, after, own, others }))
 }
 
+/// The new N.
+pub fn find(g: &mut Packed, scratch: &mut [u32]) -> u32 {
+    let mut nodes = 0;
+    let number = on_graph!(reducer_find, &mut *g, scratch.as_mut_ptr(), scratch.len(), &mut nodes);
+    accepted(number, nodes)
+}
+
 /// What the calls of a round save in both parts, where each call scans the tables.
 fn round_by_calls(g: &mut Packed, scratch: &mut [u32]) -> [i64; 2] {
     const NO_ROOT: u32 = 7;
