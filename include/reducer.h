@@ -27,9 +27,10 @@
  *   free one. Every function that takes a graph takes its locks after its tables and tests them, also where nothing turns. A
  *   locked node has only move 0 in every call, and the best moves are the best of those that leave locked nodes at move 0; its
  *   own words may still turn, by moves of the nodes that they name. A call may name a locked node, and a tree call a locked root;
- *   reducer_many and reducer_trial refuse a move other than 0 at one.
+ *   reducer_many and reducer_trial refuse a move other than 0 at one, reducer_majority refuses one, and reducer_find leaves it.
  *
- *   Moves turn bits alone. Only reducer_load, reducer_import and reducer_replay change indices and locks: they fill them.
+ *   Moves turn bits alone. reducer_load, reducer_import and reducer_replay fill indices and locks; reducer_majority changes the
+ *   indices of its node, and reducer_find indices, locks and the number of nodes. No other function changes any of these.
  *
  *   Tables, bits and locks may be longer than the graph. Only the first 3 * N indices and REDUCER_BIT_WORDS(3 * N) words of bits
  *   of the node table, the first O indices and REDUCER_BIT_WORDS(O) words of bits of the output table, and the first N locks are
@@ -43,7 +44,8 @@
  *   order of the numbers 3, 4, 5, 13, 7, 8, 9, all literals and bits being tested before any lock; loading meets its file from
  *   front to back, importing its text line by line, each line being tested for 10, 11, 12, 3, 4, 5 in that order, many moves their
  *   list entry by entry, after 3, 4, 5 and 13, each entry being tested for 7, 14, 15, 16 in that order, a trial its two moves, each
- *   for 15 and 16, after 7, and a replay its calls and answers before its file.
+ *   for 15 and 16, after 7, a majority call its node, its triple and its lock by 7, 7 and 16, before 8, and a replay its calls and
+ *   answers before its file.
  *   Scratch holds nothing of use before or after a call.
  *
  *   A saving is two numbers, of which either may be below 0: how many complemented edges fewer there are, first among the words
@@ -102,7 +104,9 @@ enum reducer_kind {
     REDUCER_PAIR_CALL = 1,
     REDUCER_TREE_CALL = 2,
     REDUCER_SETTLE_CALL = 3,
-    REDUCER_MANY_CALL = 4
+    REDUCER_MANY_CALL = 4,
+    REDUCER_MAJORITY_CALL = 5,
+    REDUCER_FIND_CALL = 6
 };
 
 /*
@@ -123,7 +127,7 @@ enum reducer_number {
     REDUCER_BAD_LITERAL = 5,
     /* bytes after the end field */
     REDUCER_EXTRA_BYTES = 6,
-    /* not a node (in a list too), not a root (tree call, preview), or no such word of the node */
+    /* not a node (in a list too), not a root (tree call, preview), no such word of the node, or no such triple (majority call) */
     REDUCER_NO_SUCH_NODE = 7,
     /* scratch too short */
     REDUCER_SHORT_SCRATCH = 8,
@@ -141,14 +145,24 @@ enum reducer_number {
     REDUCER_NOT_RISING = 14,
     /* a move number that the node's kind lacks: a majority has moves 0 and 1, an XOR 0 to 3 */
     REDUCER_NO_SUCH_MOVE = 15,
-    /* a move other than 0 at a locked node */
+    /* a move other than 0, or a majority call, at a locked node */
     REDUCER_MOVE_OF_LOCKED = 16,
     /* words of the list are left over: their number is not a multiple of 3 */
     REDUCER_LEFT_OVER = 101,
-    /* a call of the list has a kind above 4 */
+    /* a call of the list has a kind above 6 */
     REDUCER_UNKNOWN_KIND = 102,
-    /* a many call's part reaches past the end of the list of nodes */
+    /* a many call's part, or a majority call's triple, reaches past the end of the list of nodes */
     REDUCER_PART_OUTSIDE = 105
+};
+
+/* What a majority call answers. */
+enum reducer_made {
+    /* the node is now one majority of the three */
+    REDUCER_MADE = 0,
+    /* its value over the three is none's; nothing has changed */
+    REDUCER_NOT_MAJORITY = 1,
+    /* some way from it down to an input misses all three; nothing has changed */
+    REDUCER_NOT_COVERED = 2
 };
 
 /*
@@ -363,14 +377,53 @@ uint32_t reducer_many(uint32_t inputs, uint32_t nodes, uint32_t outputs,
                       int64_t *saving);
 
 /*
+ * Makes a node one majority of three lower indices, where its value is one's. first, second and third rise, from above 0 to below
+ * node, and are taken as free variables; a node among them is free even if only the constant lies below it. If some way from the
+ * node down to an input misses all three, answer is REDUCER_NOT_COVERED; a way to the constant is covered. Else, if the node's value
+ * over them is that of a majority with words complemented somehow, its words become the three by rising index, complemented as
+ * needed, and answer is REDUCER_MADE; else it is REDUCER_NOT_MAJORITY. Every index keeps its value. Needs
+ * REDUCER_TREE_SCRATCH(nodes) words of scratch. Refusals: 3, 4, 5, 13, 7 (node, then triple), 16, 8.
+ */
+uint32_t reducer_majority(uint32_t inputs, uint32_t nodes, uint32_t outputs,
+                          uint32_t *node_table, size_t node_table_length,
+                          uint64_t *node_bits, size_t node_bits_length,
+                          const uint32_t *output_table, size_t output_table_length,
+                          const uint64_t *output_bits, size_t output_bits_length,
+                          const uint8_t *locks, size_t locks_length,
+                          uint32_t node, uint32_t first, uint32_t second, uint32_t third,
+                          uint32_t *scratch, size_t scratch_length,
+                          uint32_t *answer);
+
+/*
+ * Finds hidden majorities, such as reducer_import leaves. Each free node by rising index is tried as by reducer_majority, on the
+ * graph as it then is, with every three indices other than 0 that at most three words lead down to from it, the lowest being
+ * compared first, up to the first that it is made a majority of; a majority whose words name three different indices other than 0
+ * is passed over. Then free nodes that nothing reads are dropped until none is left, and the others renumbered in order with their
+ * locks. nodes_after is the number of nodes that are left, N for every later call: at most that given. The node words and lock bytes
+ * that are freed become 0, index and bit; what lies past the graph as it was lent stays. Every output keeps its value. Needs
+ * REDUCER_TREE_SCRATCH(nodes) words of scratch. Refusals: 3, 4, 5, 13, 8.
+ */
+uint32_t reducer_find(uint32_t inputs, uint32_t nodes, uint32_t outputs,
+                      uint32_t *node_table, size_t node_table_length,
+                      uint64_t *node_bits, size_t node_bits_length,
+                      uint32_t *output_table, size_t output_table_length,
+                      uint64_t *output_bits, size_t output_bits_length,
+                      uint8_t *locks, size_t locks_length,
+                      uint32_t *scratch, size_t scratch_length,
+                      uint32_t *nodes_after);
+
+/*
  * Loads a tagged file and makes a list of calls on the loaded graph and locks, each on what the one before left. A call is three
  * words: its kind, a node's index and a word, of which those that the kind does not want are not looked at. The two words of
  * REDUCER_MANY_CALL are a start and a count instead: its list are so many entries of list from the start on, and its moves those at
- * the same places of moves, as far as there are any; the call itself is refused by 4 where these are too few.
+ * the same places of moves, as far as there are any; the call itself is refused by 4 where these are too few. Those of
+ * REDUCER_MAJORITY_CALL are a node and a start: its triple are three entries of list from the start on.
  *
  * A call's answer is three words at the front of answers: the number that its own function would return, and both numbers of its
- * saving, for settling those of its savings, and for many moves their saving and 0; a refused call saves nothing, changes nothing,
- * and the list goes on. All calls are lent the same scratch. numbers are I, N and O. Refusals: 101, then call by call 102 and 105,
+ * saving, for settling those of its savings, for many moves their saving and 0, for a majority call its answer and 0, and for the
+ * finder the number of nodes after it and 0; a refused call saves nothing, changes nothing, and the list goes on. Each call gets the
+ * number of nodes that the one before left. All calls are lent the same scratch. numbers are I, N and O of the graph that the list
+ * leaves. Refusals: 101, then call by call 102 and 105,
  * then 4 (fewer than three words of answers a call), then those of reducer_load; then no call is made.
  */
 uint32_t reducer_replay(const uint8_t *file, size_t file_length,

@@ -8,6 +8,7 @@
 
 import_aiger and Graph.export_aiger do the same for ASCII AIGER, the text of and-inverter tools. Graph.lock locks a node that is laid
 out already: no call turns it, and its file says so. Graph.many makes moves that the caller has chosen, all of them or none.
+Graph.find finds the majorities that and-inverter tools have hidden in ANDs, and Graph.majority makes a node one.
 
 Every call is one of the proved library's. A call that cannot be made raises: Refused, with the number of the refusal, where
 the library refuses it; TypeError or ValueError where an argument is not of the kind that the library takes. Either way
@@ -22,6 +23,7 @@ The library is linked, at the first import, from target/staticlib/libreducer.a, 
 from __future__ import annotations
 
 import ctypes
+import enum
 import operator
 import os
 import subprocess
@@ -31,14 +33,14 @@ from pathlib import Path
 from typing import Iterable, Iterator, List, NamedTuple, Sequence, Tuple, Type, Union
 
 __all__ = [
-    "Graph", "Literals", "Preview", "Refused", "Saving", "Settled", "Told", "load", "import_aiger", "field", "replay",
-    "NODE", "PAIR", "TREE", "SETTLE", "MANY", "MARK", "MOST_INPUTS", "MOST_NODES", "MOST_OUTPUTS",
+    "Graph", "Literals", "Majority", "Preview", "Refused", "Saving", "Settled", "Told", "load", "import_aiger", "field", "replay",
+    "NODE", "PAIR", "TREE", "SETTLE", "MANY", "MAJORITY", "FIND", "MARK", "MOST_INPUTS", "MOST_NODES", "MOST_OUTPUTS",
 ]
 
 #: The third literal of an XOR node, and its third index.
 MARK = 4294967295
 #: The kinds of calls in a list.
-NODE, PAIR, TREE, SETTLE, MANY = range(5)
+NODE, PAIR, TREE, SETTLE, MANY, MAJORITY, FIND = range(7)
 #: Limits of a graph.
 MOST_INPUTS = 4096
 MOST_NODES = 100000
@@ -62,7 +64,7 @@ _WHY = {
     15: "a node of this kind has no such move",
     16: "a move other than 0 is at a locked node",
     102: "a call of the list has a kind that is none",
-    105: "a many call's part reaches past the end of the list",
+    105: "a many call's part, or a majority call's triple, reaches past the end of the list",
 }
 
 
@@ -98,6 +100,15 @@ class Settled(NamedTuple):
     others: int
 
 
+class Majority(enum.Enum):
+    """What a majority call answers: the node is made one majority of the three; its value over them is none's; or some way from it
+    down to an input misses all three. The last two have changed nothing."""
+
+    MADE = 0
+    NOT_MAJORITY = 1
+    NOT_COVERED = 2
+
+
 class Preview(NamedTuple):
     """What a tree call would save, and a byte a node by rising index: its move there, and 0 outside the tree and at locked nodes."""
 
@@ -106,10 +117,11 @@ class Preview(NamedTuple):
 
 
 class Told(NamedTuple):
-    """What a call of a list answers: 0 or the number that refuses it, and what it saves; many moves save it all as own."""
+    """What a call of a list answers: 0 or the number that refuses it, and what it saves, where many moves save it all as own. Of an
+    accepted majority call it is the Majority instead, and of the finder the number of nodes after it."""
 
     number: int
-    saving: Saving
+    answer: Union[Saving, Majority, int]
 
 
 _ROOT = Path(__file__).resolve().parent.parent
@@ -169,6 +181,8 @@ _tree = _function("reducer_tree", _GRAPH + [_U32] + _WORDS + [ctypes.c_void_p])
 _preview = _function("reducer_preview", _GRAPH + [_U32] + _WORDS * 2 + [ctypes.c_void_p])
 _settle = _function("reducer_settle", _GRAPH + _WORDS + [ctypes.c_void_p] * 2)
 _many = _function("reducer_many", _GRAPH + _WORDS * 2 + [ctypes.c_void_p])
+_majority = _function("reducer_majority", _GRAPH + [_U32] * 4 + _WORDS + [ctypes.c_void_p])
+_find = _function("reducer_find", _GRAPH + _WORDS + [ctypes.c_void_p])
 _replay = _function("reducer_replay", _WORDS * 2 + _TABLES + _WORDS * 4 + [ctypes.c_void_p])
 
 
@@ -366,6 +380,12 @@ class Literals(MutableSequence):
         self._indices.append(0)
         self._set(end, literal)
 
+    def _cut(self, length: int) -> None:
+        """Leaves the first so many literals, those behind them being 0, and what stands behind the words of bits."""
+        words, left = self._words(), (length + 63) // 64
+        del self._indices[length:]
+        del self._bits[left:words]
+
     def clear(self) -> None:
         """Leaves no literal."""
         self._fill([])
@@ -455,14 +475,22 @@ def import_aiger(text: bytes) -> "Graph":
     return _graph(numbers[0], tables)
 
 
+def _told(kind: int, number: int, own: int, others: int) -> Told:
+    """What the three words of a call's answer say."""
+    if number == 0 and kind == MAJORITY:
+        return Told(number, Majority(own))
+    return Told(number, own if number == 0 and kind == FIND else Saving(own, others))
+
+
 def replay(
     file: bytes, calls: Iterable[Sequence[int]], indices: Iterable[int] = (), moves: Union[bytes, Iterable[int]] = b""
 ) -> Tuple["Graph", List[Told]]:
     """The graph that a tagged file holds after a list of calls, each of which gets its locks, and what each call answers.
 
     A call is its kind (NODE, PAIR, TREE or SETTLE), a node and a word; those that a kind does not want are not looked at. Of the
-    kind MANY it is the kind, a start and a count: that part of indices and of moves is made, as Graph.many does. A call that is
-    refused changes nothing, and the list goes on.
+    kind MANY it is the kind, a start and a count: that part of indices and of moves is made, as Graph.many does. Of the kind
+    MAJORITY it is the kind, a node and a start: the node is made a majority of three of indices from there on, as Graph.majority does.
+    FIND is Graph.find. A call that is refused changes nothing, and the list goes on.
     """
     file, length = _bytes(file, "file")
     listed = [tuple(call) for call in calls]
@@ -475,8 +503,10 @@ def replay(
     scratch, answers, numbers = _array(_U32, scratch_words), _array(_I64, answer_words), (_U32 * 3)()
     room = [scratch, scratch_words, answers, answer_words]
     _call(_replay, file, length, words, count, *tables.arrays(), *many, *room, numbers)
-    told = [Told(answers[at], Saving(answers[at + 1], answers[at + 2])) for at in range(0, answer_words, 3)]
-    return _graph(numbers[0], tables), told
+    told = [_told(call[0], *answers[3 * at : 3 * at + 3]) for at, call in enumerate(listed)]
+    graph = _graph(numbers[0], tables)
+    graph._cut(numbers[1])
+    return graph, told
 
 
 class Graph:
@@ -665,6 +695,33 @@ class Graph:
         listed, saving = [*_numbers(indices, _U32, "indices"), *_moves(moves)], _I64()
         _call(_many, *self._lent(), *listed, ctypes.byref(saving))
         return saving.value
+
+    def majority(self, node: int, first: int, second: int, third: int) -> Majority:
+        """Makes a node one majority of three lower indices, rising and none of them 0, where its value is one's, with words complemented
+        as needed; else nothing changes. Every index keeps its value. Refused by 7 for no node or no such three, by 16 for a locked one."""
+        given = [("node", node), ("first", first), ("second", second), ("third", third)]
+        numbers, answer = [_number(value, 32, what) for what, value in given], _U32()
+        lent = self._lent()
+        room = 8 * lent[1]
+        _call(_majority, *lent, *numbers, _array(_U32, room), room, ctypes.byref(answer))
+        return Majority(answer.value)
+
+    def find(self) -> int:
+        """Finds hidden majorities: each free node by rising index is made the first majority, if there is one, of three indices within
+        three words of it. Then free nodes that nothing reads are dropped, and the rest renumbered in order with their locks. Every output
+        keeps its value. How many nodes there are then."""
+        lent, nodes = self._lent(), _U32()
+        room = 8 * lent[1]
+        _call(_find, *lent, _array(_U32, room), room, ctypes.byref(nodes))
+        # What is lent must be gone before an array can shrink.
+        del lent
+        self._cut(nodes.value)
+        return nodes.value
+
+    def _cut(self, nodes: int) -> None:
+        """Takes out what the finder has freed, where so many nodes are left."""
+        self._nodes._cut(3 * nodes)
+        del self._locks[nodes:]
 
     def settle(self) -> Settled:
         """Makes rounds of tree, node and pair calls until one saves nothing."""

@@ -14,7 +14,7 @@ import unittest
 from pathlib import Path
 
 import panjerov
-from panjerov import MARK, Graph, Literals, Refused
+from panjerov import MARK, Graph, Literals, Majority, Refused
 
 ROOT = Path(__file__).resolve().parent.parent
 EXAMPLES = ROOT / "examples"
@@ -622,13 +622,14 @@ class Bad(unittest.TestCase):
         file = p1().write()
         for number, bad, calls in [
             (1, file[:39], []),
-            (102, file, [(5, 4, 0)]),
+            (102, file, [(7, 4, 0)]),
             (102, b"", [(9, 0, 0)]),
             (105, file, [(4, 0, 3)]),
             (105, b"", [(4, 3, 0)]),
-            (105, b"", [(4, 2, 1), (5, 0, 0)]),
+            (105, b"", [(4, 2, 1), (7, 0, 0)]),
+            (105, b"", [(5, 4, 0)]),
             (105, b"", [(4, 1, 2**32 - 1)]),
-            (102, b"", [(5, 0, 0), (4, 2, 1)]),
+            (102, b"", [(7, 0, 0), (4, 2, 1)]),
             (1, b"", [(4, 2, 0)]),
             (6, file + b"\0", [(0, 4, 0)]),
         ]:
@@ -772,6 +773,120 @@ def every_call(graph: Graph) -> list:
         lambda: graph.preview(last),
         lambda: graph.many([last], [1]),
     ]
+
+
+def buried(generator: random.Random) -> Graph:
+    """ANDs mostly, with XORs and majorities in four ANDs each, and some nodes locked."""
+    inputs, nodes = generator.randrange(1, 6), []
+
+    def literal() -> int:
+        return generator.randrange(2 * (inputs + 1 + len(nodes) // 3))
+
+    def node(*words: int) -> int:
+        nodes.extend(words)
+        return 2 * (inputs + len(nodes) // 3)
+
+    for _ in range(generator.randrange(1, 6)):
+        x, y, z = literal(), literal(), literal()
+        kind = generator.randrange(4)
+        if kind == 0:
+            node(x, y, MARK)
+        elif kind == 1:
+            node(0, x, y)
+        else:
+            first = node(0, y ^ 1, z ^ 1)
+            second, third = node(0, x, first ^ 1), node(0, y, z)
+            node(0, second ^ 1, third ^ 1)
+    end = inputs + 1 + len(nodes) // 3
+    locked = [index for index in range(inputs + 1, end) if generator.random() < 0.15]
+    return Graph(inputs, nodes, [generator.randrange(2 * end) for _ in range(3)], locked)
+
+
+class Hidden(unittest.TestCase):
+    """Majorities that lie in ANDs."""
+
+    def test_one_comes_back(self) -> None:
+        graph = panjerov.import_aiger(MAJORITY)
+        self.assertEqual(graph.find(), 1)
+        self.assertEqual(graph, Graph(3, [3, 5, 7], [9]))
+        self.assertEqual(graph.settle()[1:3], (4, 0))
+        self.assertEqual((graph.find(), graph), (1, Graph(3, [2, 4, 6], [8])))
+
+    def test_made(self) -> None:
+        graph = panjerov.import_aiger(MAJORITY)
+        before = copied(graph)
+        self.assertEqual(graph.majority(7, 1, 2, 6), Majority.NOT_COVERED)
+        self.assertEqual(graph.majority(7, 2, 3, 5), Majority.NOT_MAJORITY)
+        self.assertEqual(graph, before)
+        self.assertEqual(graph.majority(7, 1, 2, 3), Majority.MADE)
+        self.assertEqual(graph, Graph(3, [0, 5, 7, 0, 2, 9, 0, 4, 6, 3, 5, 7], [15]))
+
+    def test_locks(self) -> None:
+        graph = panjerov.import_aiger(MAJORITY)
+        graph.lock(5)
+        self.assertEqual((graph.find(), graph), (3, Graph(3, [0, 5, 7, 0, 2, 9, 3, 5, 7], [13], [5])))
+        graph = panjerov.import_aiger(MAJORITY)
+        graph.lock(7)
+        before = copied(graph)
+        with self.assertRaises(Refused) as caught:
+            graph.majority(7, 1, 2, 3)
+        self.assertEqual((caught.exception.number, graph.find(), graph), (16, 4, before))
+
+    def test_refusals(self) -> None:
+        for node, three in [(3, (1, 2, 3)), (8, (1, 2, 3)), (7, (0, 1, 2)), (7, (2, 1, 3)), (7, (1, 2, 7)), (7, (1, 2, MARK))]:
+            graph = panjerov.import_aiger(MAJORITY)
+            with self.assertRaises(Refused) as caught:
+                graph.majority(node, *three)
+            self.assertEqual((caught.exception.number, graph), (7, panjerov.import_aiger(MAJORITY)))
+        for number, graph in [(3, Graph(4097, [], [])), (5, Graph(3, [2, 4, 8], [8]))]:
+            for call in [lambda: graph.find(), lambda: graph.majority(4, 1, 2, 3)]:
+                with self.assertRaises(Refused) as caught:
+                    call()
+                self.assertEqual(caught.exception.number, number)
+        with self.assertRaises(TypeError):
+            p1().majority(4, 1, 2, 3.0)
+        with self.assertRaises(ValueError):
+            p1().majority(4, 1, 2, -3)
+
+    def test_values_stay(self) -> None:
+        """Over several words of bits too: what is read again and written is a graph, with as many locks."""
+        generator, fewer = random.Random(47), 0
+        for _ in range(400):
+            graph = buried(generator)
+            before, assignments = copied(graph), list(range(2**graph.inputs))
+            nodes = graph.find()
+            self.assertEqual(nodes, len(graph.nodes) // 3)
+            self.assertEqual(values(graph, assignments), values(before, assignments))
+            self.assertEqual(len(graph.locked), len(before.locked))
+            self.assertEqual(panjerov.load(graph.write()), graph)
+            fewer += len(before.nodes) // 3 - nodes
+        self.assertGreater(fewer, 400)
+
+    def test_replay(self) -> None:
+        """A call that makes none, the finder, settling on what is left, and a call at a node that is no more."""
+        find, settle, three = (panjerov.FIND, 9, 9), (panjerov.SETTLE, 0, 0), panjerov.MAJORITY
+        calls = [(three, 7, 3), (three, 7, 0), find, settle, (panjerov.NODE, 7, 0), (three, 4, 0)]
+        graph, told = panjerov.replay(panjerov.import_aiger(MAJORITY).write(), calls, [2, 3, 5, 1, 2, 6])
+        self.assertEqual(graph, Graph(3, [2, 4, 6], [8]))
+        none = (7, (0, 0))
+        self.assertEqual(told, [(0, Majority.NOT_COVERED), (0, Majority.NOT_MAJORITY), (0, 1), (0, (3, 1)), none, none])
+
+    def test_largest(self) -> None:
+        """As many nodes as there may be: 25,000 majorities in four ANDs each, the last 4,096 of them read by outputs."""
+        literals, nodes = list(range(2, 130, 2)), []
+        generator = random.Random(48)
+        while len(nodes) < 300000:
+            x, y, z = (literal ^ generator.randrange(2) for literal in generator.sample(literals, 3))
+            first = 2 * (65 + len(nodes) // 3)
+            nodes += [0, y ^ 1, z ^ 1, 0, x, first ^ 1, 0, y, z, 0, first + 3, first + 5]
+            literals.append(first + 7)
+        graph = Graph(64, nodes, literals[-4096:])
+        words = [generator.getrandbits(64) for _ in range(64)]
+        due = graph.evaluate(words)
+        found = graph.find()
+        self.assertEqual((graph.evaluate(words), found), (due, len(graph.nodes) // 3))
+        self.assertTrue(4096 <= found <= 25000, found)
+        self.assertTrue(all(0 not in (x // 2, y // 2, z // 2) for x, y, z in zip(*[iter(graph.nodes)] * 3)))
 
 
 class Packed(unittest.TestCase):

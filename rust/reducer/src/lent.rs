@@ -3,7 +3,7 @@
 //! A table is lent as two slices: the indices of its literals, or [`MARK`], and [`crate::bit_words`] words with their complement bits.
 //! That of place j, from 0, is bit j % 64 of word j / 64. The node table has three places a node by rising index, the output table one
 //! an output. At a mark, and past the last literal in the word that it is in, a bit is 0. Moves turn bits alone: indices are written
-//! only by what fills tables. The locks have a byte a node: 1 for locked, 0 for free.
+//! only by what fills tables, by [`majority`] and by [`find`]. The locks have a byte a node: 1 for locked, 0 for free.
 //!
 //! Only the graph's part of tables, bits and locks is looked at; what stands after it is left, and a refused call leaves everything.
 //! [`literal`] and [`set_literal`] read and set one place.
@@ -12,7 +12,7 @@
 #![allow(clippy::too_many_arguments)]
 
 use crate::raw;
-use crate::{Refusal, ReplayRefusal, Saving, Settled, Size, MARK};
+use crate::{Majority, Refusal, ReplayRefusal, Saving, Settled, Size, MARK};
 
 /// The value where the number is 0, else its refusal.
 pub(crate) fn answer<T>(number: u32, value: T) -> Result<T, Refusal> {
@@ -527,9 +527,84 @@ pub fn many(
     answer(number, saving)
 }
 
+/// Makes a node one majority of three lower indices, rising and none of them 0, where its value is one of theirs.
+pub fn majority(
+    size: Size,
+    node_table: &mut [u32],
+    node_bits: &mut [u64],
+    output_table: &[u32],
+    output_bits: &[u64],
+    locks: &[u8],
+    node: u32,
+    [first, second, third]: [u32; 3],
+    scratch: &mut [u32],
+) -> Result<Majority, Refusal> {
+    let mut told = 0u32;
+    let number = unsafe {
+        raw::reducer_majority(
+            size.inputs,
+            size.nodes,
+            size.outputs,
+            node_table.as_mut_ptr(),
+            node_table.len(),
+            node_bits.as_mut_ptr(),
+            node_bits.len(),
+            output_table.as_ptr(),
+            output_table.len(),
+            output_bits.as_ptr(),
+            output_bits.len(),
+            locks.as_ptr(),
+            locks.len(),
+            node,
+            first,
+            second,
+            third,
+            scratch.as_mut_ptr(),
+            scratch.len(),
+            &mut told,
+        )
+    };
+    answer(number, Majority::of(told))
+}
+
+/// Finds hidden majorities and drops what is then unread; the new number of nodes. What is freed, node words and lock bytes, becomes 0.
+pub fn find(
+    size: Size,
+    node_table: &mut [u32],
+    node_bits: &mut [u64],
+    output_table: &mut [u32],
+    output_bits: &mut [u64],
+    locks: &mut [u8],
+    scratch: &mut [u32],
+) -> Result<u32, Refusal> {
+    let mut nodes = 0u32;
+    let number = unsafe {
+        raw::reducer_find(
+            size.inputs,
+            size.nodes,
+            size.outputs,
+            node_table.as_mut_ptr(),
+            node_table.len(),
+            node_bits.as_mut_ptr(),
+            node_bits.len(),
+            output_table.as_mut_ptr(),
+            output_table.len(),
+            output_bits.as_mut_ptr(),
+            output_bits.len(),
+            locks.as_mut_ptr(),
+            locks.len(),
+            scratch.as_mut_ptr(),
+            scratch.len(),
+            &mut nodes,
+        )
+    };
+    answer(number, nodes)
+}
+
 /// Loads a file and makes a list of calls, three words each ([`crate::Call::words`]), on the loaded graph and locks; many calls take
-/// parts of `list` and `moves`. The answers are three words a call: the refusal's number, or 0, and what the call saves, own and
-/// others; many moves save one number, and 0 after it.
+/// parts of `list` and `moves`, majority calls three entries of `list`. The answers are three words a call: the refusal's number, or 0,
+/// and what the call saves, own and others; of many moves one number, of a majority call its answer (0 made, 1 not majority, 2 not
+/// covered) and of the finder the new number of nodes, each with 0 after it. The size is that of the graph that the list leaves.
 pub fn replay(
     file: &[u8],
     calls: &[u32],

@@ -20,6 +20,8 @@
 //!
 //! [`Graph::many`] makes moves that the caller has chosen, all of them or none.
 //!
+//! [`Graph::find`] finds the majorities that and-inverter tools have hidden in ANDs, and [`Graph::majority`] makes a node one.
+//!
 //! A literal, as a file has it, is twice an index, and one more if it is complemented: [`Graph::new`] takes a graph so, and
 //! [`Graph::node`] and [`Graph::output`] give it so. Its tables are kept as they are lent, indices and complement bits apart.
 //!
@@ -55,7 +57,8 @@ pub enum Refusal {
     BadLiteral = 5,
     /// There are bytes after the end field.
     ExtraBytes = 6,
-    /// That is not a node (in a list too), not a root (tree call, preview), or no such word of the node.
+    /// That is not a node (in a list too), not a root (tree call, preview), no such word of the node, or not three lower indices that rise
+    /// from above 0 (majority call).
     NoSuchNode = 7,
     /// The scratch is too short.
     ShortScratch = 8,
@@ -73,7 +76,7 @@ pub enum Refusal {
     NotRising = 14,
     /// A move number is one that the node's kind lacks.
     NoSuchMove = 15,
-    /// A move other than 0 is at a locked node.
+    /// A move other than 0 is at a locked node, or a majority call at one.
     MoveOfLocked = 16,
 }
 
@@ -189,6 +192,28 @@ pub struct Settled {
     pub others: i64,
 }
 
+/// What a majority call answers.
+#[derive(Clone, Copy, Debug, PartialEq, Eq, Hash)]
+pub enum Majority {
+    /// The node is now one majority of the three.
+    Made,
+    /// Over the three its value is no majority's, with words complemented somehow; nothing has changed.
+    Not,
+    /// Some way from the node down to an input misses all three; nothing has changed.
+    NotCovered,
+}
+
+impl Majority {
+    /// The answer that has this number.
+    pub(crate) fn of(number: u32) -> Majority {
+        match number {
+            0 => Majority::Made,
+            1 => Majority::Not,
+            _ => Majority::NotCovered,
+        }
+    }
+}
+
 /// What a preview tells of a tree call that is not made.
 #[derive(Clone, Debug, PartialEq, Eq, Hash)]
 pub struct Preview {
@@ -213,10 +238,17 @@ pub enum Call {
         start: u32,
         count: u32,
     },
+    /// Of this node, and of the three indices from a start on of the list that the replay is given.
+    Majority {
+        node: u32,
+        start: u32,
+    },
+    Find,
 }
 
 impl Call {
-    /// The three words that say the call: kind, node and word; of many moves kind, start and count.
+    /// The three words that say the call: kind, node and word; of many moves kind, start and count; of a majority call kind, node and
+    /// start.
     pub fn words(self) -> [u32; 3] {
         match self {
             Call::Node(node) => [0, node, 0],
@@ -224,21 +256,45 @@ impl Call {
             Call::Tree(root) => [2, root, 0],
             Call::Settle => [3, 0, 0],
             Call::Many { start, count } => [4, start, count],
+            Call::Majority { node, start } => [5, node, start],
+            Call::Find => [6, 0, 0],
         }
     }
 }
 
-/// A graph after a list of calls, and what each of them saved or was refused by.
-pub type Replayed = (Graph, Vec<Result<Saving, Refusal>>);
+/// What a call of a list answers.
+#[derive(Clone, Copy, Debug, PartialEq, Eq, Hash)]
+pub enum Told {
+    /// What it saved; many moves save it all as own.
+    Saved(Saving),
+    /// Of a majority call.
+    Majority(Majority),
+    /// Of the finder: how many nodes there are then.
+    Found(u32),
+}
+
+impl Told {
+    /// What the two numbers of a call's answer say.
+    fn of(call: Call, own: i64, others: i64) -> Told {
+        match call {
+            Call::Majority { .. } => Told::Majority(Majority::of(own as u32)),
+            Call::Find => Told::Found(own as u32),
+            _ => Told::Saved(Saving { own, others }),
+        }
+    }
+}
+
+/// A graph after a list of calls, and what each of them answered or was refused by.
+pub type Replayed = (Graph, Vec<Result<Told, Refusal>>);
 
 /// Why a replay is refused.
 #[derive(Clone, Copy, Debug, PartialEq, Eq, Hash)]
 pub enum ReplayRefusal {
     /// The words of the list are not three a call.
     LeftOver,
-    /// A call of the list has a kind above 4.
+    /// A call of the list has a kind above 6.
     UnknownKind,
-    /// A many call's part reaches past the end of the list of nodes.
+    /// A many call's part, or a majority call's triple, reaches past the end of the list of nodes.
     PartOutside,
     /// The slice of answers is too short, or the file is refused.
     Refused(Refusal),
@@ -249,7 +305,7 @@ pub fn bit_words(literals: usize) -> usize {
     literals.div_ceil(64)
 }
 
-/// How many words of scratch the tree call, its preview and settling need for so many nodes.
+/// How many words of scratch the tree call, its preview, settling, the majority call and the finder need for so many nodes.
 pub fn scratch_words(nodes: u32) -> usize {
     8 * nodes as usize
 }
@@ -278,7 +334,8 @@ pub struct Graph {
     pub output_table: Vec<u32>,
     /// Their complement bits.
     pub output_bits: Vec<u64>,
-    /// A byte a node: 1 for locked, 0 for free. No call changes them but [`Graph::lock`] and [`Graph::unlock`].
+    /// A byte a node: 1 for locked, 0 for free. [`Graph::lock`] and [`Graph::unlock`] change them, and [`Graph::find`] moves them with their
+    /// nodes.
     pub locks: Vec<u8>,
 }
 
@@ -423,8 +480,8 @@ impl Graph {
         Ok(graph)
     }
 
-    /// The graph that a tagged file holds after a list of calls, with what each call saved or was refused by. Many calls take parts of
-    /// `list` and `moves`; what they save is told as their own.
+    /// The graph that a tagged file holds after a list of calls, with what each call answered or was refused by. Many calls take parts of
+    /// `list` and `moves`, majority calls three entries of `list`.
     pub fn replay(file: &[u8], calls: &[Call], list: &[u32], moves: &[u8]) -> Result<Replayed, ReplayRefusal> {
         let words: Vec<u32> = calls.iter().flat_map(|call| call.words()).collect();
         let nodes = head_number(file, 7, MOST_NODES);
@@ -444,8 +501,9 @@ impl Graph {
             &mut scratch,
             &mut answers,
         )?;
-        let told = |three: &[i64]| lent::answer(three[0] as u32, Saving { own: three[1], others: three[2] });
-        let told = answers.chunks_exact(3).map(told).collect();
+        graph.cut(nodes);
+        let told = |(three, call): (&[i64], &Call)| lent::answer(three[0] as u32, Told::of(*call, three[1], three[2]));
+        let told = answers.chunks_exact(3).zip(calls).map(told).collect();
         Ok((graph, told))
     }
 
@@ -628,6 +686,51 @@ impl Graph {
             &self.locks,
             &mut scratch,
         )
+    }
+
+    /// Makes a node one majority of three lower indices, rising and none of them 0, where over these as free variables its value is
+    /// one's, with words complemented as needed; else nothing changes. Every index keeps its value.
+    pub fn majority(&mut self, node: u32, three: [u32; 3]) -> Result<Majority, Refusal> {
+        let mut scratch = self.scratch();
+        lent::majority(
+            self.size,
+            &mut self.node_table,
+            &mut self.node_bits,
+            &self.output_table,
+            &self.output_bits,
+            &self.locks,
+            node,
+            three,
+            &mut scratch,
+        )
+    }
+
+    /// Finds hidden majorities: each free node by rising index is made the first majority, if there is one, of three indices within three
+    /// words of it. Then free nodes that nothing reads are dropped until none is left, and the rest renumbered in order with their locks.
+    /// Every output keeps its value. How many nodes there are then.
+    pub fn find(&mut self) -> Result<u32, Refusal> {
+        let mut scratch = self.scratch();
+        let nodes = lent::find(
+            self.size,
+            &mut self.node_table,
+            &mut self.node_bits,
+            &mut self.output_table,
+            &mut self.output_bits,
+            &mut self.locks,
+            &mut scratch,
+        )?;
+        let before = self.size.nodes as usize;
+        self.size.nodes = nodes;
+        self.cut(before);
+        Ok(nodes)
+    }
+
+    /// Takes out what the finder has freed, of so many nodes that there were.
+    fn cut(&mut self, before: usize) {
+        let after = self.size.nodes as usize;
+        self.node_table.drain(3 * after..3 * before);
+        self.node_bits.drain(bit_words(3 * after)..bit_words(3 * before));
+        self.locks.drain(after..before);
     }
 
     fn scratch(&self) -> Vec<u32> {

@@ -255,6 +255,48 @@ extern "C" {
         saving: *mut i64,
     ) -> u32;
 
+    pub fn reducer_majority(
+        inputs: u32,
+        nodes: u32,
+        outputs: u32,
+        node_table: *mut u32,
+        node_table_length: usize,
+        node_bits: *mut u64,
+        node_bits_length: usize,
+        output_table: *const u32,
+        output_table_length: usize,
+        output_bits: *const u64,
+        output_bits_length: usize,
+        locks: *const u8,
+        locks_length: usize,
+        node: u32,
+        first: u32,
+        second: u32,
+        third: u32,
+        scratch: *mut u32,
+        scratch_length: usize,
+        answer: *mut u32,
+    ) -> u32;
+
+    pub fn reducer_find(
+        inputs: u32,
+        nodes: u32,
+        outputs: u32,
+        node_table: *mut u32,
+        node_table_length: usize,
+        node_bits: *mut u64,
+        node_bits_length: usize,
+        output_table: *mut u32,
+        output_table_length: usize,
+        output_bits: *mut u64,
+        output_bits_length: usize,
+        locks: *mut u8,
+        locks_length: usize,
+        scratch: *mut u32,
+        scratch_length: usize,
+        nodes_after: *mut u32,
+    ) -> u32;
+
     pub fn reducer_replay(
         file: *const u8,
         file_length: usize,

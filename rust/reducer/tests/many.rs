@@ -1,6 +1,6 @@
 //! Many moves together, through the safe interface.
 
-use reducer::{lent, Call, Graph, Refusal, ReplayRefusal, Saving, Size, MARK};
+use reducer::{lent, Call, Graph, Refusal, ReplayRefusal, Saving, Size, Told, MARK};
 
 fn graph(inputs: u32, node_table: &[u32], output_table: &[u32]) -> Graph {
     Graph::new(inputs, node_table.to_vec(), output_table.to_vec())
@@ -140,7 +140,7 @@ fn replaying_many() {
     let p1 = graph(3, &[3, 5, 7], &[9]).write().unwrap();
     let part = |start, count| Call::Many { start, count };
     let calls = [Call::Settle, part(1, 1), Call::Settle, part(0, 1), part(0, 2), part(1, 2), part(3, 0), part(2, 1)];
-    let saved = |own, others| Ok(Saving { own, others });
+    let saved = |own, others| Ok(Told::Saved(Saving { own, others }));
     let (none, short) = (Err(Refusal::NoSuchNode), Err(Refusal::ShortSlice));
     let told = vec![saved(3, 1), saved(-4, 0), saved(3, 1), none, none, short, saved(0, 0), short];
     let settled = graph(3, &[2, 4, 6], &[8]);

@@ -7,6 +7,8 @@ use std::path::{Path, PathBuf};
 use std::process::{Command, Output, Stdio};
 use std::time::{Duration, Instant};
 
+#[path = "program/found.rs"]
+mod found;
 #[path = "program/locks.rs"]
 mod locks;
 #[path = "program/moves.rs"]
@@ -407,6 +409,7 @@ fn usage() {
         &["--help"][..],
         &["-h"],
         &["settle", "--help"],
+        &["find", "--help"],
         &["import", "-h"],
         &["export", "--help"],
         &["show", "--help"],

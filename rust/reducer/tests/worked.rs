@@ -1,6 +1,6 @@
 //! Document 01's worked graphs and edges of the limits, and texts, previews and locks of document 02, through the safe interface.
 
-use reducer::{lent, Call, Graph, Preview, Refusal, ReplayRefusal, Saving, Settled, Size, MARK};
+use reducer::{lent, Call, Graph, Preview, Refusal, ReplayRefusal, Saving, Settled, Size, Told, MARK};
 
 fn graph(inputs: u32, node_table: &[u32], output_table: &[u32]) -> Graph {
     Graph::new(inputs, node_table.to_vec(), output_table.to_vec())
@@ -262,12 +262,17 @@ fn previews_of_lent_slices() {
     assert_eq!(lent_preview(&g, 1, 7, 2, 17).0, Ok(saving(2, 0)));
 }
 
+/// What a call of a list saves.
+fn saved(own: i64, others: i64) -> Told {
+    Told::Saved(saving(own, others))
+}
+
 #[test]
 fn replaying_p3() {
     let p3 = graph(5, &[3, 5, 6, 12, 9, 10], &[15]).write().unwrap();
     let calls = [Call::Node(6), Call::Node(5), Call::Pair(7, 1), Call::Tree(6), Call::Settle];
-    let (nothing, refused) = (Ok(saving(0, 0)), Err(Refusal::NoSuchNode));
-    let told = vec![nothing, refused, Ok(saving(1, 1)), refused, nothing];
+    let (nothing, refused) = (Ok(saved(0, 0)), Err(Refusal::NoSuchNode));
+    let told = vec![nothing, refused, Ok(saved(1, 1)), refused, nothing];
     assert_eq!(Graph::replay(&p3, &calls, &[], &[]), Ok((graph(5, &[2, 4, 7, 12, 8, 11], &[14]), told)));
     assert_eq!(Graph::replay(&p3[..9], &calls, &[], &[]), Err(ReplayRefusal::Refused(Refusal::MissingBytes)));
 }
@@ -277,7 +282,7 @@ fn replaying_p3() {
 fn replaying_p2_with_locks() {
     let p2 = graph(5, &[3, 5, 6, 13, 8, 11], &[14]);
     let calls = [Call::Node(7), Call::Pair(7, 1), Call::Settle];
-    let (nothing, two) = (Ok(saving(0, 0)), Ok(saving(2, 0)));
+    let (nothing, two) = (Ok(saved(0, 0)), Ok(saved(2, 0)));
     let upper = locked(p2.clone(), &[7]).write().unwrap();
     let after = locked(graph(5, &[2, 4, 7, 12, 8, 11], &[14]), &[7]);
     assert_eq!(Graph::replay(&upper, &calls, &[], &[]), Ok((after, vec![nothing, two, nothing])));
@@ -288,12 +293,12 @@ fn replaying_p2_with_locks() {
 #[test]
 fn replaying_savings_below_0() {
     let lost = graph(3, &[2, 4, 7], &[9, 9, 9]).write().unwrap();
-    let told = vec![Ok(saving(-1, 3)), Ok(saving(0, 0))];
+    let told = vec![Ok(saved(-1, 3)), Ok(saved(0, 0))];
     assert_eq!(
         Graph::replay(&lost, &[Call::Node(4), Call::Settle], &[], &[]),
         Ok((graph(3, &[3, 5, 6], &[8, 8, 8]), told))
     );
-    let settled = vec![Ok(saving(-1, 3)), Ok(saving(0, 0))];
+    let settled = vec![Ok(saved(-1, 3)), Ok(saved(0, 0))];
     assert_eq!(Graph::replay(&lost, &[Call::Settle, Call::Tree(4)], &[], &[]).unwrap().1, settled);
 }
 
@@ -323,11 +328,12 @@ fn replays_refused() {
         assert_eq!((locks, scratch, answers), ([77; 1], [77; 8], vec![77; room]));
     };
     refused(&[0, 4], 9, ReplayRefusal::LeftOver);
-    refused(&[5, 4, 0, 9], 0, ReplayRefusal::LeftOver);
-    refused(&[0, 4, 0, 5, 0, 0], 0, ReplayRefusal::UnknownKind);
+    refused(&[7, 4, 0, 9], 0, ReplayRefusal::LeftOver);
+    refused(&[0, 4, 0, 7, 0, 0], 0, ReplayRefusal::UnknownKind);
     refused(&[4, 0, 2, 4, 0, 3], 0, ReplayRefusal::PartOutside);
-    refused(&[4, 3, 0, 5, 0, 0], 0, ReplayRefusal::PartOutside);
-    refused(&[5, 0, 0, 4, 3, 0], 0, ReplayRefusal::UnknownKind);
+    refused(&[4, 3, 0, 7, 0, 0], 0, ReplayRefusal::PartOutside);
+    refused(&[5, 4, 0, 7, 0, 0], 0, ReplayRefusal::PartOutside);
+    refused(&[7, 0, 0, 4, 3, 0], 0, ReplayRefusal::UnknownKind);
     refused(&[4, 2, 1], 3, ReplayRefusal::PartOutside);
     refused(&[4, 1, u32::MAX], 3, ReplayRefusal::PartOutside);
     refused(&[4, u32::MAX, 1], 3, ReplayRefusal::PartOutside);

@@ -8,6 +8,7 @@ usage: panjerov COMMAND [FILE] [-o FILE]
 Reduces inversions in majority and XOR graphs. The commands:
 
     settle   turns edges until no move lowers the number of complemented edges
+    find     finds the majorities that and-inverter tools have hidden in ANDs
     import   gives the graph as a tagged file
     export   gives the graph as ASCII AIGER text
     lock     locks nodes that are laid out already: from then on they do not turn
@@ -22,7 +23,7 @@ Reduces inversions in majority and XOR graphs. The commands:
 ";
 
 const SETTLE: &str = "\
-usage: panjerov settle [FILE] [-o FILE] [--to tagged|aiger]
+usage: panjerov settle [FILE] [-o FILE] [--to tagged|aiger] [--find]
 
 Turns edges until no move at a node, on a pair or on a tree lowers the number of complemented edges. Wiring and
 function stay the same. The settled graph is given in the format that FILE has, or in the one that --to names. A
@@ -38,8 +39,34 @@ Locked nodes do not turn: only the moves of the others are made. The words of a 
 node that they name turns. The line ends in the number of locked nodes where there are any (locked 2). A tagged file
 that is given has the locks of FILE; AIGER text cannot hold them, which a line on standard error says.
 
+With --find hidden majorities are found first, as `panjerov find` does it, and its two lines come before that of the
+figures. That is the usual way from AIGER text: import, find, settle.
+
 AIGER has ANDs alone: as text, each majority is four ANDs and each XOR three. Between two settlings keep the tagged
 file, which has one node for each AND that was imported.
+";
+
+const FIND: &str = "\
+usage: panjerov find [FILE] [-o FILE] [--to tagged|aiger]
+
+Finds majorities that lie hidden in ANDs, as AIGER text has them. Each free node by rising index is tried as a majority
+of three inputs or nodes that at most three words lead down to from it, and becomes the first that has its value, with
+words complemented as needed; a majority of three different inputs or nodes is passed over. Then free nodes that nothing
+reads are dropped until none is left, and the rest are renumbered in order. The function stays the same.
+
+Two lines go to standard error, for the graph before and after: its nodes, those of them that are majorities of three
+different inputs or nodes, and its complemented edges:
+
+    before nodes 4 majorities 0 complemented 6
+    after nodes 1 majorities 1 complemented 4
+
+Locked nodes stay as they are, and so does all that they read; their indices may be lower. The second line ends in their
+number where there are any (locked 2).
+
+What is given is a tagged file, also where FILE is AIGER text; with --to aiger each majority is four ANDs again.
+
+Most graphs take a fraction of a second, at 100,000 nodes too. There are some on which it takes time that grows with the
+square of their nodes; as long as it works, it can be interrupted, and no file has changed.
 ";
 
 const IMPORT: &str = "\
@@ -220,6 +247,7 @@ pub fn program() -> String {
 pub fn of(command: Command) -> String {
     let own = match command {
         Command::Settle => SETTLE,
+        Command::Find => FIND,
         Command::Import => IMPORT,
         Command::Export => EXPORT,
         Command::Lock => LOCK,

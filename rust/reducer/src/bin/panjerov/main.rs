@@ -1,11 +1,12 @@
-//! The program `panjerov`: settles graphs, shows, draws and reports on them, previews their trees, makes listed moves, locks their
-//! nodes, and makes tagged files of AIGER texts and back.
+//! The program `panjerov`: settles graphs, finds their hidden majorities, shows, draws and reports on them, previews their trees, makes
+//! listed moves, locks their nodes, and makes tagged files of AIGER texts and back.
 
 mod apply;
 mod drawing;
 mod faults;
 mod files;
 mod formats;
+mod found;
 mod graphviz;
 mod help;
 mod locks;
@@ -64,8 +65,14 @@ fn given(asked: &Work, input: &Input) -> Result<Given, String> {
     let (mut graph, got) = formats::graph_of(input)?;
     match asked.command {
         Command::Settle => {
+            let mut lines = if asked.find { found::find(&mut graph)? } else { vec![] };
             let settled = graph.settle().map_err(|refusal| refusal.to_string())?;
-            formed(&graph, asked.to.unwrap_or(got), vec![figures_of(&graph, settled)])
+            lines.push(figures_of(&graph, settled));
+            formed(&graph, asked.to.unwrap_or(got), lines)
+        }
+        Command::Find => {
+            let lines = found::find(&mut graph)?;
+            formed(&graph, asked.to.unwrap_or(Format::Tagged), lines)
         }
         Command::Apply => {
             let moves = files::read_moves(asked.moves.as_deref())?;

@@ -12,6 +12,7 @@ use crate::parts::Wanted;
 #[derive(Clone, Copy, Debug, PartialEq, Eq)]
 pub enum Command {
     Settle,
+    Find,
     Import,
     Export,
     Lock,
@@ -27,6 +28,7 @@ impl Command {
     fn named(name: &str) -> Option<Command> {
         match name {
             "settle" => Some(Command::Settle),
+            "find" => Some(Command::Find),
             "import" => Some(Command::Import),
             "export" => Some(Command::Export),
             "lock" => Some(Command::Lock),
@@ -43,6 +45,7 @@ impl Command {
     pub fn name(self) -> &'static str {
         match self {
             Command::Settle => "settle",
+            Command::Find => "find",
             Command::Import => "import",
             Command::Export => "export",
             Command::Lock => "lock",
@@ -59,6 +62,7 @@ impl Command {
     pub fn doing(self) -> &'static str {
         match self {
             Command::Settle => "settling",
+            Command::Find => "finding majorities in",
             Command::Import => "importing",
             Command::Export => "exporting",
             Command::Lock => "locking nodes of",
@@ -84,6 +88,8 @@ pub struct Work {
     pub output: Option<PathBuf>,
     /// The format that is given; none is that of the input.
     pub to: Option<Format>,
+    /// Whether hidden majorities are found before settling.
+    pub find: bool,
     /// Which nodes are locked or freed.
     pub nodes: Vec<Named>,
     /// Whose tree is previewed; none is a list of the roots.
@@ -109,6 +115,7 @@ impl Work {
             input: None,
             output: None,
             to: None,
+            find: false,
             nodes: Vec::new(),
             root: None,
             only_moves: false,
@@ -230,17 +237,32 @@ fn no_more(mut words: impl Iterator<Item = OsString>) -> Result<(), String> {
     words.next().map_or(Ok(()), |word| Err(format!("{} is one word too many", word.to_string_lossy())))
 }
 
+/// The file that is written, where its name ends as those of AIGER do.
+fn named_aiger(work: &Work) -> Option<&PathBuf> {
+    work.output.as_ref().filter(|path| {
+        let ending = path.extension().unwrap_or_default();
+        ["aag", "aig"].iter().any(|aiger| ending.eq_ignore_ascii_case(aiger))
+    })
+}
+
+/// That what the finder gives has the form that its name says.
+fn holds_majorities(work: &Work) -> Result<(), String> {
+    match named_aiger(work).filter(|_| work.to.is_none()) {
+        Some(path) => Err(format!(
+            "{} has the ending of AIGER, which has ANDs alone: find gives a tagged file, or with --to aiger each majority as four ANDs",
+            path.display()
+        )),
+        None => Ok(()),
+    }
+}
+
 /// That what a command gives can hold locks.
 fn holds_locks(work: &Work) -> Result<(), String> {
     let name = work.command.name();
     if work.to == Some(Format::Aiger) {
         return Err(format!("AIGER text cannot hold locks: {name} gives a tagged file"));
     }
-    let is_aiger = |path: &&PathBuf| {
-        let ending = path.extension().unwrap_or_default();
-        ["aag", "aig"].iter().any(|aiger| ending.eq_ignore_ascii_case(aiger))
-    };
-    match work.output.as_ref().filter(is_aiger) {
+    match named_aiger(work) {
         Some(path) => Err(format!(
             "{} has the ending of AIGER, which cannot hold locks: {name} gives a tagged file, so give it another name",
             path.display()
@@ -306,10 +328,11 @@ fn asked_of(command: Command, mut words: impl Iterator<Item = OsString>) -> Resu
             _ if only_files || text == "-" || !text.starts_with('-') => plain.push(word),
             "--help" | "-h" => return Ok(Asked::Help(help::of(command))),
             "-o" => put(&mut output, words.next().ok_or("-o wants a file after it")?, "-o")?,
-            "--to" if matches!(command, Command::Settle | Command::Apply) || command.sets_locks() => {
+            "--to" if matches!(command, Command::Settle | Command::Find | Command::Apply) || command.sets_locks() => {
                 put(&mut work.to, format_named(words.next())?, "--to")?
             }
             "--moves" if command == Command::Preview => work.only_moves = true,
+            "--find" if command == Command::Settle => work.find = true,
             "--" => only_files = true,
             _ if matches!(command, Command::Picture | Command::Report) => {
                 put_drawing(&mut work, &text, || words.next())?
@@ -322,8 +345,10 @@ fn asked_of(command: Command, mut words: impl Iterator<Item = OsString>) -> Resu
         return Err("--moves wants FILE and ROOT".into());
     }
     work.output = output.and_then(file);
-    if command.sets_locks() {
-        holds_locks(&work)?;
+    match command {
+        Command::Lock | Command::Unlock => holds_locks(&work)?,
+        Command::Find => holds_majorities(&work)?,
+        _ => {}
     }
     Ok(Asked::Work(work))
 }
@@ -361,6 +386,15 @@ mod tests {
         assert_eq!(of(&["show", "--", "-o"]), work(Command::Show, Some("-o"), None, None));
         let settled = work(Command::Settle, Some("a"), None, Some(Format::Aiger));
         assert_eq!(of(&["settle", "--to", "aiger", "a"]), settled);
+    }
+
+    #[test]
+    fn what_is_found() {
+        assert_eq!(of(&["find", "a", "-o", "b"]), work(Command::Find, Some("a"), Some("b"), None));
+        let text = work(Command::Find, Some("a"), Some("b.aag"), Some(Format::Aiger));
+        assert_eq!(of(&["find", "--to", "aiger", "a", "-o", "b.aag"]), text);
+        let settled = Work { input: Some("a".into()), find: true, ..Work::of(Command::Settle) };
+        assert_eq!(of(&["settle", "a", "--find"]), Ok(Asked::Work(settled)));
     }
 
     #[test]
@@ -458,6 +492,11 @@ mod tests {
             &["settle", "--to", "verilog"],
             &["settle", "--to", "aiger", "--to", "aiger"],
             &["import", "--to", "tagged"],
+            &["find", "a", "b"],
+            &["find", "a", "-o", "b.aag"],
+            &["find", "a", "--to", "verilog"],
+            &["find", "a", "--find"],
+            &["show", "a", "--find"],
             &["show", "--verbose"],
             &["show", "-x"],
             &["show", "a", "7"],
