@@ -31,6 +31,7 @@ use Rattle.finder.specs.Trying.{Sought}
 use Rattle.finder.specs.Passing.{Clean, Becomes, Changed, Stepped}
 use Rattle.finder.specs.Living.{NodeNames}
 use Rattle.finder.specs.Signs.{Signed, SignSet}
+use Rattle.finder.specs.Meeting.{Tells}
 use Rattle.finder.specs.Ways.{Open, Lowered}
 use Rattle.finder.proofs.Opens.{lowered-clean}
 use Rattle.finder.proofs.Signatures.{signed-made, signed-framed, signed-kept}
@@ -239,3 +240,8 @@ module _ (i n : ℕ) (ns₀ ls ns : List ℕ) (v : ℕ) (e : nodesOf i n ns ≡ 
 
   pub passed-admitted : Admitted (nodesOf i n ns₀) → v ≤ n → Admitted (nodesOf i n ns)
   passed-admitted adm h = rw e (passed-same (nodesOf i n ns₀) ls adm v h .keeps .admitted)
+
+-- what scratch tells of ways, of every node
+pub clean-tells : (g : Graph) (v : ℕ) (sc : List ℕ) → Clean g v sc → Tells g sc
+clean-tells g v sc c w h k =
+    ⊎-elim (λ (q : w < v). c .names w q k) (λ (q : v ≤ w). absurd (omega (arith, c .high w q h))) (lt-or-le w v)

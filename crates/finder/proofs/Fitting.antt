@@ -23,7 +23,7 @@ use Rattle.hidden.specs.Truth.{Triple, truth}
 use Rattle.hidden.specs.Majority.{isMajority, complements}
 use Rattle.hidden.specs.Inner.{Rising}
 use Rattle.hidden.proofs.Made.{value-majority}
-use Rattle.finder.specs.Signs.{signing, Signed, signOf, TurnedWord, Never₂, Never₃, Votes}
+use Rattle.finder.specs.Signs.{signing, Signed, signOf, TurnedWord, Never₃, Votes}
 use Rattle.finder.proofs.Signatures.{sign-is}
 
 -- a word of 32 bits none of which is set
@@ -43,20 +43,6 @@ zero-word w h f = sym (mod-eq-of-lt h) ∙ none-set w 32 f
 -- words that are never set at once
 pub both-none : (p q : ℕ) → p < 4294967296 → q < 4294967296 → ((j : ℕ) → j < 32 → bit j p + bit j q ≤ 1) → bitAnd p q ≡ 0
 both-none p q hp hq f = zero-word (bitAnd p q) (and-lt 32 p q hp hq) (λ j h. omega (arith, bit-and j p q, f j h))
-
-pub part-all : (p q x y : ℕ) → p < 4294967296 → q < 4294967296 → x < 4294967296 → y < 4294967296 → TurnedWord p 1 x → TurnedWord q 1 y
-    → bitAnd p q ≢ 0 → bitAnd x q ≢ 0 → bitAnd p y ≢ 0 → (a b : ℕ) → a ≤ 1 → b ≤ 1 → Never₂ a b p q → eqb (bitAnd x y) 0 ≡ true
-part-all p q x y hp hq hx hy tx ty n₁ n₂ n₃ zero zero ha hb f =
-    absurd (n₁ (both-none p q hp hq (λ j h. omega (arith, f j h, bit-le j p, bit-le j q))))
-part-all p q x y hp hq hx hy tx ty n₁ n₂ n₃ (suc zero) zero ha hb f =
-    absurd (n₂ (both-none x q hx hq (λ j h. omega (arith, f j h, tx j h, bit-le j q))))
-part-all p q x y hp hq hx hy tx ty n₁ n₂ n₃ zero (suc zero) ha hb f =
-    absurd (n₃ (both-none p y hp hy (λ j h. omega (arith, f j h, ty j h, bit-le j p))))
-part-all p q x y hp hq hx hy tx ty n₁ n₂ n₃ (suc zero) (suc zero) ha hb f =
-    eq-eqb (bitAnd x y) 0 (both-none x y hx hy (λ j h. omega (arith, f j h, tx j h, ty j h)))
-part-all p q x y hp hq hx hy tx ty n₁ n₂ n₃ (suc (suc a)) b ha hb f = absurd (omega arith)
-part-all p q x y hp hq hx hy tx ty n₁ n₂ n₃ zero (suc (suc b)) ha hb f = absurd (omega arith)
-part-all p q x y hp hq hx hy tx ty n₁ n₂ n₃ (suc zero) (suc (suc b)) ha hb f = absurd (omega arith)
 
 -- two of three, the third or its complement
 module _ (p q r : ℕ) (hp : p < 4294967296) (hq : q < 4294967296) (hr : r < 4294967296) where
@@ -94,10 +80,6 @@ votes-never c w x y z f j h =
     )
     (lone ((bit j x + bit 0 c) % 2) ((bit j y + bit 1 c) % 2) ((bit j z + bit 2 c) % 2) (bit j w) (omega arith) (omega arith) (omega arith) (f j h))
 
-pub votes-two : (c w x y z : ℕ) → Votes c w x y z → Never₂ (bit 0 c) (bit 1 c) (bitXor x w) (bitXor y w)
-votes-two c w x y z f j h = omega (arith, votes-never c w x y z f j h)
-
--- four tests, with each of the first two or its complement
 pub could-all : (p q r x y : ℕ) → TurnedWord p 1 x → TurnedWord q 1 y → (a b c : ℕ) → a ≤ 1 → b ≤ 1 → Never₃ a b c p q r → (t₁ t₂ t₃ t₄ : Bool)
     → (Never₃ 0 0 c p q r → t₁ ≡ true) → (Never₃ 0 0 c x q r → t₂ ≡ true) → (Never₃ 0 0 c p y r → t₃ ≡ true) → (Never₃ 0 0 c x y r → t₄ ≡ true)
     → t₁ ≡ false → t₂ ≡ false → t₃ ≡ false → t₄ ≡ true

@@ -14,6 +14,7 @@ pub mod Unfit
 pub mod Barring
 pub mod Plain
 pub mod Opens
+pub mod Meets
 pub mod Below
 pub mod Beside
 pub mod Whole

@@ -23,7 +23,7 @@ use Rattle.finder.proofs.Near.{near-is, between-at, between-rise}
 use Rattle.finder.proofs.Signatures.{sign-framed, sign-room, signed-framed}
 
 -- one triple
-no-leak : isMajority leak ≡ false
+pub no-leak : isMajority leak ≡ false
 unfolding isMajority classes
 no-leak = refl
 

@@ -1,5 +1,5 @@
--- A triple whose signatures do not fit is passed over as one that was tried and gives no majority, and so are all with two indices that do not fit. From the
--- laws on votes and on trials.
+-- A triple whose signatures do not fit, or that leaks, is passed over as one that was tried and gives no majority, and so are all with two indices of which each
+-- does. From the laws on votes and on trials.
 use mathlib.Core.Path.{_≡_, refl, sym, ap, _∙_}
 use mathlib.Core.Bool.{Bool, true, false}
 use mathlib.Core.List.{List}
@@ -8,7 +8,7 @@ use native.Mathlib.Omega.{arith}
 use lib.ListN.{getD, take}
 use Rattle.graph.specs.Admission.{Admitted}
 use Rattle.graph.specs.Graph.{Graph, node}
-use Rattle.hidden.specs.Truth.{Triple, triple, truth}
+use Rattle.hidden.specs.Truth.{Triple, triple, leak, truth}
 use Rattle.hidden.specs.Majority.{isMajority}
 use Rattle.hidden.specs.Find.{firstMade}
 use Rattle.hidden.specs.Inner.{Rising, left₂, left₃}
@@ -17,7 +17,7 @@ use Rattle.majority_call.specs.Valuing.{Facts, Framed}
 use Rattle.finder.specs.Signs.{Signed, signOf, Votes}
 use Rattle.finder.specs.Trying.{Ready, SignsRead, Tried, Sought}
 use Rattle.finder.proofs.Fitting.{could-passed}
-use Rattle.finder.proofs.Trials.{third-step, thirds-end, triple-rising}
+use Rattle.finder.proofs.Trials.{third-step, thirds-end, tried-leak, no-leak}
 
 untouched : (v : ℕ) (sc : List ℕ) → Framed v sc sc
 untouched v sc = record { same = refl; above = λ j h. refl; first = λ w. refl; last = λ w f h k. refl }
@@ -42,12 +42,8 @@ unfit-read g adm v within sc facts t r w x y z k e b f n =
     unfit-tried g adm v within sc facts (k .signed) t r b (rw (← k .here, ← k .first, ← k .second, ← e) f) n
 
 -- all with the indices at places a and b of a list
-module _ (g : Graph) (v m : ℕ) (list sc : List ℕ) (ready : Ready g v m list sc) (s : Signed g (v + 1) sc) (a b : ℕ) (h : a < b) (k : b < m) (x : Bool)
-    (f : (c z : ℕ) → Votes c (signOf (g .I) sc (node g v)) (signOf (g .I) sc (getD list a 0)) (signOf (g .I) sc (getD list b 0)) z → x ≡ true) (e : x ≡ false) where
-  none-here : (c : ℕ) → b < c → c < m → isMajority (truth g (triple (getD list a 0) (getD list b 0) (getD list c 0)) (node g v)) ≡ false
-  none-here c l q =
-      could-passed g (ready .admitted) (triple (getD list a 0) (getD list b 0) (getD list c 0)) v (ready .within) (triple-rising g v m list sc ready a b c h l q) sc s x (λ d. f d _) e
-
+module _ (g : Graph) (v m : ℕ) (list sc : List ℕ) (ready : Ready g v m list sc) (a b : ℕ) (h : a < b) (k : b < m)
+    (none-here : (c : ℕ) → b < c → c < m → isMajority (truth g (triple (getD list a 0) (getD list b 0) (getD list c 0)) (node g v)) ≡ false) where
   none-left : (n c : ℕ) → c + n ≡ m → b < c → firstMade g (node g v) (left₃ (take m list) a b c) ≡ firstMade g (node g v) (left₂ (take m list) a (suc b))
   none-left zero c q l = ap (firstMade g (node g v)) (thirds-end m list (ready .listed) a b c (omega arith))
   none-left (suc n) c q l =
@@ -55,8 +51,8 @@ module _ (g : Graph) (v m : ℕ) (list sc : List ℕ) (ready : Ready g v m list 
       ∙ passed-over g (node g v) (triple (getD list a 0) (getD list b 0) (getD list c 0)) (left₃ (take m list) a b (c + 1)) (none-here c l (omega arith))
       ∙ none-left n (c + 1) (omega arith) (omega arith)
 
-  pub unfit-sought : (t : Triple) → Sought g v (left₃ (take m list) a b (suc b)) (left₂ (take m list) a (suc b)) 256 t sc sc
-  unfit-sought t =
+  pub unmet-sought : (t : Triple) → Sought g v (left₃ (take m list) a b (suc b)) (left₂ (take m list) a (suc b)) 256 t sc sc
+  unmet-sought t =
       record {
         gives = λ z. absurd (omega arith);
         found = λ z. absurd (omega arith);
@@ -64,3 +60,10 @@ module _ (g : Graph) (v m : ℕ) (list sc : List ℕ) (ready : Ready g v m list 
         framed = untouched v sc;
         facts = ready .facts;
       }
+
+-- a triple that leaks
+pub leak-tried : (g : Graph) (v : ℕ) (sc : List ℕ) → Facts g sc → (t : Triple) → truth g t (node g v) ≡ leak → Tried g t v 256 sc sc
+leak-tried g v sc facts t e = tried-leak g t v leak sc sc (sym e) (untouched v sc) facts refl
+
+pub leak-passed : (g : Graph) (t : Triple) (u : ℕ) → truth g t u ≡ leak → isMajority (truth g t u) ≡ false
+leak-passed g t u e = ap isMajority e ∙ no-leak

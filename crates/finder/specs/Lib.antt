@@ -6,4 +6,5 @@ pub mod Signs
 pub mod Barred
 pub mod Trying
 pub mod Ways
+pub mod Meeting
 pub mod Passing

@@ -42,11 +42,7 @@ pub record SignSet (g : Graph) (v : ℕ) (sc sc′ : List ℕ) : Type 0 where
   pub kept : (j : ℕ) → j ≢ 8 * v + 7 → getD sc′ j 0 ≡ getD sc j 0
   pub same : length sc′ ≡ length sc
 
--- at none of 32 places are both words set, the one turned a times and the other b times
-abbrev pub Never₂ : (a b p q : ℕ) → Type 0
-Never₂ a b p q = (j : ℕ) → j < 32 → (bit j p + a) % 2 + (bit j q + b) % 2 ≤ 1
-
--- nor two of three
+-- at none of 32 places are two of three words set, each turned as often as a number says
 abbrev pub Never₃ : (a b c p q r : ℕ) → Type 0
 Never₃ a b c p q r = (j : ℕ) → j < 32 → (bit j p + a) % 2 + (bit j q + b) % 2 + (bit j r + c) % 2 ≤ 1
 

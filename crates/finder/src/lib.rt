@@ -14,6 +14,7 @@ mod down;
 mod dropping;
 mod faults;
 mod living;
+mod masks;
 mod nearness;
 mod numbering;
 mod passing;

@@ -8,7 +8,7 @@ ghost use Rattle.graph.specs.Admission.{Admitted};
 ghost use Rattle.graph.specs.Literals.{bit, literals};
 ghost use Rattle.graph.specs.Value.{majority};
 ghost use Rattle.evaluation.specs.Inner.{nodesOf};
-ghost use Rattle.finder.specs.Signs.{inputSign, signOf, TurnedWord, NodeSign, SignSet, Never₂, Never₃, Votes};
+ghost use Rattle.finder.specs.Signs.{inputSign, signOf, TurnedWord, NodeSign, SignSet, Never₃, Votes};
 use graph::literal::MARK;
 use graph::literal::index_of;
 use graph::table::edge_at;
@@ -110,25 +110,7 @@ pub fn set_sign(
     store(scratch, v, 7, w);
 }
 
-// Whether two words, each or its complement, are never set at once.
-fn part(p: u32, q: u32) -> bool
-    ensures { λ r. ⌜ ((a b : ℕ) → a ≤ 1 → b ≤ 1 → Never₂ a b p q → r ≡ true) ⌝ }
-{
-    let x = turned(p, 1);
-    let y = turned(q, 1);
-    if p & q == 0 {
-        return true;
-    }
-    if x & q == 0 {
-        return true;
-    }
-    if p & y == 0 {
-        return true;
-    }
-    x & y == 0
-}
-
-// Whether no two of three words are, the third or its complement.
+// Whether no two of three words are set at once, the third or its complement.
 fn fits(p: u32, q: u32, r: u32) -> bool
     ensures { λ b. ⌜ ((c : ℕ) → c ≤ 1 → Never₃ 0 0 c p q r → b ≡ true) ⌝ }
 {
@@ -141,14 +123,7 @@ fn fits(p: u32, q: u32, r: u32) -> bool
     (p | q) & turned(r, 1) == 0
 }
 
-// Whether the signature w may be that of a majority of indices with the signatures x and y and some third.
-pub fn could_be_two(w: u32, x: u32, y: u32) -> bool
-    ensures { λ b. ⌜ ((c z : ℕ) → Votes c w x y z → b ≡ true) ⌝ }
-{
-    part(x ^ w, y ^ w)
-}
-
-// Whether it may be with the third signature z.
+// Whether the signature w may be that of a majority of indices with the signatures x, y and z.
 pub fn could_be(w: u32, x: u32, y: u32, z: u32) -> bool
     ensures { λ b. ⌜ ((c : ℕ) → Votes c w x y z → b ≡ true) ⌝ }
 {

@@ -4,15 +4,18 @@ ghost use mathlib.Core.List.{[]};
 ghost use Prim.Native.Nat.{ℕ, suc, _+_, _*_, _≤_, _<_};
 ghost use lib.ListN.{length, take};
 ghost use Rattle.graph.specs.Admission.{Admitted};
-ghost use Rattle.graph.specs.Literals.{literals};
+ghost use Rattle.graph.specs.Literals.{bit, literals};
 ghost use Rattle.evaluation.specs.Inner.{nodesOf};
-ghost use Rattle.hidden.specs.Truth.{triple};
+ghost use Rattle.hidden.specs.Truth.{triple, leak, truth};
 ghost use Rattle.hidden.specs.Find.{near, triples};
 ghost use Rattle.hidden.specs.Inner.{Rising, left₁, left₂, left₃};
 ghost use Rattle.majority_call.specs.Valuing.{Facts};
 ghost use Rattle.finder.specs.Signs.{Signed};
+ghost use Rattle.finder.specs.Meeting.{Tells, ThirdsMet, WaysKnown};
 ghost use Rattle.finder.specs.Trying.{Ready, SignsRead, Tried, Sought};
 use crate::barred::nothing_to_find;
+use crate::masks::gather_ways;
+use crate::masks::thirds;
 use crate::nearness::reach_three;
 use crate::signs::could_be;
 use crate::signs::sign_of;
@@ -108,6 +111,49 @@ fn tried_if_fit(
     NONE
 }
 
+// The same, where the places of thirds that meet every way have that of the third.
+fn tried_if_met(
+    inputs: u32,
+    nodes: u32,
+    node_table: &[u32],
+    node_bits: &[u64],
+    scratch: &mut [u32],
+    one: u32,
+    two: u32,
+    three: u32,
+    v: usize,
+    w: u32,
+    x: u32,
+    y: u32,
+    met: u64,
+    c: usize,
+) -> u32
+    requires { let g = nodesOf inputs nodes (literals (now «node_table») (now «node_bits»)) in
+        let t = triple one two three in
+        ⌜ Admitted g × (8 * nodes ≤ length (now scratch)) × (v < nodes) × Facts g (now scratch) × Rising t (inputs + 1 + v) × SignsRead g v one two w x y (now scratch) × (c < 64) × (bit c met ≡ 0 → truth g t (inputs + 1 + v) ≡ leak) ⌝ }
+    ensures { λ r.
+        let g = nodesOf inputs nodes (literals (now («node_table» .entry)) (now («node_bits» .entry))) in
+        ⌜ Tried g (triple one two three) v r (now (scratch .entry)) (now (scratch .exit)) ⌝ }
+{
+    if (met >> c) % 2 == 0 {
+        return NONE;
+    }
+    tried_if_fit(
+        inputs,
+        nodes,
+        node_table,
+        node_bits,
+        scratch,
+        one,
+        two,
+        three,
+        v,
+        w,
+        x,
+        y,
+    )
+}
+
 // Those with the indices at places a and b.
 fn try_thirds(
     inputs: u32,
@@ -120,9 +166,10 @@ fn try_thirds(
     a: usize,
     b: usize,
     v: usize,
+    met: u64,
 ) -> Trial
     requires { let g = nodesOf inputs nodes (literals (now «node_table») (now «node_bits»)) in
-        ⌜ Ready g v m (now list) (now scratch) × (a < b) × (b < m) ⌝ }
+        ⌜ Ready g v m (now list) (now scratch) × (a < b) × (b < m) × (m ≤ 39) × ThirdsMet g v m (now list) a b met ⌝ }
     ensures { λ r.
         let g = nodesOf inputs nodes (literals (now («node_table» .entry)) (now («node_bits» .entry))) in
         let l = take m (now (list .entry)) in
@@ -137,7 +184,7 @@ fn try_thirds(
     let mut c = b + 1;
     while c < m {
         let three = list[c];
-        let byte = tried_if_fit(
+        let byte = tried_if_met(
             inputs,
             nodes,
             node_table,
@@ -150,6 +197,8 @@ fn try_thirds(
             w,
             x,
             y,
+            met,
+            c,
         );
         if byte < NONE {
             return Trial {
@@ -169,6 +218,53 @@ fn try_thirds(
     }
 }
 
+// Those with the indices at places a and b, if some third may meet every way with them.
+fn try_pair(
+    inputs: u32,
+    nodes: u32,
+    node_table: &[u32],
+    node_bits: &[u64],
+    scratch: &mut [u32],
+    list: &[u32],
+    m: usize,
+    ways: &[u64],
+    n: usize,
+    a: usize,
+    b: usize,
+    v: usize,
+) -> Trial
+    requires { let g = nodesOf inputs nodes (literals (now «node_table») (now «node_bits»)) in
+        ⌜ Ready g v m (now list) (now scratch) × (a < b) × (b < m) × WaysKnown g v m (now list) n (now ways) ⌝ }
+    ensures { λ r.
+        let g = nodesOf inputs nodes (literals (now («node_table» .entry)) (now («node_bits» .entry))) in
+        let l = take m (now (list .entry)) in
+        let t = triple (r .one) (r .two) (r .three) in
+        ⌜ Sought g v (left₃ l a b (suc b)) (left₂ l a (suc b)) (r .byte) t (now (scratch .entry)) (now (scratch .exit)) ⌝ }
+{
+    let met = thirds(ways, n, a, b);
+    if (met >> b) < 2 {
+        return Trial {
+            byte: NONE,
+            one: 0,
+            two: 0,
+            three: 0,
+        };
+    }
+    try_thirds(
+        inputs,
+        nodes,
+        node_table,
+        node_bits,
+        scratch,
+        list,
+        m,
+        a,
+        b,
+        v,
+        met,
+    )
+}
+
 // Those with the index at place a.
 fn try_seconds(
     inputs: u32,
@@ -178,11 +274,13 @@ fn try_seconds(
     scratch: &mut [u32],
     list: &[u32],
     m: usize,
+    ways: &[u64],
+    n: usize,
     a: usize,
     v: usize,
 ) -> Trial
     requires { let g = nodesOf inputs nodes (literals (now «node_table») (now «node_bits»)) in
-        ⌜ Ready g v m (now list) (now scratch) × (a < m) ⌝ }
+        ⌜ Ready g v m (now list) (now scratch) × (a < m) × WaysKnown g v m (now list) n (now ways) ⌝ }
     ensures { λ r.
         let g = nodesOf inputs nodes (literals (now («node_table» .entry)) (now («node_bits» .entry))) in
         let l = take m (now (list .entry)) in
@@ -191,7 +289,7 @@ fn try_seconds(
 {
     let mut b = a + 1;
     while b < m {
-        let found = try_thirds(
+        let found = try_pair(
             inputs,
             nodes,
             node_table,
@@ -199,6 +297,8 @@ fn try_seconds(
             scratch,
             list,
             m,
+            ways,
+            n,
             a,
             b,
             v,
@@ -225,10 +325,12 @@ fn try_triples(
     scratch: &mut [u32],
     list: &[u32],
     m: usize,
+    ways: &[u64],
+    n: usize,
     v: usize,
 ) -> Trial
     requires { let g = nodesOf inputs nodes (literals (now «node_table») (now «node_bits»)) in
-        ⌜ Ready g v m (now list) (now scratch) ⌝ }
+        ⌜ Ready g v m (now list) (now scratch) × WaysKnown g v m (now list) n (now ways) ⌝ }
     ensures { λ r.
         let g = nodesOf inputs nodes (literals (now («node_table» .entry)) (now («node_bits» .entry))) in
         let t = triple (r .one) (r .two) (r .three) in
@@ -236,7 +338,19 @@ fn try_triples(
 {
     let mut a: usize = 0;
     while a < m {
-        let found = try_seconds(inputs, nodes, node_table, node_bits, scratch, list, m, a, v);
+        let found = try_seconds(
+            inputs,
+            nodes,
+            node_table,
+            node_bits,
+            scratch,
+            list,
+            m,
+            ways,
+            n,
+            a,
+            v,
+        );
         if found.byte < NONE {
             return found;
         }
@@ -260,7 +374,7 @@ pub fn try_near(
     v: u32,
 ) -> Trial
     requires { let g = nodesOf inputs nodes (literals (now «node_table») (now «node_bits»)) in
-        ⌜ Admitted g × (8 * nodes ≤ length (now scratch)) × (v < nodes) × Facts g (now scratch) × Signed g (v + 1) (now scratch) ⌝ }
+        ⌜ Admitted g × (8 * nodes ≤ length (now scratch)) × (v < nodes) × Facts g (now scratch) × Signed g (v + 1) (now scratch) × Tells g (now scratch) ⌝ }
     ensures { λ r.
         let g = nodesOf inputs nodes (literals (now («node_table» .entry)) (now («node_bits» .entry))) in
         let t = triple (r .one) (r .two) (r .three) in
@@ -278,5 +392,28 @@ pub fn try_near(
     let mut list = [0u32; 39];
     let u = inputs + 1 + v;
     let m = reach_three(inputs, nodes, node_table, node_bits, &mut list, 0, u);
-    try_triples(inputs, nodes, node_table, node_bits, scratch, &list, m, w)
+    let mut ways = [0u64; 27];
+    let n = gather_ways(
+        inputs,
+        nodes,
+        node_table,
+        node_bits,
+        scratch,
+        &list,
+        m,
+        w,
+        &mut ways,
+    );
+    try_triples(
+        inputs,
+        nodes,
+        node_table,
+        node_bits,
+        scratch,
+        &list,
+        m,
+        &ways,
+        n,
+        w,
+    )
 }

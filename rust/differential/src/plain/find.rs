@@ -41,32 +41,28 @@ impl Finder<'_> {
     }
 
     /// The triples with these two lowest, up to one that is made.
-    fn try_thirds(&mut self, v: usize, two: [u32; 2], list: &[u32], thirds: u32) -> bool {
-        let mut left = thirds;
-        while left != 0 {
-            let t = [two[0], two[1], list[left.trailing_zeros() as usize]];
-            if self.could_be(v, t) && self.try_triple(v, t) {
+    fn try_thirds(&mut self, v: usize, two: [u32; 2], list: &[u32], thirds: u64) -> bool {
+        for (c, &three) in list.iter().enumerate() {
+            let t = [two[0], two[1], three];
+            if thirds >> c & 1 == 1 && self.could_be(v, t) && self.try_triple(v, t) {
                 return true;
             }
-            left &= left - 1;
         }
         false
     }
 
     /// The triples near a node in rising order, up to one that is made.
     fn try_node(&mut self, v: usize) {
-        let near = self.near(v);
-        let (list, open) = (near.list(), !self.barred(&near, v));
-        let mut ways = self.ways(&near, v);
-        if !ways.narrow(open) {
+        if self.nothing_to_find(v) {
             return;
         }
-        let is_open = |at: &usize| open >> at & 1 == 1;
-        for a in (0..list.len()).filter(is_open) {
-            for b in (a + 1..list.len()).filter(is_open) {
-                let above = (1 << list.len()) - (2 << b);
-                let thirds = ways.thirds(open & above, 1 << a | 1 << b);
-                if self.try_thirds(v, [list[a], list[b]], list, thirds) {
+        let near = self.near(v);
+        let list = near.list();
+        let ways = self.ways(&near, v);
+        for a in 0..list.len() {
+            for b in a + 1..list.len() {
+                let thirds = ways.thirds(a, b) >> b >> 1;
+                if thirds != 0 && self.try_thirds(v, [list[a], list[b]], &list[b + 1..], thirds) {
                     return;
                 }
             }

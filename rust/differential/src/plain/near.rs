@@ -1,17 +1,16 @@
-//! What lies near a node, and which triples of it need not be tried: those that a way down to an input misses, and those that have an index
-//! which no majority over the node can have.
+//! What lies near a node, and which triples of it need not be tried: those that a way down to an input misses.
 
 use super::truth::Finder;
 use reducer::MARK;
 
-/// The most indices that are near a node with two at most that it names: two, three for each, three for each of those.
-const MOST: usize = 26;
-/// The most ways of three words.
-const MOST_WAYS: usize = 27;
+/// The most indices that are near a node: three, three for each, three for each of those.
+const MOST: usize = 39;
+/// The ways of three words, the digits of a number to the base 3.
+const WAYS: usize = 27;
 /// How far a way is followed to see where it ends.
 const FAR: u32 = 40;
-/// A way that ends at the constant, or is given up: every triple meets it, for all that is known.
-const NO_WAY: u32 = u32::MAX;
+/// A way that ends at the constant, is given up or has been told already: every triple meets it, for all that is known.
+const NO_WAY: u64 = u64::MAX;
 
 /// The indices other than 0 within three words of a node, by rising index.
 pub(super) struct Near {
@@ -38,37 +37,30 @@ impl Near {
     }
 
     /// The bit of an index in masks of the list.
-    fn bit(&self, index: u32) -> u32 {
-        self.list().binary_search(&index).map_or(0, |at| 1 << at)
+    fn bit(&self, index: u32) -> u64 {
+        self.list().iter().enumerate().fold(0, |mask, (at, &near)| mask | u64::from(near == index) << at)
     }
 }
 
 /// The near indices on each of some ways down to an input, as masks.
 pub(super) struct Ways {
-    masks: [u32; MOST_WAYS],
+    masks: [u64; WAYS],
     many: usize,
 }
 
 impl Ways {
-    fn add(&mut self, mask: u32) {
+    fn add(&mut self, mask: u64) {
         if mask != NO_WAY {
             self.masks[self.many] = mask;
             self.many += 1;
         }
     }
 
-    /// Only open indices are left in each. Whether each then has one.
-    pub fn narrow(&mut self, open: u32) -> bool {
-        self.masks[..self.many].iter_mut().all(|mask| {
-            *mask &= open;
-            *mask != 0
-        })
-    }
-
-    /// Of the open indices, those that meet every way which these two miss.
-    pub fn thirds(&self, open: u32, two: u32) -> u32 {
-        let missed = self.masks[..self.many].iter().filter(|&&mask| mask & two == 0);
-        missed.fold(open, |thirds, &mask| thirds & mask)
+    /// Those that meet every way which the indices at these two places miss.
+    pub fn thirds(&self, a: usize, b: usize) -> u64 {
+        let narrowed =
+            |thirds, &mask: &u64| if mask >> a & 1 == 1 || mask >> b & 1 == 1 { thirds } else { thirds & mask };
+        self.masks[..self.many].iter().fold(u64::MAX, narrowed)
     }
 }
 
@@ -101,65 +93,48 @@ impl Finder<'_> {
         near
     }
 
-    /// The near indices on one way down from an index, as far as any are met: none is below the lowest.
-    fn way(&self, near: &Near, mut index: u32) -> u32 {
+    /// One index further down from a node: by one of its words, and past three words by the way that is kept of it. 0 where there is none.
+    fn further(&self, v: usize, word: usize, far: u32) -> u32 {
+        match self.words(v)[word] {
+            MARK if far < 3 => 0,
+            index if far < 3 => index,
+            _ => self.kept[v].down / 2,
+        }
+    }
+
+    /// Whether a way may end at an index: at an input, or below all that is near, where a way leads on.
+    fn ends(&self, near: &Near, index: u32) -> bool {
+        index <= self.inputs || index < near.list[0] && self.kept[self.place(index)].down > 1
+    }
+
+    /// The near indices on the way by these three words, and on from there.
+    fn way(&self, near: &Near, mut v: usize, mut code: usize) -> u64 {
         let mut mask = 0;
-        for _ in 0..FAR {
+        for far in 0..FAR {
+            let index = self.further(v, code / 9, far);
             if index == 0 {
                 return NO_WAY;
             }
             mask |= near.bit(index);
-            if index <= self.inputs {
-                return mask;
+            if self.ends(near, index) {
+                return if code % 9 == 0 { mask } else { NO_WAY };
             }
-            let down = self.kept[self.place(index)].down;
-            if down < 2 {
-                return NO_WAY;
-            }
-            if index < near.list[0] {
-                return mask;
-            }
-            index = down / 2;
+            v = self.place(index);
+            code = code % 9 * 3;
         }
         NO_WAY
     }
 
-    /// One way by each three words, and those that end before.
     pub fn ways(&self, near: &Near, v: usize) -> Ways {
-        let mut ways = Ways { masks: [0; MOST_WAYS], many: 0 };
-        for first in self.named(v).filter(|&first| first != 0) {
-            let mask = near.bit(first);
-            if first <= self.inputs {
-                ways.add(mask);
-            } else {
-                self.ways_by(near, &mut ways, first, mask);
-            }
-        }
+        let mut ways = Ways { masks: [0; WAYS], many: 0 };
+        (0..WAYS).for_each(|code| ways.add(self.way(near, v, code)));
         ways
     }
 
-    fn ways_by(&self, near: &Near, ways: &mut Ways, first: u32, mask: u32) {
-        for second in self.named(self.place(first)).filter(|&second| second != 0) {
-            let mask = mask | near.bit(second);
-            if second <= self.inputs {
-                ways.add(mask);
-            } else {
-                self.named(self.place(second)).for_each(|third| ways.add(mask | self.way(near, third)));
-            }
-        }
-    }
-
-    /// The near indices that no triple of a majority has: those that a node with a constant word names, where its value is constant over
-    /// one of their values, and the higher one that an XOR names, which turns it.
-    pub fn barred(&self, near: &Near, v: usize) -> u32 {
+    /// Whether no triple of a majority has what the node names: an AND that names an input is constant over one of its values, or leaks.
+    pub fn nothing_to_find(&self, v: usize) -> bool {
         let words = self.words(v);
-        if words[2] == MARK {
-            return near.bit(words[0].max(words[1]));
-        }
-        if words.contains(&0) {
-            words.iter().fold(0, |mask, &index| mask | near.bit(index))
-        } else {
-            0
-        }
+        let is_input = |index: u32| index != 0 && index <= self.inputs;
+        words[2] != MARK && words[0] == 0 && (is_input(words[1]) || is_input(words[2]))
     }
 }

@@ -53,15 +53,13 @@ const UNKNOWN: u32 = 511;
 /// What is known of a node. It stays true while higher nodes are made, so that nothing is ever undone.
 #[derive(Clone, Copy, Default)]
 pub(super) struct Kept {
-    /// Without an input below it, its constant; else twice the index that it names from which the fewest words lead to an input.
+    /// Twice the lowest index that it names from which a way leads to an input, 0 where there is none.
     pub down: u32,
     /// Which node waits for its value.
     waiting: u32,
     /// A triple, none where its first is 0, and the node's value over it.
     triple: Triple,
     value: u32,
-    /// How many words lead to an input.
-    pub words: u32,
     /// Its values under 32 assignments.
     pub sign: u32,
 }
@@ -167,34 +165,14 @@ impl Finder<'_> {
         true
     }
 
-    /// A word's constant, or how many words lead from it to an input.
-    fn down_of(&self, index: u32, bit: u32) -> Result<u32, u32> {
-        if index == 0 {
-            return Ok(bit);
-        }
-        if index <= self.inputs {
-            return Err(1);
-        }
-        match self.kept[self.place(index)] {
-            Kept { down, .. } if down < 2 => Ok(down ^ bit),
-            Kept { words, .. } => Err(words + 1),
-        }
+    fn is_open(&self, index: u32) -> bool {
+        index != 0 && index != MARK && (index <= self.inputs || self.kept[self.place(index)].down > 1)
     }
 
     /// What lies below a node, whose words below have been looked at.
     pub fn set_down(&mut self, v: usize) {
-        let (words, bits) = (self.words(v), bits_of(self.bits, v));
-        let xor = words[2] == MARK;
-        let (mut constants, mut least) = ([0; 3], (u32::MAX, 0));
-        for k in 0..if xor { 2 } else { 3 } {
-            match self.down_of(words[k], bits >> k & 1) {
-                Ok(constant) => constants[k] = constant,
-                Err(far) if far < least.0 => least = (far, words[k]),
-                Err(_) => {}
-            }
-        }
-        self.kept[v].words = least.0;
-        self.kept[v].down = if least.0 == u32::MAX { of_words(constants, 0, xor, 1) } else { 2 * least.1 };
+        let lowest = self.words(v).into_iter().filter(|&index| self.is_open(index)).min();
+        self.kept[v].down = 2 * lowest.unwrap_or(0);
     }
 }
 

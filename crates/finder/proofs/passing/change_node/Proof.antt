@@ -9,7 +9,7 @@ use Rattle.graph.specs.Literals.{literals}
 use Rattle.evaluation.specs.Inner.{nodesOf}
 use Rattle.trees.specs.Filling.{Stored}
 use Rattle.finder.specs.Passing.{Becomes}
-use Rattle.finder.proofs.Below.{locked-here, free-here, changed-left, changed-tried}
+use Rattle.finder.proofs.Below.{clean-tells, locked-here, free-here, changed-left, changed-tried}
 use borrow.Author.Needs.{needs}
 use Rattle.finder.proofs.passing.change_node.Statement.{statement}
 use Rattle.finder.proofs.passing.change_node.Tie as tie
@@ -40,7 +40,7 @@ plain-requires : tie.Need-is-plain-requires
 plain-requires c κs = let s = c .before .before .before .before .before .before .before .before .before in (s .pre .0, omega (arith, s .pre .1, c .before .before .before .before .wide .ensures))
 
 near-requires : tie.Need-try-near-requires
-near-requires c κs = let s = c .before .before .before .before .before .before .before .before .before .before .before .before .before .before in (s .pre .0, s .pre .3 .room, s .pre .1, s .pre .3 .facts, s .pre .4)
+near-requires c κs = let s = c .before .before .before .before .before .before .before .before .before .before .before .before .before .before in (s .pre .0, s .pre .3 .room, s .pre .1, s .pre .3 .facts, s .pre .4, clean-tells (graph s) (s .args .v) (s .args .scratch .now) (s .pre .3))
 
 make-requires : tie.Need-make-found-requires
 make-requires c κs =

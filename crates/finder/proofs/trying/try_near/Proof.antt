@@ -2,10 +2,15 @@
 use mathlib.Core.Path.{_≡_, refl}
 use Prim.Native.Nat.{ℕ, _+_, _*_, _≤_, _<_}
 use native.Mathlib.Omega.{arith}
-use Rattle.graph.specs.Graph.{Graph}
+use mathlib.Core.List.{List}
+use lib.ListN.{length}
+use Rattle.graph.specs.Graph.{Graph, node}
 use Rattle.graph.specs.Literals.{literals}
 use Rattle.evaluation.specs.Inner.{nodesOf}
+use Rattle.hidden.specs.Find.{reaches}
 use Rattle.finder.specs.Barred.{NoMajority}
+use Rattle.finder.specs.Meeting.{Followed}
+use Rattle.finder.specs.Nearness.{Grown}
 use Rattle.finder.proofs.Barring.{barred-sought}
 use Rattle.finder.proofs.Trials.{near-ready, sought-near}
 use borrow.Author.Needs.{needs}
@@ -26,20 +31,36 @@ returns c =
     let none : NoMajority (graph s) (a .v) = rw (w .ensures) at (c .before .nothing-to-find .ensures (c .if1 .taken)) in
     barred-sought (graph s) (a .v) none (a .scratch .now) (s .pre .3) _
 
+followed : (s : tie.Start) (w : ℕ) → w ≡ s .args .v → (r : ℕ) (xs xs′ : List ℕ) → Grown 39 (node (graph s) (s .args .v)) (reaches (graph s) 3 (node (graph s) (s .args .v))) 0 r xs xs′ → length xs ≡ 39
+    → Followed (graph s) w r xs′ (s .args .scratch .now)
+followed s w e r xs xs′ a n =
+    let k = near-ready (graph s) (s .args .v) w r xs xs′ e a (s .args .scratch .now) (s .pre .0) (s .pre .1) (s .pre .2) (s .pre .3) (s .pre .4) n in
+    record { admitted = k .admitted; room = k .room; within = k .within; facts = k .facts; tells = s .pre .5; some = omega (arith, n, a .same); few = omega (arith, a .few); listed = k .listed; rising = k .rising }
+
+gather-ways-requires : tie.Need-gather-ways-requires
+gather-ways-requires c κs =
+    let o = c .before .before .before .before .reach-three in
+    let w = c .before .before .before .before .before .before .before .before .wide in
+    let s = c .before .before .before .before .before .before .before .before .before .before .before .before in
+    (followed s (w .result) (w .ensures) (o .result) _ _ (o .ensures) refl, omega arith)
+
 try-triples-requires : tie.Need-try-triples-requires
 try-triples-requires c κs =
-    let o = c .before .before .before .reach-three in
-    let w = c .before .before .before .before .before .before .before .wide in
-    let s = c .before .before .before .before .before .before .before .before .before .before .before in
-    let a = s .args in
-    near-ready (graph s) (a .v) (w .result) (o .result) _ (o .last .1 .1 .1 .1 .0) (w .ensures) (o .ensures) (a .scratch .now) (s .pre .0) (s .pre .1) (s .pre .2) (s .pre .3) (s .pre .4) refl
+    let y = c .before .before .before .before .gather-ways in
+    let o = c .before .before .before .before .before .before .before .before .before .reach-three in
+    let w = c .before .before .before .before .before .before .before .before .before .before .before .before .before .wide in
+    let s = c .before .before .before .before .before .before .before .before .before .before .before .before .before .before .before .before .before in
+    let a = s .args in (
+      near-ready (graph s) (a .v) (w .result) (o .result) _ (o .last .1 .1 .1 .1 .0) (w .ensures) (o .ensures) (a .scratch .now) (s .pre .0) (s .pre .1) (s .pre .2) (s .pre .3) (s .pre .4) refl,
+      record { few = omega (arith, o .ensures .few); listed = omega (arith, y .ensures .1, y .ensures .2); bars = y .ensures .0 },
+    )
 
 returns-2 : tie.Need-returns-2
 returns-2 c =
     let t = c .before .before .try-triples in
-    let o = c .before .before .before .before .before .before .reach-three in
-    let w = c .before .before .before .before .before .before .before .before .before .before .wide in
-    let s = c .before .before .before .before .before .before .before .before .before .before .before .before .before .before in
+    let o = c .before .before .before .before .before .before .before .before .before .before .before .before .reach-three in
+    let w = c .before .before .before .before .before .before .before .before .before .before .before .before .before .before .before .before .wide in
+    let s = c .before .before .before .before .before .before .before .before .before .before .before .before .before .before .before .before .before .before .before .before in
     let a = s .args in
     sought-near (graph s) (a .v) (w .result) (o .result) _ (o .last .1 .1 .1 .1 .0) (w .ensures) (o .ensures) (t .result .byte) _ (a .scratch .now) _ (t .ensures)
 
@@ -54,6 +75,10 @@ try-near-spec =
     (λ c. search needs)
     (λ c. search needs)
     (λ c κs. search needs)
+    (λ c. search needs)
+    (λ c. search needs)
+    gather-ways-requires
+    (λ c. search needs)
     (λ c. search needs)
     try-triples-requires
     (λ c. search needs)

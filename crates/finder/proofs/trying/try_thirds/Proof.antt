@@ -16,12 +16,12 @@ use Rattle.finder.proofs.trying.try_thirds.Statement.{statement}
 use Rattle.finder.proofs.trying.try_thirds.Tie as tie
 
 abbrev Inv-loop : tie.InvT-loop
-Inv-loop inputs nodes node-table node-bits scratch₀ list m a b v one two w x y c₀ scratch c =
+Inv-loop inputs nodes node-table node-bits scratch₀ list m a b v met one two w x y c₀ scratch c =
     let l = take m list in
     (b < c) × (c ≤ m) × Going (nodesOf inputs nodes (literals node-table node-bits)) v (left₃ l a b (suc b)) (left₃ l a b c) scratch₀ scratch
 
 abbrev μ-loop : tie.MeasureT-loop
-μ-loop inputs nodes node-table node-bits scratch₀ list m a b v one two w x y c₀ scratch c = m - c
+μ-loop inputs nodes node-table node-bits scratch₀ list m a b v met one two w x y c₀ scratch c = m - c
 
 abbrev graph : tie.Start Inv-loop μ-loop → Graph
 graph s = nodesOf (s .args .inputs) (s .args .nodes) (literals (s .args .node-table .now) (s .args .node-bits .now))
@@ -71,7 +71,7 @@ loop-holds c =
 read-three : tie.Need-shared-slice-read-three Inv-loop μ-loop
 read-three c = low _ _ _ _ (self _) (c .before .loop-test .taken) (c .before .before .before .before .before .before .before .before .before .before .before .before .before .before .before .pre .0 .listed)
 
-tried-requires : tie.Need-tried-if-fit-requires Inv-loop μ-loop
+tried-requires : tie.Need-tried-if-met-requires Inv-loop μ-loop
 tried-requires c κs =
     let w = c .before .before .before .before .before .before .before .before .read in
     let x = c .before .before .before .before .before .before .sign-of in
@@ -87,14 +87,16 @@ tried-requires c κs =
       triple-rising (graph s) (a .v) (a .m) (a .list .now) (l .scratch) r (a .a) (a .b) (l .c) (s .pre .1) (l .inv .0) (c .before .before .loop-test .taken),
       going-read (graph s) (a .v) (left₃ (near s) (a .a) (a .b) (suc (a .b))) (a .scratch .now) (left₃ (near s) (a .a) (a .b) (l .c)) (l .scratch) (l .inv .2) _ _ (w .result) (x .result) (y .result)
           (record { signed = s .pre .0 .signed; here = w .ensures ∙ sign-here (graph s) (a .v) (a .scratch .now); first = x .ensures; second = y .ensures }),
+      omega (arith, s .pre .3, c .before .before .loop-test .taken),
+      s .pre .4 (l .c) (l .inv .0) (c .before .before .loop-test .taken),
     )
 
 same-length : tie.Need-same-length Inv-loop μ-loop
-same-length c = c .before .before .before .tried-if-fit .ensures .framed .same ∙ c .before .before .before .before .before .before .before .loop .inv .2 .framed .same
+same-length c = c .before .before .before .tried-if-met .ensures .framed .same ∙ c .before .before .before .before .before .before .before .loop .inv .2 .framed .same
 
 returns : tie.Need-returns Inv-loop μ-loop
 returns c =
-    let o = c .before .before .before .tried-if-fit in
+    let o = c .before .before .before .tried-if-met in
     let t = c .before .before .before .before .before .before .loop-test .taken in
     let l = c .before .before .before .before .before .before .before .loop in
     let s = c .before .before .before .before .before .before .before .before .before .before .before .before .before .before .before .before .before .before .before .before in
@@ -107,7 +109,7 @@ returns c =
 
 loop-again : tie.Need-loop-again Inv-loop μ-loop
 loop-again c =
-    let o = c .before .before .before .tried-if-fit in
+    let o = c .before .before .before .tried-if-met in
     let t = c .before .before .before .before .before .before .loop-test .taken in
     let l = c .before .before .before .before .before .before .before .loop in
     let s = c .before .before .before .before .before .before .before .before .before .before .before .before .before .before .before .before .before .before .before .before in

@@ -1,0 +1,96 @@
+-- Ways down from a node, each as the places of a rising list that it meets, the bits of a word. A triple that some way misses is left out. What the
+-- inner functions ask of each other, and no promise to a caller.
+use mathlib.Core.Path.{_≡_}
+use mathlib.Core.Logic.{_⊎_}
+use mathlib.Core.List.{List}
+use Prim.Native.Nat.{ℕ, _+_, _-_, _*_, _/_, _≤_, _<_}
+use lib.ListN.{length, getD, take}
+use Rattle.graph.specs.Admission.{Admitted}
+use Rattle.graph.specs.Graph.{Graph, node}
+use Rattle.graph.specs.Literals.{bit}
+use Rattle.state.specs.State.{field}
+use Rattle.hidden.specs.Truth.{Triple, triple, leak, truth}
+use Rattle.hidden.specs.Ways.{Misses}
+use Rattle.hidden.specs.Inner.{Between}
+use Rattle.majority_call.specs.Valuing.{Facts}
+use Rattle.finder.specs.Living.{NodeNames}
+use Rattle.finder.specs.Ways.{Open}
+
+-- the three at places a, b and c of a list
+abbrev pub threeOf : List ℕ → ℕ → ℕ → ℕ → Triple
+threeOf l a b c = triple (getD l a 0) (getD l b 0) (getD l c 0)
+
+-- three rising places below m, none of which the word has
+pub record Apart (m mask a b c : ℕ) : Type 0 where
+  pub second : a < b
+  pub third : b < c
+  pub within : c < m
+  pub one : bit a mask ≡ 0
+  pub two : bit b mask ≡ 0
+  pub three : bit c mask ≡ 0
+
+-- the word has every place at which the index u stands
+abbrev pub Places : List ℕ → ℕ → ℕ → ℕ → Type 0
+Places l m u mask = (c : ℕ) → c < m → getD l c 0 ≡ u → bit c mask ≡ 1
+
+-- over three at places that the word has not, the index u leaks
+abbrev pub Bars : Graph → List ℕ → ℕ → ℕ → ℕ → Type 0
+Bars g l m mask u = (a b c : ℕ) → Apart m mask a b c → truth g (threeOf l a b c) u ≡ leak
+
+-- over these, u leaks where the index i does, which is none of the three
+pub record Leads (g : Graph) (l : List ℕ) (m mask u i : ℕ) : Type 0 where
+  pub misses : (a b c : ℕ) → Apart m mask a b c → Misses (threeOf l a b c) i
+  pub leaks : (a b c : ℕ) → Apart m mask a b c → truth g (threeOf l a b c) i ≡ leak → truth g (threeOf l a b c) u ≡ leak
+
+-- each of the first n words bars u
+abbrev pub AllBar : Graph → List ℕ → ℕ → ℕ → List ℕ → ℕ → Type 0
+AllBar g l m n ws u = (k : ℕ) → k < n → Bars g l m (getD ws k 0) u
+
+-- one of the first n words has none of the places a, b and c
+pub record Missed (n : ℕ) (ws : List ℕ) (a b c : ℕ) : Type 0 where
+  pub k : ℕ
+  pub within : k < n
+  pub one : bit a (getD ws k 0) ≡ 0
+  pub two : bit b (getD ws k 0) ≡ 0
+  pub three : bit c (getD ws k 0) ≡ 0
+
+-- index r is named by node w, or is 0
+abbrev pub NamesOr : Graph → ℕ → ℕ → Type 0
+NamesOr g w r = (r ≡ 0) ⊎ NodeNames g w r
+
+-- a way may end at index u: at an input, or below the list where scratch tells a way on
+abbrev pub Ends : ℕ → List ℕ → List ℕ → ℕ → Type 0
+Ends i l sc u = ((0 < u) × (u ≤ i)) ⊎ ((u < getD l 0 0) × Open i sc u)
+
+-- field 0 of a node is below 2, or twice an index that the node names
+abbrev pub Tells : Graph → List ℕ → Type 0
+Tells g sc = (w : ℕ) → w < g .N → 1 < field sc w 0 → NodeNames g w (field sc w 0 / 2)
+
+-- what following ways needs: m indices that rise to below node v, and true facts in scratch
+pub record Followed (g : Graph) (v m : ℕ) (list sc : List ℕ) : Type 0 where
+  pub admitted : Admitted g
+  pub room : 8 * g .N ≤ length sc
+  pub within : v < g .N
+  pub facts : Facts g sc
+  pub tells : Tells g sc
+  pub some : 0 < length list
+  pub few : m ≤ 39
+  pub listed : m ≤ length list
+  pub rising : Between 0 (node g v) (take m list)
+
+-- the word mask is put behind the first n, or it has every place
+pub record Added (n mask r : ℕ) (ws ws′ : List ℕ) : Type 0 where
+  pub same : length ws′ ≡ length ws
+  pub few : r ≤ n + 1
+  pub kept : (k : ℕ) → k < n → getD ws′ k 0 ≡ getD ws k 0
+  pub new : (k : ℕ) → n ≤ k → k < r → getD ws′ k 0 ≡ mask
+
+-- ways that bar node v, a word a way
+pub record WaysKnown (g : Graph) (v m : ℕ) (list : List ℕ) (n : ℕ) (ws : List ℕ) : Type 0 where
+  pub few : m ≤ 39
+  pub listed : n ≤ length ws
+  pub bars : AllBar g list m n ws (node g v)
+
+-- with the indices at places a and b, a third leaves node v a byte only at places that the word has
+abbrev pub ThirdsMet : Graph → ℕ → ℕ → List ℕ → ℕ → ℕ → ℕ → Type 0
+ThirdsMet g v m list a b met = (c : ℕ) → b < c → c < m → bit c met ≡ 0 → truth g (threeOf list a b c) (node g v) ≡ leak
