@@ -2,7 +2,7 @@
 -- leaks. So no list of triples changes it. From the laws on ways.
 use mathlib.Core.Path.{_≡_, refl, sym, ap, _∙_}
 use mathlib.Core.Bool.{true, false}
-use mathlib.Core.Logic.{⊎-elim, _≢_}
+use mathlib.Core.Logic.{⊎-elim, _≢_, _⊎_}
 use mathlib.Core.List.{List, [], _∷_, _++_, map, append-assoc}
 use Prim.Native.Nat.{ℕ, zero, suc, _+_, _-_, _*_, _/_, _≤_, _<_}
 use native.Mathlib.Omega.{arith}
@@ -12,13 +12,13 @@ use Rattle.graph.specs.Admission.{Admitted}
 use Rattle.graph.specs.Finite.{ifEqual}
 use Rattle.graph.specs.Graph.{Graph, mark, node, word, isEdge, isXor}
 use Rattle.graph.specs.Inner.{Names}
-use Rattle.graph.proofs.Cases.{eq-or-ne}
+use Rattle.graph.proofs.Cases.{eq-or-ne, lt-or-le}
 use Rattle.graph.proofs.Edge.{edge-early, third-majority}
-use Rattle.hidden.specs.Truth.{Triple, triple, leak, free, truth}
+use Rattle.hidden.specs.Truth.{Triple, triple, leak, free, nodeByte, over, truth}
 use Rattle.hidden.specs.Majority.{isMajority}
 use Rattle.hidden.specs.Find.{near, pairs, triples, firstMade}
 use Rattle.hidden.specs.Inner.{Rising, Between}
-use Rattle.hidden.proofs.Over.{truth-input}
+use Rattle.hidden.proofs.Over.{truth-input, truth-node}
 use Rattle.hidden.proofs.Order.{passed-over, none-left}
 use Rattle.hidden.proofs.Pass.{between-down, near-between}
 use Rattle.hidden.proofs.Ways.{variable, way-passed, second-passed, third-passed}
@@ -101,6 +101,62 @@ module _ (g : Graph) (adm : Admitted g) (v : ℕ) (within : v < g .N) (plain : e
   third-input z n h =
       let e = third-named g adm v z within (eqb-false (word g (3 * v + 2)) mark plain) n .0 in
       third-barred g adm v within kind first-zero (omega (arith, e, h .0)) (omega (arith, e, h .1))
+
+-- an index of the triple is one of its variables
+abbrev pub In : Triple → ℕ → Type 0
+In t i = (i ≡ t .one) ⊎ ((i ≡ t .two) ⊎ (i ≡ t .three))
+
+at-index : (g : Graph) (t : Triple) (i : ℕ) → 0 < i → i < node g (g .N) → (x : ℕ) × (truth g t i ≡ free t i x)
+at-index g t i p h =
+    ⊎-elim
+    (λ (q : g .I < i).
+    let w : ℕ = i - (g .I + 1) in
+    let e : node g w ≡ i = omega arith in
+    (nodeByte g (over g t w) w, rw e at (truth-node g t w (omega arith))))
+    (λ (q : i ≤ g .I). (leak, at-input g t i p q))
+    (lt-or-le (g .I) i)
+
+in-passed : (g : Graph) (t : Triple) (i : ℕ) → 0 < i → i < node g (g .N) → {P : Type 0} → ((m : ℕ) → m < 3 → truth g t i ≡ variable m → P) → In t i → P
+in-passed g t i p h f s =
+    let z = at-index g t i p h in
+    ⊎-elim (λ (a : i ≡ t .one). f 0 (omega arith) (z .1 ∙ free-one t i (z .0) a))
+    (λ (n : i ≢ t .one).
+    ⊎-elim (λ (a : i ≡ t .two). f 1 (omega arith) (z .1 ∙ free-two t i (z .0) n a))
+    (λ (k : i ≢ t .two). f 2 (omega arith) (z .1 ∙ free-three t i (z .0) n k (⊎-elim (λ (a : i ≡ t .one). absurd (n a)) (λ (b : (i ≡ t .two) ⊎ (i ≡ t .three)). ⊎-elim (λ (a : i ≡ t .two). absurd (k a)) (λ (a : i ≡ t .three). a) b) s)))
+    (eq-or-ne i (t .two)))
+    (eq-or-ne i (t .one))
+
+-- what an AND names is in no triple that gives a majority
+module _ (g : Graph) (adm : Admitted g) (v : ℕ) (within : v < g .N) (maj : isXor g v ≡ false) (first : word g (3 * v + 0) / 2 ≡ 0) (t : Triple) (r : Rising t (node g v)) where
+  low : (i : ℕ) → In t i → (0 < i) × (i < node g (g .N))
+  low i s =
+      ⊎-elim (λ (a : i ≡ t .one). (omega (arith, a, r .positive), omega (arith, a, r .second, r .third, r .below)))
+      (λ (b : (i ≡ t .two) ⊎ (i ≡ t .three)).
+      ⊎-elim (λ (a : i ≡ t .two). (omega (arith, a, r .positive, r .second), omega (arith, a, r .third, r .below)))
+      (λ (a : i ≡ t .three). (omega (arith, a, r .positive, r .second, r .third), omega (arith, a, r .below)))
+      b)
+      s
+
+  pub second-in : In t (word g (3 * v + 1) / 2) → isMajority (truth g t (node g v)) ≡ false
+  second-in s =
+      let i : ℕ = word g (3 * v + 1) / 2 in
+      in-passed g t i (low i s .0) (low i s .1) (second-passed g adm t v within (misses g adm v within maj first t r) maj first) s
+
+  pub third-in : In t (word g (3 * v + 2) / 2) → isMajority (truth g t (node g v)) ≡ false
+  third-in s =
+      let i : ℕ = word g (3 * v + 2) / 2 in
+      in-passed g t i (low i s .0) (low i s .1) (third-passed g adm t v within (misses g adm v within maj first t r) maj first) s
+
+-- by what is read of its words
+module _ (g : Graph) (adm : Admitted g) (v : ℕ) (within : v < g .N) (plain : eqb (word g (3 * v + 2)) mark ≡ false) (x : ℕ) (nx : Names (word g (3 * v)) x) (zero-first : x ≡ 0) where
+  pub second-named-in : (y : ℕ) → Names (word g (3 * v + 1)) y → (t : Triple) → Rising t (node g v) → In t y → isMajority (truth g t (node g v)) ≡ false
+  second-named-in y n t r s =
+      second-in g adm v within (kind g adm v within plain x nx zero-first) (first-zero g adm v within plain x nx zero-first) t r (rw (← second-named g adm v y within n .0) s)
+
+  pub third-named-in : (z : ℕ) → Names (word g (3 * v + 2)) z → (t : Triple) → Rising t (node g v) → In t z → isMajority (truth g t (node g v)) ≡ false
+  third-named-in z n t r s =
+      third-in g adm v within (kind g adm v within plain x nx zero-first) (first-zero g adm v within plain x nx zero-first) t r
+      (rw (← third-named g adm v z within (eqb-false (word g (3 * v + 2)) mark plain) n .0) s)
 
 -- nothing is made with the triples of a rising list
 module _ (g : Graph) (v : ℕ) (none : NoMajority g v) where

@@ -8,31 +8,33 @@ use native.Mathlib.Nat.{div-eq-of-lt}
 use native.Mathlib.Omega.{arith}
 use borrow.Author.Tests.{eqb-false}
 use mir.Val.{boolByte}
-use lib.Bits.{bitAnd, bitOr}
+use lib.Bits.{bitAnd, bitOr, bitXor}
 use lib.Dec.{eqb}
 use lib.ListN.{length, getD, take}
 use lib.Pow.{pow-lt, shl-exact, shr-shr}
 use lib.Seq.{getD-take, length-take-le}
 use Rattle.graph.specs.Admission.{Admitted}
+use Rattle.graph.specs.Finite.{ifEqual}
 use Rattle.graph.specs.Graph.{Graph, mark, node, word, isEdge}
 use Rattle.graph.specs.Inner.{Names}
 use Rattle.graph.specs.Turned.{only}
 use Rattle.graph.specs.Literals.{bit}
-use Rattle.graph.proofs.Bits.{bit-le, bit-shifted}
+use Rattle.graph.proofs.Bits.{bit-le, bit-shifted, bit-xor}
 use Rattle.graph.proofs.Cases.{eq-or-ne, lt-or-le}
 use Rattle.graph.proofs.Edge.{edge-none}
-use Rattle.graph.proofs.Tests.{equal}
-use Rattle.evaluation.proofs.Bits.{bit-and, bit-or, bit-ones}
+use Rattle.graph.proofs.Tests.{equal, unequal}
+use Rattle.evaluation.proofs.Bits.{bit-and, bit-or, bit-ones, bit-zero}
 use Rattle.state.specs.State.{field}
 use Rattle.hidden.specs.Truth.{Triple, leak, truth}
 use Rattle.hidden.specs.Ways.{Misses}
 use Rattle.hidden.specs.Majority.{isMajority}
-use Rattle.hidden.specs.Inner.{Between}
+use Rattle.hidden.specs.Inner.{Rising, Between}
 use Rattle.hidden.proofs.Ways.{way-leaks, reader-leaks}
 use Rattle.majority_call.specs.Valuing.{Facts}
 use Rattle.finder.specs.Living.{NodeNames}
 use Rattle.finder.specs.Ways.{Open}
-use Rattle.finder.specs.Meeting.{threeOf, Apart, Places, Bars, Leads, AllBar, Missed, NamesOr, Ends, Tells, Followed, Added}
+use Rattle.finder.specs.Meeting.{threeOf, Apart, Places, PlacesOf, Allows, Bars, Leads, AllBar, Missed, NamesOr, Ends, Tells, Followed, Added}
+use Rattle.finder.proofs.Barring.{In}
 use Rattle.finder.proofs.Named.{word-named}
 use Rattle.finder.proofs.Near.{between-at, between-rise}
 use Rattle.finder.proofs.Opens.{open-leaks, names-reads}
@@ -49,11 +51,26 @@ unfolding only
 bit-own c h =
     ap (bit c) (shl-exact {a = 1} 1 c 64 (omega arith) (omega arith)) ∙ bit-shifted c c 1 (omega arith) ∙ sym (equal c c 1 0 refl refl)
 
+only-own : (k c : ℕ) → c < 64 → bit k (1 * 2 ^ c % 18446744073709551616) ≡ 1 → k ≡ c
+unfolding only
+only-own k c h e =
+    let z : _≡_ {A = ℕ} (ifEqual k c 1 0) 1 = sym (ap (bit k) (shl-exact {a = 1} 1 c 64 (omega arith) (omega arith)) ∙ bit-shifted k c 1 (omega arith)) ∙ e in
+    ⊎-elim (λ (q : k ≡ c). q) (λ (n : k ≢ c). absurd (omega (arith, z, unequal {A = ℕ} k c 1 0 n refl))) (eq-or-ne k c)
+
+or-either : (k p q : ℕ) → bit k (bitOr p q) ≡ 1 → (bit k p ≡ 1) ⊎ (bit k q ≡ 1)
+or-either k p q e = ⊎-elim (λ (z : bit k p ≡ 1). inl z) (λ (n : bit k p ≢ 1). inr (omega (arith, bit-or k p q, bit-le k p, bit-le k q))) (eq-or-ne (bit k p) 1)
+
 pub put-place : (w c : ℕ) (here : Bool) → c < 64
     → ((k : ℕ) → bit k w ≡ 1 → bit k (bitOr w (boolByte here * 2 ^ c % 18446744073709551616)) ≡ 1)
     × (here ≡ true → bit c (bitOr w (boolByte here * 2 ^ c % 18446744073709551616)) ≡ 1)
-put-place w c true h = (λ k e. or-first k w _ e, λ z. or-second c w _ (bit-own c h))
-put-place w c false h = (λ k e. or-first k w _ e, λ e. absurd (true≢false (sym e)))
+    × ((k : ℕ) → bit k (bitOr w (boolByte here * 2 ^ c % 18446744073709551616)) ≡ 1 → (bit k w ≡ 1) ⊎ ((k ≡ c) × (here ≡ true)))
+put-place w c true h =
+    (λ k e. or-first k w _ e, λ z. or-second c w _ (bit-own c h), λ k e. ⊎-elim (λ (p : bit k w ≡ 1). inl p) (λ q. inr (only-own k c h q, refl)) (or-either k w _ e))
+put-place w c false h =
+    (λ k e. or-first k w _ e, λ e. absurd (true≢false (sym e)), λ k e. ⊎-elim (λ (p : bit k w ≡ 1). inl p) (λ q. absurd (omega (arith, q, ap (bit k) nothing, bit-zero k))) (or-either k w _ e))
+  where
+    nothing : 0 * 2 ^ c % 18446744073709551616 ≡ 0
+    nothing = omega arith
 
 off : (k p q : ℕ) → (bit k p ≡ 1 → bit k q ≡ 1) → bit k q ≡ 0 → bit k p ≡ 0
 off k p q f e = ⊎-elim (λ (z : bit k p ≡ 1). absurd (omega (arith, f z))) (λ (n : bit k p ≢ 1). omega (arith, bit-le k p)) (eq-or-ne (bit k p) 1)
@@ -150,9 +167,6 @@ bars-added g l m n mask r u ws ws′ b new d k h =
     ⊎-elim (λ (q : k < n). rw (d .kept k q) (b k q)) (λ (q : n ≤ k). rw (d .new k q h) new) (lt-or-le k n)
 
 -- the places that are left for a third
-pub missed-none : (ws : List ℕ) (a b c : ℕ) → c < 64 → bit c 18446744073709551615 ≡ 0 → Missed 0 ws a b c
-missed-none ws a b c h e = absurd (omega (arith, bit-ones c h))
-
 pub missed-more : (n : ℕ) (ws : List ℕ) (a b c : ℕ) → Missed n ws a b c → Missed (n + 1) ws a b c
 missed-more n ws a b c t = record { k = t .k; within = omega (arith, t .within); one = t .one; two = t .two; three = t .three }
 
@@ -174,3 +188,40 @@ none-above w b h c l =
     let e : b + (c - b) ≡ c = omega arith in
     let q : w / 2 ^ b < 2 ^ (c - b) = omega (arith, pow-lt {i = 0} {j = c - b} (omega arith)) in
     rw (← e) (ap (λ (x : ℕ). x % 2) (sym (shr-shr w b (c - b)) ∙ div-eq-of-lt q))
+
+-- the places that are allowed
+pub allows-all : (g : Graph) (v m : ℕ) (l : List ℕ) → m ≤ 39 → Allows g v m l 18446744073709551615
+allows-all g v m l h a b c p q k s =
+    ⊎-elim (λ (e : bit a 18446744073709551615 ≡ 0). absurd (omega (arith, bit-ones a (omega arith))))
+    (λ (r : (bit b 18446744073709551615 ≡ 0) ⊎ (bit c 18446744073709551615 ≡ 0)).
+    ⊎-elim (λ (e : bit b 18446744073709551615 ≡ 0). absurd (omega (arith, bit-ones b (omega arith)))) (λ (e : bit c 18446744073709551615 ≡ 0). absurd (omega (arith, bit-ones c (omega arith)))) r)
+    s
+
+taken-out : (k x y : ℕ) → k < 64 → bit k (bitXor 18446744073709551615 (bitOr x y)) ≡ 0 → (bit k x ≡ 1) ⊎ (bit k y ≡ 1)
+taken-out k x y h e = or-either k x y (omega (arith, bit-xor k 18446744073709551615 (bitOr x y), bit-ones k h, bit-le k (bitOr x y)))
+
+-- but for those of two indices that are in no triple with a majority
+module _ (g : Graph) (v m : ℕ) (l : List ℕ) (few : m ≤ 39) (long : m ≤ length l) (rising : Between 0 (node g v) (take m l)) (i j x y : ℕ) (p : PlacesOf l m i x) (q : PlacesOf l m j y)
+    (none-i : (t : Triple) → Rising t (node g v) → In t i → isMajority (truth g t (node g v)) ≡ false)
+    (none-j : (t : Triple) → Rising t (node g v) → In t j → isMajority (truth g t (node g v)) ≡ false) where
+  size : length (take m l) ≡ m
+  size = length-take-le m l long
+
+  rises : (a b c : ℕ) → a < b → b < c → c < m → Rising (threeOf l a b c) (node g v)
+  rises a b c h k w =
+      rw (← getD-take m l a 0 (omega arith), ← getD-take m l b 0 (omega arith), ← getD-take m l c 0 w) (record {
+        positive = between-at 0 (node g v) (take m l) a rising (omega (arith, size)) .0;
+        second = between-rise 0 (node g v) (take m l) a b rising h (omega (arith, size));
+        third = between-rise 0 (node g v) (take m l) b c rising k (omega (arith, size));
+        below = between-at 0 (node g v) (take m l) c rising (omega (arith, size)) .1;
+      })
+
+  pub allows-but : Allows g v m l (bitXor 18446744073709551615 (bitOr x y))
+  allows-but a b c h k w s =
+      let t = threeOf l a b c in
+      let r = rises a b c h k w in
+      let at : (d : ℕ) → d < m → bit d (bitXor 18446744073709551615 (bitOr x y)) ≡ 0 → ((u : ℕ) → u ≡ getD l d 0 → In t u) → isMajority (truth g t (node g v)) ≡ false =
+      λ d z e f. ⊎-elim (λ (n : bit d x ≡ 1). none-i t r (f i (sym (p .only d z n)))) (λ (n : bit d y ≡ 1). none-j t r (f j (sym (q .only d z n)))) (taken-out d x y (omega (arith, z, few)) e) in
+      ⊎-elim (λ e. at a (omega arith) e (λ u z. inl z))
+      (λ z. ⊎-elim (λ e. at b (omega arith) e (λ u z. inr (inl z))) (λ e. at c w e (λ u z. inr (inr z))) z)
+      s

@@ -17,7 +17,7 @@ use Rattle.majority_call.specs.Valuing.{Facts, Framed}
 use Rattle.finder.specs.Signs.{Signed, signOf, Votes}
 use Rattle.finder.specs.Trying.{Ready, SignsRead, Tried, Sought}
 use Rattle.finder.proofs.Fitting.{could-passed}
-use Rattle.finder.proofs.Trials.{third-step, thirds-end, tried-leak, no-leak}
+use Rattle.finder.proofs.Trials.{third-step, thirds-end, tried-other, no-leak}
 
 untouched : (v : ℕ) (sc : List ℕ) → Framed v sc sc
 untouched v sc = record { same = refl; above = λ j h. refl; first = λ w. refl; last = λ w f h k. refl }
@@ -61,9 +61,9 @@ module _ (g : Graph) (v m : ℕ) (list sc : List ℕ) (ready : Ready g v m list 
         facts = ready .facts;
       }
 
--- a triple that leaks
-pub leak-tried : (g : Graph) (v : ℕ) (sc : List ℕ) → Facts g sc → (t : Triple) → truth g t (node g v) ≡ leak → Tried g t v 256 sc sc
-leak-tried g v sc facts t e = tried-leak g t v leak sc sc (sym e) (untouched v sc) facts refl
+-- a triple that gives none
+pub none-tried : (g : Graph) (v : ℕ) (sc : List ℕ) → Facts g sc → (t : Triple) → isMajority (truth g t (node g v)) ≡ false → Tried g t v 256 sc sc
+none-tried g v sc facts t e = tried-other g t v (truth g t (node g v)) sc sc refl (untouched v sc) facts e
 
 pub leak-passed : (g : Graph) (t : Triple) (u : ℕ) → truth g t u ≡ leak → isMajority (truth g t u) ≡ false
 leak-passed g t u e = ap isMajority e ∙ no-leak

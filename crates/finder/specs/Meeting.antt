@@ -1,6 +1,7 @@
 -- Ways down from a node, each as the places of a rising list that it meets, the bits of a word. A triple that some way misses is left out. What the
 -- inner functions ask of each other, and no promise to a caller.
 use mathlib.Core.Path.{_≡_}
+use mathlib.Core.Bool.{false}
 use mathlib.Core.Logic.{_⊎_}
 use mathlib.Core.List.{List}
 use Prim.Native.Nat.{ℕ, _+_, _-_, _*_, _/_, _≤_, _<_}
@@ -10,6 +11,7 @@ use Rattle.graph.specs.Graph.{Graph, node}
 use Rattle.graph.specs.Literals.{bit}
 use Rattle.state.specs.State.{field}
 use Rattle.hidden.specs.Truth.{Triple, triple, leak, truth}
+use Rattle.hidden.specs.Majority.{isMajority}
 use Rattle.hidden.specs.Ways.{Misses}
 use Rattle.hidden.specs.Inner.{Between}
 use Rattle.majority_call.specs.Valuing.{Facts}
@@ -32,6 +34,11 @@ pub record Apart (m mask a b c : ℕ) : Type 0 where
 -- the word has every place at which the index u stands
 abbrev pub Places : List ℕ → ℕ → ℕ → ℕ → Type 0
 Places l m u mask = (c : ℕ) → c < m → getD l c 0 ≡ u → bit c mask ≡ 1
+
+-- and of those below m no other
+pub record PlacesOf (l : List ℕ) (m u mask : ℕ) : Type 0 where
+  pub all : Places l m u mask
+  pub only : (c : ℕ) → c < m → bit c mask ≡ 1 → getD l c 0 ≡ u
 
 -- over three at places that the word has not, the index u leaks
 abbrev pub Bars : Graph → List ℕ → ℕ → ℕ → ℕ → Type 0
@@ -85,12 +92,25 @@ pub record Added (n mask r : ℕ) (ws ws′ : List ℕ) : Type 0 where
   pub kept : (k : ℕ) → k < n → getD ws′ k 0 ≡ getD ws k 0
   pub new : (k : ℕ) → n ≤ k → k < r → getD ws′ k 0 ≡ mask
 
--- ways that bar node v, a word a way
-pub record WaysKnown (g : Graph) (v m : ℕ) (list : List ℕ) (n : ℕ) (ws : List ℕ) : Type 0 where
+-- the word lacks one of three places
+abbrev pub Lacks : ℕ → ℕ → ℕ → ℕ → Type 0
+Lacks w a b c = (bit a w ≡ 0) ⊎ ((bit b w ≡ 0) ⊎ (bit c w ≡ 0))
+
+-- the three at places a, b and c give no majority at node v
+abbrev pub NoneAt : Graph → ℕ → List ℕ → ℕ → ℕ → ℕ → Type 0
+NoneAt g v list a b c = isMajority (truth g (threeOf list a b c) (node g v)) ≡ false
+
+-- three give none if the word lacks one of their places
+abbrev pub Allows : Graph → ℕ → ℕ → List ℕ → ℕ → Type 0
+Allows g v m list w = (a b c : ℕ) → a < b → b < c → c < m → Lacks w a b c → NoneAt g v list a b c
+
+-- what is known of node v: places that three may have, and ways that bar it, a word a way
+pub record WaysKnown (g : Graph) (v m : ℕ) (list : List ℕ) (allowed n : ℕ) (ws : List ℕ) : Type 0 where
   pub few : m ≤ 39
   pub listed : n ≤ length ws
+  pub allows : Allows g v m list allowed
   pub bars : AllBar g list m n ws (node g v)
 
--- with the indices at places a and b, a third leaves node v a byte only at places that the word has
+-- with the indices at places a and b, a third gives a majority only at places that the word has
 abbrev pub ThirdsMet : Graph → ℕ → ℕ → List ℕ → ℕ → ℕ → ℕ → Type 0
-ThirdsMet g v m list a b met = (c : ℕ) → b < c → c < m → bit c met ≡ 0 → truth g (threeOf list a b c) (node g v) ≡ leak
+ThirdsMet g v m list a b met = (c : ℕ) → b < c → c < m → bit c met ≡ 0 → NoneAt g v list a b c

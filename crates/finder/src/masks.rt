@@ -4,12 +4,13 @@ ghost use mathlib.Core.Path.{_≡_};
 ghost use mathlib.Core.Bool.{true};
 ghost use mathlib.Core.Logic.{_⊎_};
 ghost use Prim.Native.Nat.{ℕ, _+_, _-_, _*_, _≤_, _<_};
-ghost use lib.ListN.{length, getD};
+ghost use lib.ListN.{length, getD, take};
 ghost use Rattle.graph.specs.Admission.{Admitted};
 ghost use Rattle.graph.specs.Graph.{node};
 ghost use Rattle.graph.specs.Literals.{bit, literals};
 ghost use Rattle.evaluation.specs.Inner.{nodesOf};
-ghost use Rattle.finder.specs.Meeting.{Places, Bars, AllBar, Missed, NamesOr, Ends, Tells, Followed, Added};
+ghost use Rattle.hidden.specs.Inner.{Between};
+ghost use Rattle.finder.specs.Meeting.{PlacesOf, Lacks, Allows, Bars, AllBar, Missed, NamesOr, Ends, Tells, Followed, Added};
 use crate::down::is_open;
 use graph::table::index_at;
 use graph::table::is_mark_at;
@@ -24,7 +25,7 @@ const FAR: u32 = 40;
 
 fn with_place(mask: u64, c: usize, here: bool) -> u64
     requires { ⌜ c < 64 ⌝ }
-    ensures { λ r. ⌜ ((k : ℕ) → bit k mask ≡ 1 → bit k r ≡ 1) × (here ≡ true → bit c r ≡ 1) ⌝ }
+    ensures { λ r. ⌜ ((k : ℕ) → bit k mask ≡ 1 → bit k r ≡ 1) × (here ≡ true → bit c r ≡ 1) × ((k : ℕ) → bit k r ≡ 1 → (bit k mask ≡ 1) ⊎ ((k ≡ c) × (here ≡ true))) ⌝ }
 {
     mask | ((here as u64) << c)
 }
@@ -32,7 +33,7 @@ fn with_place(mask: u64, c: usize, here: bool) -> u64
 // The place of an index in the list.
 fn place_of(list: &[u32], m: usize, index: u32) -> u64
     requires { ⌜ (m ≤ 39) × (m ≤ length (now list)) ⌝ }
-    ensures { λ r. ⌜ Places (now (list .entry)) m index r ⌝ }
+    ensures { λ r. ⌜ PlacesOf (now (list .entry)) m index r ⌝ }
 {
     let mut mask: u64 = 0;
     let mut c: usize = 0;
@@ -202,6 +203,34 @@ pub fn gather_ways(
     n
 }
 
+// The places that three indices of a majority at node v may have: none of what an AND names, as its value is constant over one of that index's values.
+pub fn allowed_places(
+    inputs: u32,
+    nodes: u32,
+    node_table: &[u32],
+    node_bits: &[u64],
+    list: &[u32],
+    m: usize,
+    v: usize,
+) -> u64
+    requires { let g = nodesOf inputs nodes (literals (now «node_table») (now «node_bits»)) in
+        ⌜ Admitted g × (v < nodes) × (m ≤ 39) × (m ≤ length (now list)) × Between 0 (node g v) (take m (now list)) ⌝ }
+    ensures { λ r.
+        let g = nodesOf inputs nodes (literals (now («node_table» .entry)) (now («node_bits» .entry))) in
+        ⌜ Allows g v m (now (list .entry)) r ⌝ }
+{
+    let at = 3 * v;
+    if is_mark_at(node_table, node_bits, at + 2) {
+        return ALL;
+    }
+    if index_at(node_table, node_bits, at) != 0 {
+        return ALL;
+    }
+    let x = place_of(list, m, index_at(node_table, node_bits, at + 1));
+    let y = place_of(list, m, index_at(node_table, node_bits, at + 2));
+    ALL ^ (x | y)
+}
+
 // Without the places that a way does not meet, where it misses those at a and b.
 fn narrowed(met: u64, mask: u64, a: usize, b: usize) -> u64
     requires { ⌜ (a < 64) × (b < 64) ⌝ }
@@ -216,12 +245,18 @@ fn narrowed(met: u64, mask: u64, a: usize, b: usize) -> u64
     met & mask
 }
 
-// The places of a third index with which those at a and b may meet every way.
-pub fn thirds(ways: &[u64], n: usize, a: usize, b: usize) -> u64
+// The places of a third index with which those at a and b may meet every way, of the places that are allowed.
+pub fn thirds(ways: &[u64], n: usize, allowed: u64, a: usize, b: usize) -> u64
     requires { ⌜ (a < 64) × (b < 64) × (n ≤ length (now ways)) ⌝ }
-    ensures { λ r. ⌜ ((c : ℕ) → c < 64 → bit c r ≡ 0 → Missed n (now (ways .entry)) a b c) ⌝ }
+    ensures { λ r. ⌜ ((c : ℕ) → bit c r ≡ 0 → Lacks allowed a b c ⊎ Missed n (now (ways .entry)) a b c) ⌝ }
 {
-    let mut met: u64 = ALL;
+    if (allowed >> a) % 2 == 0 {
+        return 0;
+    }
+    if (allowed >> b) % 2 == 0 {
+        return 0;
+    }
+    let mut met = allowed;
     let mut k: usize = 0;
     while k < n {
         met = narrowed(met, ways[k], a, b);

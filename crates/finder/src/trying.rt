@@ -1,12 +1,14 @@
 // The triples of a rising list tried at a node, in order: which is the first that gives a majority. Tables are only read.
 ghost use mathlib.Core.Path.{_≡_};
+ghost use mathlib.Core.Bool.{false};
 ghost use mathlib.Core.List.{[]};
 ghost use Prim.Native.Nat.{ℕ, suc, _+_, _*_, _≤_, _<_};
 ghost use lib.ListN.{length, take};
 ghost use Rattle.graph.specs.Admission.{Admitted};
 ghost use Rattle.graph.specs.Literals.{bit, literals};
 ghost use Rattle.evaluation.specs.Inner.{nodesOf};
-ghost use Rattle.hidden.specs.Truth.{triple, leak, truth};
+ghost use Rattle.hidden.specs.Majority.{isMajority};
+ghost use Rattle.hidden.specs.Truth.{triple, truth};
 ghost use Rattle.hidden.specs.Find.{near, triples};
 ghost use Rattle.hidden.specs.Inner.{Rising, left₁, left₂, left₃};
 ghost use Rattle.majority_call.specs.Valuing.{Facts};
@@ -14,6 +16,7 @@ ghost use Rattle.finder.specs.Signs.{Signed};
 ghost use Rattle.finder.specs.Meeting.{Tells, ThirdsMet, WaysKnown};
 ghost use Rattle.finder.specs.Trying.{Ready, SignsRead, Tried, Sought};
 use crate::barred::nothing_to_find;
+use crate::masks::allowed_places;
 use crate::masks::gather_ways;
 use crate::masks::thirds;
 use crate::nearness::reach_three;
@@ -130,7 +133,7 @@ fn tried_if_met(
 ) -> u32
     requires { let g = nodesOf inputs nodes (literals (now «node_table») (now «node_bits»)) in
         let t = triple one two three in
-        ⌜ Admitted g × (8 * nodes ≤ length (now scratch)) × (v < nodes) × Facts g (now scratch) × Rising t (inputs + 1 + v) × SignsRead g v one two w x y (now scratch) × (c < 64) × (bit c met ≡ 0 → truth g t (inputs + 1 + v) ≡ leak) ⌝ }
+        ⌜ Admitted g × (8 * nodes ≤ length (now scratch)) × (v < nodes) × Facts g (now scratch) × Rising t (inputs + 1 + v) × SignsRead g v one two w x y (now scratch) × (c < 64) × (bit c met ≡ 0 → isMajority (truth g t (inputs + 1 + v)) ≡ false) ⌝ }
     ensures { λ r.
         let g = nodesOf inputs nodes (literals (now («node_table» .entry)) (now («node_bits» .entry))) in
         ⌜ Tried g (triple one two three) v r (now (scratch .entry)) (now (scratch .exit)) ⌝ }
@@ -227,6 +230,7 @@ fn try_pair(
     scratch: &mut [u32],
     list: &[u32],
     m: usize,
+    allowed: u64,
     ways: &[u64],
     n: usize,
     a: usize,
@@ -234,14 +238,14 @@ fn try_pair(
     v: usize,
 ) -> Trial
     requires { let g = nodesOf inputs nodes (literals (now «node_table») (now «node_bits»)) in
-        ⌜ Ready g v m (now list) (now scratch) × (a < b) × (b < m) × WaysKnown g v m (now list) n (now ways) ⌝ }
+        ⌜ Ready g v m (now list) (now scratch) × (a < b) × (b < m) × WaysKnown g v m (now list) allowed n (now ways) ⌝ }
     ensures { λ r.
         let g = nodesOf inputs nodes (literals (now («node_table» .entry)) (now («node_bits» .entry))) in
         let l = take m (now (list .entry)) in
         let t = triple (r .one) (r .two) (r .three) in
         ⌜ Sought g v (left₃ l a b (suc b)) (left₂ l a (suc b)) (r .byte) t (now (scratch .entry)) (now (scratch .exit)) ⌝ }
 {
-    let met = thirds(ways, n, a, b);
+    let met = thirds(ways, n, allowed, a, b);
     if (met >> b) < 2 {
         return Trial {
             byte: NONE,
@@ -274,13 +278,14 @@ fn try_seconds(
     scratch: &mut [u32],
     list: &[u32],
     m: usize,
+    allowed: u64,
     ways: &[u64],
     n: usize,
     a: usize,
     v: usize,
 ) -> Trial
     requires { let g = nodesOf inputs nodes (literals (now «node_table») (now «node_bits»)) in
-        ⌜ Ready g v m (now list) (now scratch) × (a < m) × WaysKnown g v m (now list) n (now ways) ⌝ }
+        ⌜ Ready g v m (now list) (now scratch) × (a < m) × WaysKnown g v m (now list) allowed n (now ways) ⌝ }
     ensures { λ r.
         let g = nodesOf inputs nodes (literals (now («node_table» .entry)) (now («node_bits» .entry))) in
         let l = take m (now (list .entry)) in
@@ -297,6 +302,7 @@ fn try_seconds(
             scratch,
             list,
             m,
+            allowed,
             ways,
             n,
             a,
@@ -325,12 +331,13 @@ fn try_triples(
     scratch: &mut [u32],
     list: &[u32],
     m: usize,
+    allowed: u64,
     ways: &[u64],
     n: usize,
     v: usize,
 ) -> Trial
     requires { let g = nodesOf inputs nodes (literals (now «node_table») (now «node_bits»)) in
-        ⌜ Ready g v m (now list) (now scratch) × WaysKnown g v m (now list) n (now ways) ⌝ }
+        ⌜ Ready g v m (now list) (now scratch) × WaysKnown g v m (now list) allowed n (now ways) ⌝ }
     ensures { λ r.
         let g = nodesOf inputs nodes (literals (now («node_table» .entry)) (now («node_bits» .entry))) in
         let t = triple (r .one) (r .two) (r .three) in
@@ -346,6 +353,7 @@ fn try_triples(
             scratch,
             list,
             m,
+            allowed,
             ways,
             n,
             a,
@@ -404,6 +412,7 @@ pub fn try_near(
         w,
         &mut ways,
     );
+    let allowed = allowed_places(inputs, nodes, node_table, node_bits, &list, m, w);
     try_triples(
         inputs,
         nodes,
@@ -412,6 +421,7 @@ pub fn try_near(
         scratch,
         &list,
         m,
+        allowed,
         &ways,
         n,
         w,

@@ -58,10 +58,10 @@ impl Finder<'_> {
         }
         let near = self.near(v);
         let list = near.list();
-        let ways = self.ways(&near, v);
+        let (ways, allowed) = (self.ways(&near, v), self.allowed(&near, v));
         for a in 0..list.len() {
             for b in a + 1..list.len() {
-                let thirds = ways.thirds(a, b) >> b >> 1;
+                let thirds = ways.thirds(allowed, a, b) >> b >> 1;
                 if thirds != 0 && self.try_thirds(v, [list[a], list[b]], &list[b + 1..], thirds) {
                     return;
                 }

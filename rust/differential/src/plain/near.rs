@@ -56,11 +56,14 @@ impl Ways {
         }
     }
 
-    /// Those that meet every way which the indices at these two places miss.
-    pub fn thirds(&self, a: usize, b: usize) -> u64 {
+    /// Of the places that are allowed, those that meet every way which the indices at these two miss.
+    pub fn thirds(&self, allowed: u64, a: usize, b: usize) -> u64 {
+        if allowed >> a & 1 == 0 || allowed >> b & 1 == 0 {
+            return 0;
+        }
         let narrowed =
             |thirds, &mask: &u64| if mask >> a & 1 == 1 || mask >> b & 1 == 1 { thirds } else { thirds & mask };
-        self.masks[..self.many].iter().fold(u64::MAX, narrowed)
+        self.masks[..self.many].iter().fold(allowed, narrowed)
     }
 }
 
@@ -136,5 +139,14 @@ impl Finder<'_> {
         let words = self.words(v);
         let is_input = |index: u32| index != 0 && index <= self.inputs;
         words[2] != MARK && words[0] == 0 && (is_input(words[1]) || is_input(words[2]))
+    }
+
+    /// The places that a triple may have: not those of what an AND names, which is constant over one of their values.
+    pub fn allowed(&self, near: &Near, v: usize) -> u64 {
+        let words = self.words(v);
+        if words[2] == MARK || words[0] != 0 {
+            return u64::MAX;
+        }
+        !(near.bit(words[1]) | near.bit(words[2]))
     }
 }

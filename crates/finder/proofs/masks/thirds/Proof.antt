@@ -1,34 +1,39 @@
 -- `thirds` meets its contract: of the words that have been looked at, one misses the places a, b and c wherever c is not left. From the laws on ways.
 use mathlib.Core.Path.{_≡_}
-use mathlib.Core.Logic.{⊎-elim}
-use Prim.Native.Nat.{ℕ, _+_, _-_, _*_, _≤_, _<_}
+use mathlib.Core.Logic.{⊎-elim, _⊎_, inl, inr}
+use Prim.Native.Nat.{ℕ, _+_, _-_, _*_, _/_, _%_, _^_, _≤_, _<_}
 use native.Mathlib.Omega.{arith}
 use lib.ListN.{length, getD}
 use Rattle.graph.specs.Literals.{bit}
-use Rattle.finder.specs.Meeting.{Missed}
-use Rattle.finder.proofs.Meets.{missed-none, missed-more, missed-here}
+use Rattle.finder.specs.Meeting.{Lacks, Missed}
+use Rattle.finder.proofs.Meets.{missed-more, missed-here}
 use borrow.Author.Needs.{needs}
 use Rattle.finder.proofs.masks.thirds.Statement.{statement}
 use Rattle.finder.proofs.masks.thirds.Tie as tie
 
 abbrev Inv-loop : tie.InvT-loop
-Inv-loop ways n a b met₀ k₀ met k = (k ≤ n) × ((c : ℕ) → c < 64 → bit c met ≡ 0 → Missed k ways a b c)
+Inv-loop ways n allowed a b met₀ k₀ met k = (k ≤ n) × ((c : ℕ) → bit c met ≡ 0 → Lacks allowed a b c ⊎ Missed k ways a b c)
 
 abbrev μ-loop : tie.MeasureT-loop
-μ-loop ways n a b met₀ k₀ met k = n - k
+μ-loop ways n allowed a b met₀ k₀ met k = n - k
+
+even : (k w : ℕ) → w / 2 ^ k % 2 ≡ 0 → bit k w ≡ 0
+unfolding bit
+even k w e = e
 
 shared-slice-read : tie.Need-shared-slice-read-narrowed Inv-loop μ-loop
-shared-slice-read c = omega (arith, c .before .loop-test .taken, c .before .before .before .before .pre .2)
+shared-slice-read c = omega (arith, c .before .loop-test .taken, c .before .before .before .before .before .before .pre .2)
 
 loop-again : tie.Need-loop-again Inv-loop μ-loop
 loop-again c =
     let l = c .before .before .before .loop in
-    let a = c .before .before .before .before .before .args in (
+    let a = c .before .before .before .before .before .before .before .args in (
       omega (arith, c .before .before .loop-test .taken),
-      λ j h e.
+      λ j e.
           ⊎-elim
-          (λ (q : bit j (l .met) ≡ 0). missed-more (l .k) (a .ways .now) (a .a) (a .b) j (l .inv .1 j h q))
-          (λ q. missed-here (l .k) (a .ways .now) (a .a) (a .b) j q)
+          (λ (q : bit j (l .met) ≡ 0).
+          ⊎-elim (λ (z : Lacks (a .allowed) (a .a) (a .b) j). inl z) (λ (z : Missed (l .k) (a .ways .now) (a .a) (a .b) j). inr (missed-more (l .k) (a .ways .now) (a .a) (a .b) j z)) (l .inv .1 j q))
+          (λ q. inr (missed-here (l .k) (a .ways .now) (a .a) (a .b) j q))
           (c .narrowed .ensures j e),
     )
 
@@ -38,11 +43,15 @@ thirds-spec =
     (tie.spec
     Inv-loop
     μ-loop
-    (λ c. (omega arith, λ j h e. missed-none _ _ _ j h e))
+    (λ c. search needs)
+    (λ c. λ j e. inl (inl (even _ _ (c .if1 .taken))))
+    (λ c. search needs)
+    (λ c. λ j e. inl (inr (inl (even _ _ (c .if2 .taken)))))
+    (λ c. (omega arith, λ j e. inl (inr (inr e))))
     (λ c. search needs)
     shared-slice-read
     (λ c κs. search needs)
     (λ c. search needs)
     (λ c. omega arith)
     loop-again
-    (λ c. let e : c .before .loop .k ≡ c .before .before .before .args .n = omega (arith, c .loop-test .left, c .before .loop .inv .0) in rw (← e) (c .before .loop .inv .1)))
+    (λ c. let e : c .before .loop .k ≡ c .before .before .before .before .before .args .n = omega (arith, c .loop-test .left, c .before .loop .inv .0) in rw (← e) (c .before .loop .inv .1)))

@@ -70,7 +70,7 @@ returns-2 c =
     let l = c .before .before .before .before .before .before .before .loop in
     let s = c .before .before .before .before .before .before .before .before .before .before .before .before in
     let f = s .pre .0 in
-    let k = step s (l .mask) (l .w) (x .result) (l .inv .1) (l .inv .2) (x .ensures) (c .before .before .before .before .if1 .left) (c .before .before .before .place-of .result) (c .before .before .before .place-of .ensures) in
+    let k = step s (l .mask) (l .w) (x .result) (l .inv .1) (l .inv .2) (x .ensures) (c .before .before .before .before .if1 .left) (c .before .before .before .place-of .result) (c .before .before .before .place-of .ensures .all) in
     bars-first (graph s) (s .args .v) (s .args .m) (s .args .list .now) (s .args .scratch .now) f _ (c .if-first .result)
     (leads-end (graph s) (s .args .v) (s .args .m) (s .args .list .now) (s .args .scratch .now) f _ (x .result) (omega (arith, l .inv .1, named-below (graph s) (f .admitted) (l .w) (l .inv .1) (x .result) (x .ensures))) k (c .before .before .ends .ensures (c .before .if2 .taken)))
     (c .if-first .ensures)
@@ -89,7 +89,7 @@ loop-again c =
     let e : node (graph s) (c .wide .result) ≡ x .result = omega (arith, c .wide .ensures, c .before .if3 .left) in (
       omega arith,
       omega (arith, l .inv .1, low, c .wide .ensures, c .before .if3 .left),
-      rw e (step s (l .mask) (l .w) (x .result) (l .inv .1) (l .inv .2) (x .ensures) (c .before .before .before .before .before .if1 .left) (c .before .before .before .before .place-of .result) (c .before .before .before .before .place-of .ensures)),
+      rw e (step s (l .mask) (l .w) (x .result) (l .inv .1) (l .inv .2) (x .ensures) (c .before .before .before .before .before .if1 .left) (c .before .before .before .before .place-of .result) (c .before .before .before .before .place-of .ensures .all)),
     )
 
 returns-4 : tie.Need-returns-4 Inv-loop μ-loop

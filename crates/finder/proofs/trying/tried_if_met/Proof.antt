@@ -4,7 +4,7 @@ use Rattle.graph.specs.Graph.{Graph}
 use Rattle.graph.specs.Literals.{bit, literals}
 use Rattle.evaluation.specs.Inner.{nodesOf}
 use Rattle.hidden.specs.Truth.{triple}
-use Rattle.finder.proofs.Unfit.{leak-tried}
+use Rattle.finder.proofs.Unfit.{none-tried}
 use borrow.Author.Needs.{needs}
 use Rattle.finder.proofs.trying.tried_if_met.Statement.{statement}
 use Rattle.finder.proofs.trying.tried_if_met.Tie as tie
@@ -17,7 +17,7 @@ unfolding bit
 returns c =
     let s = c .before .before .before .before in
     let a = s .args in
-    leak-tried (graph s) (a .v) (a .scratch .now) (s .pre .3) (triple (a .one) (a .two) (a .three)) (s .pre .7 (c .if1 .taken))
+    none-tried (graph s) (a .v) (a .scratch .now) (s .pre .3) (triple (a .one) (a .two) (a .three)) (s .pre .7 (c .if1 .taken))
 
 pub tried-if-met-spec : {M : Type 1} → statement M
 tried-if-met-spec = tie.close (tie.spec (λ c. search needs) returns (λ c κs. search needs) (λ c. search needs) (λ c. search needs))

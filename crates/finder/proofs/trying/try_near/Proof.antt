@@ -44,23 +44,32 @@ gather-ways-requires c κs =
     let s = c .before .before .before .before .before .before .before .before .before .before .before .before in
     (followed s (w .result) (w .ensures) (o .result) _ _ (o .ensures) refl, omega arith)
 
+allowed-requires : tie.Need-allowed-places-requires
+allowed-requires c κs =
+    let o = c .before .before .before .before .before .before .before .reach-three in
+    let w = c .before .before .before .before .before .before .before .before .before .before .before .wide in
+    let s = c .before .before .before .before .before .before .before .before .before .before .before .before .before .before .before in
+    let f = followed s (w .result) (w .ensures) (o .result) _ _ (o .ensures) refl in
+    (f .admitted, f .within, f .few, f .listed, f .rising)
+
 try-triples-requires : tie.Need-try-triples-requires
 try-triples-requires c κs =
-    let y = c .before .before .before .before .gather-ways in
-    let o = c .before .before .before .before .before .before .before .before .before .reach-three in
-    let w = c .before .before .before .before .before .before .before .before .before .before .before .before .before .wide in
-    let s = c .before .before .before .before .before .before .before .before .before .before .before .before .before .before .before .before .before in
+    let d = c .before .before .before .allowed-places in
+    let y = c .before .before .before .before .before .before .gather-ways in
+    let o = c .before .before .before .before .before .before .before .before .before .before .before .reach-three in
+    let w = c .before .before .before .before .before .before .before .before .before .before .before .before .before .before .before .wide in
+    let s = c .before .before .before .before .before .before .before .before .before .before .before .before .before .before .before .before .before .before .before in
     let a = s .args in (
       near-ready (graph s) (a .v) (w .result) (o .result) _ (o .last .1 .1 .1 .1 .0) (w .ensures) (o .ensures) (a .scratch .now) (s .pre .0) (s .pre .1) (s .pre .2) (s .pre .3) (s .pre .4) refl,
-      record { few = omega (arith, o .ensures .few); listed = omega (arith, y .ensures .1, y .ensures .2); bars = y .ensures .0 },
+      record { few = omega (arith, o .ensures .few); listed = omega (arith, y .ensures .1, y .ensures .2); allows = d .ensures; bars = y .ensures .0 },
     )
 
 returns-2 : tie.Need-returns-2
 returns-2 c =
     let t = c .before .before .try-triples in
-    let o = c .before .before .before .before .before .before .before .before .before .before .before .before .reach-three in
-    let w = c .before .before .before .before .before .before .before .before .before .before .before .before .before .before .before .before .wide in
-    let s = c .before .before .before .before .before .before .before .before .before .before .before .before .before .before .before .before .before .before .before .before in
+    let o = c .before .before .before .before .before .before .before .before .before .before .before .before .before .before .reach-three in
+    let w = c .before .before .before .before .before .before .before .before .before .before .before .before .before .before .before .before .before .before .wide in
+    let s = c .before .before .before .before .before .before .before .before .before .before .before .before .before .before .before .before .before .before .before .before .before .before in
     let a = s .args in
     sought-near (graph s) (a .v) (w .result) (o .result) _ (o .last .1 .1 .1 .1 .0) (w .ensures) (o .ensures) (t .result .byte) _ (a .scratch .now) _ (t .ensures)
 
@@ -78,6 +87,8 @@ try-near-spec =
     (λ c. search needs)
     (λ c. search needs)
     gather-ways-requires
+    (λ c. search needs)
+    allowed-requires
     (λ c. search needs)
     (λ c. search needs)
     try-triples-requires

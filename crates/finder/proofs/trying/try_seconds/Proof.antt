@@ -15,12 +15,12 @@ use Rattle.finder.proofs.trying.try_seconds.Statement.{statement}
 use Rattle.finder.proofs.trying.try_seconds.Tie as tie
 
 abbrev Inv-loop : tie.InvT-loop
-Inv-loop inputs nodes node-table node-bits scratch₀ list m ways n a v b₀ scratch b =
+Inv-loop inputs nodes node-table node-bits scratch₀ list m allowed ways n a v b₀ scratch b =
     let l = take m list in
     (a < b) × (b ≤ m) × Going (nodesOf inputs nodes (literals node-table node-bits)) v (left₁ l a) (left₂ l a b) scratch₀ scratch
 
 abbrev μ-loop : tie.MeasureT-loop
-μ-loop inputs nodes node-table node-bits scratch₀ list m ways n a v b₀ scratch b = m - b
+μ-loop inputs nodes node-table node-bits scratch₀ list m allowed ways n a v b₀ scratch b = m - b
 
 abbrev graph : tie.Start Inv-loop μ-loop → Graph
 graph s = nodesOf (s .args .inputs) (s .args .nodes) (literals (s .args .node-table .now) (s .args .node-bits .now))

@@ -17,12 +17,12 @@ use Rattle.finder.proofs.trying.try_triples.Statement.{statement}
 use Rattle.finder.proofs.trying.try_triples.Tie as tie
 
 abbrev Inv-loop : tie.InvT-loop
-Inv-loop inputs nodes node-table node-bits scratch₀ list m ways n v a₀ scratch a =
+Inv-loop inputs nodes node-table node-bits scratch₀ list m allowed ways n v a₀ scratch a =
     let l = take m list in
     (a ≤ m) × Going (nodesOf inputs nodes (literals node-table node-bits)) v (triples l) (left₁ l a) scratch₀ scratch
 
 abbrev μ-loop : tie.MeasureT-loop
-μ-loop inputs nodes node-table node-bits scratch₀ list m ways n v a₀ scratch a = m - a
+μ-loop inputs nodes node-table node-bits scratch₀ list m allowed ways n v a₀ scratch a = m - a
 
 abbrev graph : tie.Start Inv-loop μ-loop → Graph
 graph s = nodesOf (s .args .inputs) (s .args .nodes) (literals (s .args .node-table .now) (s .args .node-bits .now))
