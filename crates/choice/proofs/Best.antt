@@ -57,6 +57,16 @@ module _ (f : List ℕ → ℕ) (ns : List ℕ) where
         earlier-more = λ l g e. absurd (≺-zeros ns l e);
       }))
 
+-- costs that differ by a constant have the same best
+pub best-shift : (f g : List ℕ → ℕ) (a : ℕ) (ns : List ℕ) → Fits ns (zeros ns) → ((l : List ℕ) → f l + a ≡ g l) → best f ns ≡ best g ns
+best-shift f g a ns ok e =
+    let b = best-is f ns (zeros ns) ok in
+    unique g ns (best f ns) (record {
+      fits = b .fits;
+      none-less = λ l h. omega (arith, e l, e (best f ns), b .none-less l h);
+      earlier-more = λ l h i. omega (arith, e l, e (best f ns), b .earlier-more l h i);
+    })
+
 -- the laws in the words of `choices`
 module _ (f : List ℕ → ℕ) (ns : List ℕ) (ok : Fits ns (zeros ns)) where
   pub best-among : List·Memᴰ (best f ns) (choices ns)

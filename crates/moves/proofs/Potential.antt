@@ -105,7 +105,7 @@ module _ (g : Graph) (c : ℕ → ℕ → ℕ) (r : ℕ) (adm : Admitted g) wher
       lower = omega (arith, adm .below (3 * n + i) (omega arith) e)
 
       -- the non-roots that it names are just those undecided
-      inner-is : undecided g r n (word g (3 * n + i) / 2) ≡ inner g (word g (3 * n + i) / 2)
+      pub inner-is : undecided g r n (word g (3 * n + i) / 2) ≡ inner g (word g (3 * n + i) / 2)
       unfolding inner
       inner-is =
           let u : ℕ = word g (3 * n + i) / 2 in

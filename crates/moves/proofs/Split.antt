@@ -12,7 +12,7 @@ use Rattle.graph.specs.Answer.{gained, othersOf, outcome}
 use Rattle.graph.proofs.Difference.{same-difference}
 use Rattle.graph.proofs.DifferenceSum.{sum-is, part-by, no-difference}
 use Rattle.graph.proofs.Finite.{sum-same}
-use Rattle.moves.specs.Call.{moved, bestAt, rewrite, among, ownAdds, otherAdds, split}
+use Rattle.moves.specs.Call.{moved, bestAt, rewriteBy, rewrite, among, ownAdds, otherAdds, split}
 use Rattle.moves.specs.Outside.{savedBy}
 use Rattle.moves.specs.Promises.{SplitWhole}
 use Rattle.moves.proofs.Count.{sum-add}
@@ -38,14 +38,18 @@ split-whole us g h =
 pub own-by : (us : List ℕ) (g h : Graph) (c d : ℕ) → split us g h .others ≡ difference c d → split us g h .own ≡ difference (C g + d) (C h + c)
 own-by us g h c d e = part-by (split us g h .own) (split us g h .others) (C g) (C h) c d (split-whole us g h) e
 
--- the answer by counts is that of the rewriting
-pub saved-outcome : (g : Graph) (ls us : List ℕ) (h : Graph) (b a o l : ℕ) → h ≡ moved g us (bestAt g ls us) → C g + a ≡ C h + b
-    → split us g h .others ≡ difference o l → outcome (savedBy b a o l) h ≡ rewrite g ls us
-unfolding rewrite
-saved-outcome g ls us h b a o l e c q =
+-- the answer by counts is that of the moves made, whatever chose them, and so of the rewriting
+pub saved-by : (g : Graph) (us ms : List ℕ) (h : Graph) (b a o l : ℕ) → h ≡ moved g us ms → C g + a ≡ C h + b
+    → split us g h .others ≡ difference o l → outcome (savedBy b a o l) h ≡ rewriteBy g us ms
+saved-by g us ms h b a o l e c q =
     rw (← e)
     (ap (λ (x : ℤ). outcome (gained [] x (difference o l)) h) (same-difference (b + l) (a + o) (C g + l) (C h + o) (omega arith) ∙ sym (own-by us g h o l q))
     ∙ ap (λ (x : ℤ). outcome (gained [] (split us g h .own) x) h) (sym q))
+
+pub saved-outcome : (g : Graph) (ls us : List ℕ) (h : Graph) (b a o l : ℕ) → h ≡ moved g us (bestAt g ls us) → C g + a ≡ C h + b
+    → split us g h .others ≡ difference o l → outcome (savedBy b a o l) h ≡ rewrite g ls us
+unfolding rewrite
+saved-outcome g ls us = saved-by g us (bestAt g ls us)
 
 -- and a call that changes nothing saves nothing in either part
 pub split-none : (us : List ℕ) (g : Graph) → (split us g g .own ≡ pos 0) × (split us g g .others ≡ pos 0)

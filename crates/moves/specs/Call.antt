@@ -44,12 +44,16 @@ movedC g us ms = C (moved g us ms)
 unfoldable pub bestAt : Graph → List ℕ → List ℕ → List ℕ
 bestAt g ls us = best (movedC g us) (map (movesAt g ls) us)
 
--- those moves made, with what they save in both parts
-unfoldable pub rewrite : Graph → List ℕ → List ℕ → Outcome
-rewrite g ls us =
-    let h = moved g us (bestAt g ls us) in
+-- moves ms at the nodes us made, with what they save in both parts
+abbrev pub rewriteBy : Graph → List ℕ → List ℕ → Outcome
+rewriteBy g us ms =
+    let h = moved g us ms in
     let d = split us g h in
     outcome (gained [] (d .own) (d .others)) h
+
+-- the best moves made
+unfoldable pub rewrite : Graph → List ℕ → List ℕ → Outcome
+rewrite g ls us = rewriteBy g us (bestAt g ls us)
 
 -- u is the index of a node
 unfoldable pub isNode : Graph → ℕ → Bool
