@@ -1,0 +1,12 @@
+pub mod Lowest
+pub mod Potential
+pub mod Step
+pub mod Misses
+pub mod Still
+pub mod Best
+pub mod Costs
+pub mod Deciding
+pub mod Meaning
+pub mod Numbers
+pub mod Worked
+pub mod Promises

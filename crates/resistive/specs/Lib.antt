@@ -1,0 +1,5 @@
+pub mod Resistive
+pub mod Family
+pub mod Worked
+pub mod All
+pub mod Promises
