@@ -1,4 +1,4 @@
--- The moves of a decided tree written one by one along its links: the tables are then those after the tree call. From the laws of the pass
+-- The moves stored for a tree written one by one along its links: the tables are then those after all of them. From the laws of the pass
 -- that chooses a tree's moves, and of links.
 use mathlib.Core.Path.{_≡_, refl, sym, ap, _∙_}
 use mathlib.Core.Bool.{true, cond}
@@ -17,10 +17,9 @@ use Rattle.moves.proofs.Moves.{moves-no-more}
 use Rattle.moves.proofs.Readers.{rootOf-root}
 use Rattle.state.specs.State.{field, Ordered}
 use Rattle.state.proofs.Alike.{Alike, alike-isRoot, alike-place}
-use Rattle.trees.specs.Deciding.{TreeDecided}
-use Rattle.trees.specs.Stepping.{treeMoved}
+use Rattle.trees.specs.Deciding.{MovesHeld, storedMoved}
 use Rattle.trees.proofs.Falling.{boundOf, bound-mark, bound-node, next-lower}
-use Rattle.trees.proofs.MakePass.{Chosen, chosen-none, chosen-down, chosen-all, chosen-applied, chosen-step}
+use Rattle.trees.proofs.MakePass.{Chosen, chosen-none, chosen-down, chosen-stored, chosen-applied, chosen-step}
 use Rattle.trees.proofs.Ready.{ordered-itself}
 
 -- k is h with the moves written that scratch has for the tree of r, down to before node v, which is the next
@@ -41,16 +40,16 @@ module _ (h : Graph) (sc : List ℕ) (o : Ordered h sc) (r : ℕ) (rn : r < h .N
         here = λ z. rw e (omega arith, rootOf-root h (o .admitted) (node h r) t);
       }
 
-  module _ (ls : List ℕ) (td : TreeDecided h ls (node h r) sc) (v : ℕ) (k : Graph) (w : WrittenTo h sc r v k) where
-    pub written-all : v ≡ mark → k ≡ treeMoved h ls (node h r)
-    written-all e = w .written ∙ chosen-all h sc (o .admitted) r rn ls (w .d) td (rw (bound-mark v e) at (w .chosen))
+  module _ (ls : List ℕ) (held : MovesHeld h ls (node h r) sc) (v : ℕ) (k : Graph) (w : WrittenTo h sc r v k) where
+    pub written-all : v ≡ mark → k ≡ storedMoved h (node h r) sc
+    written-all e = w .written ∙ chosen-stored h sc (o .admitted) r rn (w .d) (rw (bound-mark v e) at (w .chosen))
 
     module _ (d : v ≢ mark) where
       pub next-node : v < h .N
       next-node = omega (arith, w .here d .0)
 
       fits : field sc v 4 < kindMoves h (node h v)
-      fits = omega (arith, td .permitted v next-node (w .here d .1), moves-no-more h ls (node h v))
+      fits = omega (arith, held v next-node (w .here d .1), moves-no-more h ls (node h v))
 
       same : Alike h k
       same = rw (w .written) (apply-alike h (w .d) (o .admitted))

@@ -6,7 +6,7 @@ ghost use Rattle.moves.specs.Call.{savingAnswer, treeCall};
 
 pub mod faults;
 mod rewrite;
-mod writing;
+pub mod writing;
 
 use graph::faults::refused_by;
 use moves::Saving;

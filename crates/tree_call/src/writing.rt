@@ -1,4 +1,4 @@
-// The moves of a decided tree written into the tables, along its links: a node below the root has one reader, whose place is known.
+// The moves stored for a tree written into the tables, whatever chose them, along its links: a node below the root has one reader, whose place is known.
 ghost use mathlib.Core.Path.{_≡_};
 ghost use mathlib.Core.Bool.{true, false, cond};
 ghost use Prim.Native.Nat.{_+_, _≤_, _<_};
@@ -10,8 +10,7 @@ ghost use Rattle.moves.specs.Apply.{none, at, apply};
 ghost use Rattle.moves.specs.Rows.{kindMoves};
 ghost use Rattle.moves.specs.Tree.{isRoot, place};
 ghost use Rattle.state.specs.State.{Ordered};
-ghost use Rattle.trees.specs.Deciding.{TreeDecided};
-ghost use Rattle.trees.specs.Stepping.{treeMoved};
+ghost use Rattle.trees.specs.Deciding.{MovesHeld, storedMoved};
 use graph::literal::MARK;
 use graph::table::turn_word;
 use moves::rows;
@@ -111,11 +110,11 @@ pub fn write_tree(
 )
     requires { let g = graphIn inputs nodes outputs (now «node_table») (now «node_bits») (now «output_table») (now «output_bits») in
         let u = inputs + 1 + root in
-        ⌜ Ordered g (now scratch) × (root < nodes) × (isRoot g u ≡ true) × TreeDecided g (now locks) u (now scratch) ⌝ }
+        ⌜ Ordered g (now scratch) × (root < nodes) × (isRoot g u ≡ true) × MovesHeld g (now locks) u (now scratch) ⌝ }
     ensures { λ _.
         let g = graphIn inputs nodes outputs (now («node_table» .entry)) (now («node_bits» .entry)) (now («output_table» .entry)) (now («output_bits» .entry)) in
         let h = graphIn inputs nodes outputs (now («node_table» .entry)) (now («node_bits» .exit)) (now («output_table» .entry)) (now («output_bits» .exit)) in
-        ⌜ h ≡ treeMoved g (now (locks .entry)) (inputs + 1 + root) ⌝ }
+        ⌜ h ≡ storedMoved g (inputs + 1 + root) (now (scratch .entry)) ⌝ }
 {
     let mut v = narrow(root);
     while v != MARK {

@@ -11,7 +11,7 @@ use Rattle.graph.specs.Graph.{Graph, node, isXor}
 use Rattle.graph.specs.Admission.{Admitted}
 use Rattle.graph.proofs.Cases.{eq-or-ne, lt-or-le}
 use Rattle.moves.specs.Rows.{kindMoves}
-use Rattle.moves.specs.Apply.{Choice, none, at, put, apply}
+use Rattle.moves.specs.Apply.{Choice, none, at, apply}
 use Rattle.moves.specs.Compose.{Permitted, compose}
 use Rattle.moves.specs.Tree.{rootOf, tree}
 use Rattle.moves.specs.Call.{moved, bestAt}
@@ -25,7 +25,7 @@ use Rattle.moves.proofs.Written.{within, put-tree}
 use Rattle.state.specs.State.{field, stands, Ordered}
 use Rattle.state.specs.Step.{TreesKept, Became}
 use Rattle.moves.proofs.Made.{combined-left, combined-right}
-use Rattle.trees.specs.Deciding.{movesIn, TreeDecided}
+use Rattle.trees.specs.Deciding.{movesIn, storedMoved, TreeDecided}
 use Rattle.trees.proofs.DecidePass.{moves-at}
 
 -- a choice that is m in the tree of r and moves nothing outside
@@ -84,11 +84,10 @@ module _ (h : Graph) (sc₁ : List ℕ) (adm : Admitted h) (r : ℕ) (rn : r < h
         made = λ v k b t. ⊎-elim (λ (a : v < n). absurd (free v k a t)) (λ (a : n ≤ v). c .made v a b t) (lt-or-le v n);
       }
 
-  -- all of them: the tree call
-  pub chosen-all : (ls : List ℕ) (d : Choice) → TreeDecided h ls (node h r) sc₁ → Chosen h sc₁ r 0 d → apply h d ≡ moved h (tree h (node h r)) (bestAt h ls (tree h (node h r)))
+  -- all of them: the graph after the moves stored
+  pub chosen-stored : (d : Choice) → Chosen h sc₁ r 0 d → apply h d ≡ storedMoved h (node h r) sc₁
   unfolding moved
-  chosen-all ls d td c =
-      ap (apply h) (sym only-tree) ∙ ap (apply h) (sym (put-tree h (node h r) (movesIn (h .I) sc₁))) ∙ ap (λ ms. apply h (put none (tree h (node h r)) ms)) (td .best)
+  chosen-stored d c = ap (apply h) (sym only-tree) ∙ ap (apply h) (sym (put-tree h (node h r) (movesIn (h .I) sc₁)))
     where
       inside : (u : ℕ) → h .I < u → u < node h (h .N) → rootOf h u ≡ node h r → movesIn (h .I) sc₁ u ≡ d u
       inside u a b t =
@@ -98,6 +97,10 @@ module _ (h : Graph) (sc₁ : List ℕ) (adm : Admitted h) (r : ℕ) (rn : r < h
 
       only-tree : within h (node h r) (movesIn (h .I) sc₁) ≡ d
       only-tree = fun-ext (λ u. in-or-out h (node h r) (movesIn (h .I) sc₁) d u (inside u) (c .off u) (λ l. c .low u (omega arith)) (c .high u))
+
+  -- where these are the best, the tree call
+  pub chosen-all : (ls : List ℕ) (d : Choice) → TreeDecided h ls (node h r) sc₁ → Chosen h sc₁ r 0 d → apply h d ≡ moved h (tree h (node h r)) (bestAt h ls (tree h (node h r)))
+  chosen-all ls d td c = chosen-stored d c ∙ ap (moved h (tree h (node h r))) (td .best)
 
   -- the move m at node v of the tree besides those above it
   module _ (v : ℕ) (vn : v < h .N) (here : rootOf h (node h v) ≡ node h r) (d : Choice) (c : Chosen h sc₁ r (suc v) d) (m : ℕ) (fits : m < kindMoves h (node h v)) (em : m ≡ field sc₁ v 4) where

@@ -9,7 +9,7 @@ use Rattle.graph.specs.Graph.{Graph, mark, node, word, isXor}
 use Rattle.moves.specs.Rows.{flag, kindMoves, movesAt}
 use Rattle.moves.specs.Apply.{Choice}
 use Rattle.moves.specs.Tree.{rootOf, tree}
-use Rattle.moves.specs.Call.{bestAt}
+use Rattle.moves.specs.Call.{moved, bestAt}
 use Rattle.state.specs.State.{field, stands}
 
 -- the moves that stand in scratch
@@ -28,7 +28,15 @@ oddAt g sc v = ifEqual (field sc v 3) mark (field sc v 1) (showsAt g sc (field s
 abbrev pub ReaderDecided : Graph → List ℕ → ℕ → Type 0
 ReaderDecided g sc v = field sc v 3 ≢ mark → field sc (field sc v 3 / 3) 4 < kindMoves g (node g (field sc v 3 / 3))
 
--- the nodes of the tree of r in h, with the locks ls, have moves stored that they have, and these are the best
+-- the nodes of the tree of r in h, with the locks ls, have moves stored that they have
+abbrev pub MovesHeld : Graph → List ℕ → ℕ → List ℕ → Type 0
+MovesHeld h ls r sc = (v : ℕ) → v < h .N → rootOf h (node h v) ≡ r → field sc v 4 < movesAt h ls (node h v)
+
+-- h after the moves stored for them
+abbrev pub storedMoved : Graph → ℕ → List ℕ → Graph
+storedMoved h r sc = moved h (tree h r) (map (movesIn (h .I) sc) (tree h r))
+
+-- such moves stored that are the best
 pub record TreeDecided (h : Graph) (ls : List ℕ) (r : ℕ) (sc : List ℕ) : Type 0 where
-  pub permitted : (v : ℕ) → v < h .N → rootOf h (node h v) ≡ r → field sc v 4 < movesAt h ls (node h v)
+  pub permitted : MovesHeld h ls r sc
   pub best : map (movesIn (h .I) sc) (tree h r) ≡ bestAt h ls (tree h r)

@@ -4,6 +4,8 @@ use borrow.Author.Needs.{needs}
 use Rattle.graph.specs.Count.{C}
 use Rattle.graph.specs.Graph.{Graph}
 use Rattle.graph.specs.Literals.{graphIn}
+use Rattle.moves.specs.Call.{moved}
+use Rattle.moves.specs.Tree.{tree}
 use Rattle.state.specs.State.{stands}
 use Rattle.trees.specs.Stepping.{treeMoved}
 use Rattle.trees.proofs.Decided.{decided-costs, decided-kept}
@@ -49,7 +51,7 @@ write-tree-requires c κs =
     let n = root-node _ _ _ (start w .pre .1) (w .wide .ensures) in
     let k = m .decided-step .ensures .0 .became in
     let e = d .decide-tree .ensures .0 in
-    (k .ordered, n .0, n .1, decided-kept _ _ _ _ _ (k .kept) (rw (filled w .fill-scratch .ensures .1) at e))
+    (k .ordered, n .0, n .1, decided-kept _ _ _ _ _ (k .kept) (rw (filled w .fill-scratch .ensures .1) at e) .permitted)
 
 same-scratch : tie.Need-same-length-3
 same-scratch c =
@@ -65,7 +67,9 @@ returns c =
     let d = m .before .before .before .before .before .before in
     let w = d .before .before .before .before in
     let z = stands-costs (graph (start w)) _ _ (d .decide-tree .ensures .1) ∙ filled w .fill-scratch .ensures .1 in
-    rewrite-is _ _ _ _ _ _ _ _ _ _ (start w .pre .1) (w .wide .ensures) z (m .decided-step .ensures) (t .write-tree .ensures) (counted w .complemented .ensures .0) (c .saved-by .ensures)
+    let e = d .decide-tree .ensures .0 in
+    let k = decided-kept _ _ _ _ _ (m .decided-step .ensures .0 .became .kept) (rw (filled w .fill-scratch .ensures .1) at e) in
+    rewrite-is _ _ _ _ _ _ _ _ _ _ (start w .pre .1) (w .wide .ensures) z (m .decided-step .ensures) (t .write-tree .ensures ∙ ap (moved _ (tree _ _)) (k .best)) (counted w .complemented .ensures .0) (c .saved-by .ensures)
 
 pub rewrite-tree-spec : {M : Type 1} → statement M
 rewrite-tree-spec =
