@@ -10,8 +10,10 @@ use Rattle.graph.specs.Answer.{Answer, Outcome, LockedOutcome, lockedOutcome, g
 use Rattle.graph.specs.Graph.{Graph}
 use Rattle.graph.proofs.Admit.{locks-admitted}
 use Rattle.graph.proofs.Tests.{both, off}
-use Rattle.moves.specs.Call.{moved, nodeFault, scratchFault}
+use Rattle.moves.specs.Call.{moved, nodeFault, scratchFault, treeNumber}
 use Rattle.moves.specs.Apply.{none, put}
+use Rattle.moves.specs.Tree.{tree}
+use Rattle.resistive.specs.Resistive.{bestStill, resistiveCall}
 use Rattle.moves.proofs.Apply as applied
 use Rattle.many.specs.Many.{manyNumber, manyCall}
 use Rattle.rounds.specs.Settle.{settle, settled, settleNumber, settleCall}
@@ -21,13 +23,14 @@ use Rattle.hidden.specs.Truth.{Triple}
 use Rattle.hidden.specs.Call.{tripleFault, majorityNumber, majorityOutcome, majorityCall, findNumber, found, findCall}
 use Rattle.hidden.proofs.MajorityCall.{node-is, rising-is, outcome-same}
 use Rattle.hidden.proofs.FindCall.{found-finds}
-use Rattle.promises.specs.Demand.{Call, nodeAt, pairAt, treeAt, settling, manyAt, majorityAt, finding, Locked, withLocks, beside, step, left, run, rewires, NoneRewires}
+use Rattle.promises.specs.Demand.{Call, nodeAt, pairAt, treeAt, settling, manyAt, majorityAt, finding, resistiveAt, Locked, withLocks, beside, step, left, run, rewires, NoneRewires}
 use Rattle.packed.specs.Old.{trimmed}
 use Rattle.packed.specs.Corresponds.{answers, Corresponds}
 use Rattle.packed.proofs.Admitting.{trimmed-admitted, admission-in}
 use Rattle.packed.proofs.Calls.{node-in, pair-in, tree-call-in, many-in, trial-in}
 use Rattle.packed.proofs.Old.{told-alike, in-step, in-graph}
 use Rattle.packed.proofs.Reading.{count-in, evaluate-number-in, results-in, write-in, export-in, preview-answer-in, preview-bytes-in}
+use Rattle.packed.proofs.Resistive.{resistive-in}
 use Rattle.packed.proofs.Rewiring.{trimmed-twice, trimmedLeft, majority-in, find-in}
 use Rattle.packed.proofs.Settling.{settle-call-in}
 
@@ -45,6 +48,10 @@ module _ (g : Graph) (adm : Admitted g) (ls : List ℕ) where
   many-keeps : (us ms : List ℕ) → Admitted (manyCall g ls us ms .graph)
   unfolding manyCall moved
   many-keeps us ms = guarded-keeps (manyNumber g ls us ms) g _ adm (λ e. applied.admitted g (put none us ms) adm)
+
+  resistive-keeps : (s r : ℕ) → Admitted (resistiveCall g ls s r .graph)
+  unfolding resistiveCall moved
+  resistive-keeps s r = guarded-keeps (treeNumber g ls s r) g _ adm (λ e. applied.admitted g (put none (tree g r) (bestStill g ls r)) adm)
 
   majority-keeps : (s u : ℕ) (t : Triple) → Admitted (majorityCall g ls s t u .graph)
   unfolding majorityCall majorityNumber
@@ -81,6 +88,7 @@ module _ (d : Locked) (adm : Admitted (d .graph)) where
   step-keeps (manyAt us ms) = many-keeps (d .graph) adm (d .locks) us ms
   step-keeps (majorityAt u t scratch) = majority-keeps (d .graph) adm (d .locks) (length scratch) u t
   step-keeps (finding scratch) = find-keeps (d .graph) adm (d .locks) (length scratch)
+  step-keeps (resistiveAt r scratch) = resistive-keeps (d .graph) adm (d .locks) (length scratch) r
 
   pub step-in : (c : Call) → rewires c ≡ false → step (trimmedLocked d) c ≡ lockedOutcome (step d c .answer) (trimmed (step d c .graph)) (step d c .locks)
   step-in (nodeAt u) w = ap (beside d) (node-in (d .graph) adm (d .locks) u)
@@ -90,6 +98,7 @@ module _ (d : Locked) (adm : Admitted (d .graph)) where
   step-in (manyAt us ms) w = ap (beside d) (many-in (d .graph) adm (d .locks) us ms)
   step-in (majorityAt u t scratch) w = absurd (true≢false w)
   step-in (finding scratch) w = absurd (true≢false w)
+  step-in (resistiveAt r scratch) w = ap (beside d) (resistive-in (d .graph) adm (d .locks) (length scratch) r)
 
   still-left : (c : Call) → rewires c ≡ false → trimmedLeft (step (trimmedLocked d) c) ≡ trimmedLeft (step d c)
   still-left c w = ap trimmedLeft (step-in c w) ∙ twice-left (step d c)
@@ -104,6 +113,7 @@ module _ (d : Locked) (adm : Admitted (d .graph)) where
   step-left (majorityAt u t scratch) =
       ap (λ (o : Outcome). trimmedLeft (beside d o)) (majority-in (d .graph) adm (d .locks) (length scratch) t u) ∙ twice-left (beside d (majorityCall (d .graph) (d .locks) (length scratch) t u))
   step-left (finding scratch) = find-in (d .graph) adm (d .locks) (length scratch)
+  step-left (resistiveAt r scratch) = still-left (resistiveAt r scratch) refl
 
 -- two graphs that are alike but for tails, with the same locks: each call answers alike, and leaves such graphs again
 pub step-alike : (d e : Locked) → Admitted (d .graph) → Admitted (e .graph) → trimmedLocked d ≡ trimmedLocked e → (c : Call) → trimmedLeft (step d c) ≡ trimmedLeft (step e c)

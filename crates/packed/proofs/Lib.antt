@@ -3,6 +3,7 @@ pub mod Choosing
 pub mod Trimmed
 pub mod Admitting
 pub mod Calls
+pub mod Resistive
 pub mod Settling
 pub mod Reading
 pub mod Rewiring

@@ -18,7 +18,7 @@ use Rattle.graph.proofs.Turned.{turned-length, turned-at, turned-by}
 use Rattle.moves.specs.Rows.{flag, kindMoves, lockAt, movesAt}
 use Rattle.moves.specs.Apply.{Choice, none, put, seen, own, turns, outputTurns, apply}
 use Rattle.moves.specs.Tree.{isRoot, place, reader, rootIn, rootOf, members, tree}
-use Rattle.moves.specs.Call.{moved, movedC, bestAt, rewrite, isNode, among, ownAdds, otherAdds, split}
+use Rattle.moves.specs.Call.{moved, movedC, bestAt, rewriteBy, rewrite, isNode, among, ownAdds, otherAdds, split}
 use Rattle.moves.proofs.Readers.{both-true}
 use Rattle.rounds.proofs.Calls.{is-node}
 use Rattle.packed.specs.Old.{trimmed}
@@ -52,7 +52,7 @@ module _ (g : Graph) where
   xor-in v l = rw (word-in (3 * v + 2) (omega arith))
 
   -- C and readers
-  adds-in : (j : ℕ) → j < 3 * g .N → nodeAdds (trimmed g) j ≡ nodeAdds g j
+  pub adds-in : (j : ℕ) → j < 3 * g .N → nodeAdds (trimmed g) j ≡ nodeAdds g j
   unfolding nodeAdds
   adds-in j l = rw (word-in j l)
 
@@ -101,10 +101,14 @@ module _ (g : Graph) where
   rootIn-in zero u = refl
   rootIn-in (suc f) u = rw (root-in u, reader-in u, rootIn-in f (reader g u))
 
+  pub rootOf-in : (u : ℕ) → rootOf (trimmed g) u ≡ rootOf g u
+  unfolding rootOf
+  rootOf-in u = rootIn-in (g .N) u
+
   members-in : (r n : ℕ) → members (trimmed g) r n ≡ members g r n
-  unfolding members rootOf
+  unfolding members
   members-in r zero = refl
-  members-in r (suc n) = rw (rootIn-in (g .N) (node g n), members-in r n)
+  members-in r (suc n) = rw (rootOf-in (node g n), members-in r n)
 
   pub tree-in : (r : ℕ) → tree (trimmed g) r ≡ tree g r
   unfolding tree
@@ -115,7 +119,7 @@ module _ (g : Graph) where
   unfolding kindMoves
   kind-in u e = let k = node-known g u e in rw (xor-in (u - (g .I + 1)) (omega arith))
 
-  moves-in : (ls : List ℕ) (u : ℕ) → isNode g u ≡ true → movesAt (trimmed g) ls u ≡ movesAt g ls u
+  pub moves-in : (ls : List ℕ) (u : ℕ) → isNode g u ≡ true → movesAt (trimmed g) ls u ≡ movesAt g ls u
   unfolding movesAt lockAt
   moves-in ls u e = rw (kind-in u e)
 
@@ -171,6 +175,10 @@ split-in : (us : List ℕ) (g h : Graph) → split us (trimmed g) (trimmed h) �
 unfolding split
 split-in us g h = rw (ownAdds-in g us, ownAdds-in h us, otherAdds-in g us, otherAdds-in h us)
 
+-- moves made
+pub rewrite-by-in : (g : Graph) (us ms : List ℕ) → rewriteBy (trimmed g) us ms ≡ trimmedOutcome (rewriteBy g us ms)
+rewrite-by-in g us ms = rw (moved-in g us ms, split-in us g (moved g us ms))
+
 -- the best moves at nodes whose numbers of moves are told alike
 module _ (g : Graph) (ls us : List ℕ) (e : map (movesAt (trimmed g) ls) us ≡ map (movesAt g ls) us) where
   movedC-in : movedC (trimmed g) us ≡ movedC g us
@@ -183,7 +191,7 @@ module _ (g : Graph) (ls us : List ℕ) (e : map (movesAt (trimmed g) ls) us ≡
 
   pub rewrite-in : rewrite (trimmed g) ls us ≡ trimmedOutcome (rewrite g ls us)
   unfolding rewrite
-  rewrite-in = rw (best-in, moved-in g us (bestAt g ls us), split-in us g (moved g us (bestAt g ls us)))
+  rewrite-in = ap (rewriteBy (trimmed g) us) best-in ∙ rewrite-by-in g us (bestAt g ls us)
 
 -- one node, two nodes, and the nodes of a tree
 module _ (g : Graph) (ls : List ℕ) where
@@ -197,13 +205,16 @@ module _ (g : Graph) (ls : List ℕ) where
   map-members f h true x l p q = rw (p, q)
   map-members f h false x l p q = q
 
-  members-moves : (r n : ℕ) → n ≤ g .N → map (movesAt (trimmed g) ls) (members g r n) ≡ map (movesAt g ls) (members g r n)
+  -- numbers that are told alike of each node
+  members-alike : (f h : ℕ → ℕ) → ((u : ℕ) → isNode g u ≡ true → f u ≡ h u) → (r n : ℕ) → n ≤ g .N → map f (members g r n) ≡ map h (members g r n)
   unfolding members
-  members-moves r zero l = refl
-  members-moves r (suc n) l =
-      map-members (movesAt (trimmed g) ls) (movesAt g ls) (eqb (rootOf g (node g n)) r) (node g n) (members g r n)
-      (moves-in g ls (node g n) (is-node g n l)) (members-moves r n (omega arith))
+  members-alike f h e r zero l = refl
+  members-alike f h e r (suc n) l =
+      map-members f h (eqb (rootOf g (node g n)) r) (node g n) (members g r n) (e (node g n) (is-node g n l)) (members-alike f h e r n (omega arith))
+
+  pub tree-alike : (f h : ℕ → ℕ) → ((u : ℕ) → isNode g u ≡ true → f u ≡ h u) → (r : ℕ) → map f (tree g r) ≡ map h (tree g r)
+  unfolding tree
+  tree-alike f h e r = members-alike f h e r (g .N) (omega arith)
 
   pub tree-moves : (r : ℕ) → map (movesAt (trimmed g) ls) (tree g r) ≡ map (movesAt g ls) (tree g r)
-  unfolding tree
-  tree-moves r = members-moves r (g .N) (omega arith)
+  tree-moves r = tree-alike (movesAt (trimmed g) ls) (movesAt g ls) (moves-in g ls) r

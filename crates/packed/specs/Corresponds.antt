@@ -17,7 +17,7 @@ answers d (c ∷ cs) = step d c .answer ∷ answers (left (step d c)) cs
 
 -- with any locks ls
 pub record Corresponds (ls : List ℕ) : Type 0 where
-  -- the node, pair, tree, settling and many calls, which do not rewire, and every list of them
+  -- the node, pair, tree, settling and many calls and those for resistive memory, which do not rewire, and every list of them
   pub each : (c : Call) → rewires c ≡ false → InStep (λ g. step (withLocks g ls) c .answer) (λ g. step (withLocks g ls) c .graph)
   pub lists : (cs : List Call) → NoneRewires cs → InStep (λ g. answers (withLocks g ls) cs) (λ g. run (withLocks g ls) cs .graph)
   -- and every list with majority and finder calls among them, by what belongs to the graphs, and by the locks

@@ -1,4 +1,4 @@
--- What one call of a list does, of each of the seven kinds. From the laws of calls (crates moves, many, rounds and hidden).
+-- What one call of a list does, of each of the eight kinds. From the laws of calls (crates moves, many, rounds, hidden and resistive).
 use mathlib.Core.Path.{_≡_, refl, sym, ap, _∙_}
 use mathlib.Core.Bool.{Bool, true, false, true≢false, cond}
 use mathlib.Core.Logic.{⊎-elim, _≢_}
@@ -21,20 +21,23 @@ use Rattle.graph.proofs.Answers.{accepted-locked}
 use Rattle.moves.specs.Apply.{put, apply}
 use Rattle.moves.specs.Apply as choices
 use Rattle.moves.specs.Tree.{tree}
-use Rattle.moves.specs.Call.{moved, rewrite, nodeFault, wordFault, rootFault, scratchFault, isNode, namedBy, nodeNumber, nodeCall, pairNumber, pairRewrite, pairCall, treeNumber, treeCall}
+use Rattle.moves.specs.Call.{moved, rewriteBy, rewrite, nodeFault, wordFault, rootFault, scratchFault, isNode, namedBy, nodeNumber, nodeCall, pairNumber, pairRewrite, pairCall, treeNumber, treeCall}
 use Rattle.moves.proofs.Kept.{Stays, stays-none, apply-stays, best-lowest}
+use Rattle.moves.proofs.Split.{split-whole}
 use Rattle.many.specs.Many.{manyNumber, manyCall}
 use Rattle.many.proofs.EveryOrder.{every-order}
 use Rattle.rounds.specs.Settle.{settle, settled, settleNumber, settleCall}
 use Rattle.rounds.proofs.Calls.{Honest, node-honest, pair-honest, tree-honest}
 use Rattle.rounds.proofs.Rounds.{settle-ended}
+use Rattle.resistive.specs.Resistive.{bestStill, resistiveCall}
+use Rattle.resistive.proofs.Meaning.{most-single}
 use Rattle.hidden.specs.Truth.{Triple, leak, truth}
 use Rattle.hidden.specs.Majority.{isMajority}
 use Rattle.hidden.specs.Keeps as hidden
 use Rattle.hidden.specs.Call.{tripleFault, majorityNumber, majorityOutcome, majorityCall, findNumber, found, findCall}
 use Rattle.hidden.proofs.MajorityCall.{node-is, rising-is, outcome-same, outcome-number}
 use Rattle.hidden.proofs.FindCall.{found-finds}
-use Rattle.promises.specs.Demand.{Call, nodeAt, pairAt, treeAt, settling, manyAt, majorityAt, finding, Locked, withLocks, beside, step, left, fault, rewires, Least, Beside, Made}
+use Rattle.promises.specs.Demand.{Call, nodeAt, pairAt, treeAt, settling, manyAt, majorityAt, finding, resistiveAt, Locked, withLocks, beside, step, left, fault, rewires, Least, Beside, Made}
 
 -- a call guarded by k, that else answers a without a fault
 module _ (g : Graph) (o : Outcome) (fine : o .answer .number ≡ 0) where
@@ -95,6 +98,7 @@ saves-none d (settling scratch) e = absurd (true≢false (sym e))
 saves-none d (manyAt us ms) e = absurd (true≢false (sym e))
 saves-none d (majorityAt u t scratch) e = majority-none (d .graph) (d .locks) (majorityNumber (d .graph) (d .locks) (length scratch) t u) u t
 saves-none d (finding scratch) e = finding-none (d .graph) (d .locks) (findNumber (d .graph) (d .locks) (length scratch))
+saves-none d (resistiveAt r scratch) e = absurd (true≢false (sym e))
 
 -- an admitted graph with its locks is refused by nothing but the call's own fault
 passed : (g : Graph) → Admitted g → (ls : List ℕ) → LockBytes (g .N) ls → (k : ℕ) → first (admissionNumber g ls) k ≡ k
@@ -208,6 +212,12 @@ module _ (d : Locked) (adm : Admitted (d .graph)) (ok : LockBytes (d .graph .N) 
   finding-made scratch =
       made-locked (finding scratch) (findNumber g ls (length scratch)) (found g ls) refl refl (finding-passed scratch) (λ z. (found-finds g ls adm ok .read, refl))
 
+  resistive-made : (r : ℕ) (scratch : List ℕ) → Made d (resistiveAt r scratch)
+  unfolding resistiveCall treeNumber
+  resistive-made r scratch =
+      made (resistiveAt r scratch) (treeNumber g ls (length scratch) r) (rewriteBy g (tree g r) (bestStill g ls r)) refl refl
+      (passed g adm ls ok (fault d (treeAt r scratch))) (λ z. most-single g ls r adm)
+
   pub call-made : (c : Call) → Made d c
   call-made (nodeAt u) = node-made u
   call-made (pairAt u k) = pair-made u k
@@ -216,6 +226,7 @@ module _ (d : Locked) (adm : Admitted (d .graph)) (ok : LockBytes (d .graph .N) 
   call-made (manyAt us ms) = many-made us ms
   call-made (majorityAt u t scratch) = majority-made u t scratch
   call-made (finding scratch) = finding-made scratch
+  call-made (resistiveAt r scratch) = resistive-made r scratch
 
   -- what a call keeps, and that its numbers are together what C falls by
   record Kind (o : Outcome) : Type 0 where
@@ -248,6 +259,13 @@ module _ (d : Locked) (adm : Admitted (d .graph)) (ok : LockBytes (d .graph .N) 
       let h = apply g (put choices.none us ms) in
       guarded-kind (manyNumber g ls us ms) (outcome (whole (difference (C g) (C h))) h) (λ z. record { keeps = apply-stays g (put choices.none us ms) adm; adds = alone (C g) (C h) })
 
+  resistive-kind : (r : ℕ) (scratch : List ℕ) → Kind (resistiveCall g ls (length scratch) r)
+  unfolding resistiveCall moved
+  resistive-kind r scratch =
+      let ch = put choices.none (tree g r) (bestStill g ls r) in
+      guarded-kind (treeNumber g ls (length scratch) r) (rewriteBy g (tree g r) (bestStill g ls r))
+      (λ z. record { keeps = apply-stays g ch adm; adds = split-whole (tree g r) g (apply g ch) })
+
   -- the same of a call of the list, which leaves the locks
   pub record Keeps (c : Call) : Type 0 where
     pub stays : Stays g (step d c .graph)
@@ -272,6 +290,7 @@ module _ (d : Locked) (adm : Admitted (d .graph)) (ok : LockBytes (d .graph .N) 
   call-keeps (manyAt us ms) h = keeps (manyAt us ms) (many-kind us ms) refl
   call-keeps (majorityAt u t scratch) h = left-keeps (majorityAt u t scratch) (saves-none d (majorityAt u t scratch) refl) (h refl)
   call-keeps (finding scratch) h = left-keeps (finding scratch) (saves-none d (finding scratch) refl) (h refl)
+  call-keeps (resistiveAt r scratch) h = keeps (resistiveAt r scratch) (resistive-kind r scratch) refl
 
   -- what every call keeps: inputs, outputs and their values, an admitted graph and its locks; and N does not grow
   pub record Holds (c : Call) : Type 0 where
@@ -314,6 +333,7 @@ module _ (d : Locked) (adm : Admitted (d .graph)) (ok : LockBytes (d .graph .N) 
       (λ z.
       let m = majority-same u t scratch z in
       (ap (beside d) (guarded-accepted g (majorityOutcome g t u) (outcome-number g t u) (majorityNumber g ls (length scratch) t u) (majority-passed u t scratch ∙ z)), m .keeps, rw (m .nodes) ok))
+  call-holds (resistiveAt r scratch) = still-holds (resistiveAt r scratch) refl
   call-holds (finding scratch) =
       rewired-holds (finding scratch) (found g ls)
       (λ z.

@@ -12,6 +12,7 @@ promises =
       after-import = after-import;
       worked-graphs = worked.graphs;
       worked-list = worked.there-and-back;
+      worked-loss = worked.lost-and-won;
       worked-trials = worked.trials;
       found-again = found-again;
     }

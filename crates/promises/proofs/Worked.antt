@@ -1,4 +1,4 @@
--- The worked rows, list of calls and trials hold of the definitions: by computation.
+-- The worked rows, lists of calls and trials hold of the definitions: by computation.
 use mathlib.Core.Path.{refl}
 use mathlib.Core.List.{flatMap}
 use Rattle.graph.specs.Finite.{tab, sum, count, ifLess, ifEqual, first, firstOf, difference}
@@ -15,7 +15,8 @@ use Rattle.moves.specs.Call.{moved, movedC, bestAt, rewrite, isNode, nodeFault,
 use Rattle.many.specs.Many.{risingFault, entryNumber, listNumber, manyNumber, manyCall}
 use Rattle.rounds.specs.Round.{start, after, each, treeAt, nodeAt, pairAt, pairsAt, round}
 use Rattle.rounds.specs.Settle.{settleIn, settle, settleNumber, settleCall}
-use Rattle.promises.specs.Worked.{WorkedGraphs, ThereAndBack, WorkedTrials}
+use Rattle.resistive.specs.Resistive.{oddInputs, single, singles, key, stillMoves, stillAt, bestStill, resistiveCall}
+use Rattle.promises.specs.Worked.{WorkedGraphs, ThereAndBack, LostAndWon, WorkedTrials}
 use Rattle.graph.specs.Literals.{bitOf, held, strays}
 
 pub graphs : WorkedGraphs
@@ -26,6 +27,10 @@ graphs =
 pub there-and-back : ThereAndBack
 unfolding flatMap tab sum count ifLess ifEqual first firstOf turn isXor isEdge adds wordAdds nodeAdds outputAdds C named outputNamed nodeReaders readers tablesNumber roomNumber wordNumber outputNumber literalNumber lockNumber locksNumber contentNumber admissionNumber guarded from choices unlessLess least best rows firstRow arity flag kindMoves lockAt movesAt at put seen own turns outputTurns turnedTable turnedBy apply isRoot last place reader rootIn rootOf members tree moved movedC bestAt rewrite isNode nodeFault wordFault rootFault scratchFault nodeNumber nodeCall namedBy pairNumber pairRewrite pairCall treeNumber treeCall difference among ownAdds otherAdds split start after each treeAt nodeAt pairAt pairsAt round settleIn settle settleNumber settleCall risingFault moveFault lockedFault moveNumber entryNumber listNumber manyNumber manyCall held strays bitOf straysNumber strayNumber
 there-and-back = (refl, refl)
+
+pub lost-and-won : LostAndWon
+unfolding flatMap tab sum count ifLess ifEqual first firstOf turn isXor isEdge adds wordAdds nodeAdds outputAdds C named outputNamed nodeReaders readers tablesNumber roomNumber wordNumber outputNumber literalNumber lockNumber locksNumber contentNumber admissionNumber guarded from choices unlessLess least best rows firstRow arity flag kindMoves lockAt movesAt at put seen own turns outputTurns turnedTable turnedBy apply isRoot last place reader rootIn rootOf members tree moved movedC bestAt rewrite isNode nodeFault rootFault scratchFault treeNumber treeCall difference among ownAdds otherAdds split oddInputs single singles key stillMoves stillAt bestStill resistiveCall held strays bitOf straysNumber strayNumber
+lost-and-won = (refl, refl)
 
 pub trials : WorkedTrials
 unfolding flatMap tab sum ifLess ifEqual first firstOf turn isXor isEdge adds wordAdds nodeAdds outputAdds C difference tablesNumber roomNumber wordNumber outputNumber literalNumber lockNumber locksNumber contentNumber admissionNumber from choices rows firstRow arity flag kindMoves lockAt at put seen own turns outputTurns turnedTable turnedBy apply moved movedC isNode nodeFault wordFault moveFault lockedFault moveNumber namedBy pairNumber unless trialNumber trialSaving trialCall count held strays bitOf straysNumber strayNumber

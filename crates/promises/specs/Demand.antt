@@ -1,9 +1,10 @@
--- Demand 3, over every list of node, pair, tree, settling, many, majority and finder calls.
+-- Demand 3, over every list of node, pair, tree, settling, many, majority and finder calls, and calls on a tree for resistive memory.
 use Rattle.graph.specs.All.{ℕ, _+_, _-_, _≤_, _<_, Bool, true, false, _≡_, List, [], _∷_, _++_, map, Perm, length, ℤ, pos, _+ℤ_, ifLess, first, Graph, node, wiring, Assignment, value, outputValue, C, Admitted, LockBytes, Outcome, LockedOutcome, lockedOutcome, savingOf}
 use Rattle.choice.specs.All.{Fits}
 use Rattle.moves.specs.All.{movesAt, tree, moved, isNode, namedBy, nodeFault, wordFault, rootFault, scratchFault, nodeCall, pairCall, treeCall}
 use Rattle.many.specs.All.{Entry, entries, oneByOne, listNumber, manyCall}
 use Rattle.rounds.specs.All.{settle, settleCall, NothingLowers}
+use Rattle.resistive.specs.All.{resistiveCall, MostSingle}
 use Rattle.hidden.specs.All.{Triple, AllRead, tripleFault, lockFault, majorityCall, findCall}
 
 -- a call, with whatever nodes, word, moves and scratch it is given
@@ -15,6 +16,7 @@ pub data Call : Type 0 where
   manyAt : (nodes moves : List ℕ) → Call
   majorityAt : (node : ℕ) (of : Triple) (scratch : List ℕ) → Call
   finding : (scratch : List ℕ) → Call
+  resistiveAt : (root : ℕ) (scratch : List ℕ) → Call
 
 -- a graph with its locks
 pub record Locked : Type 0 where
@@ -36,6 +38,7 @@ step d (settling scratch) = beside d (settleCall (d .graph) (d .locks) (length s
 step d (manyAt us ms) = beside d (manyCall (d .graph) (d .locks) us ms)
 step d (majorityAt u t scratch) = beside d (majorityCall (d .graph) (d .locks) (length scratch) t u)
 step d (finding scratch) = findCall (d .graph) (d .locks) (length scratch)
+step d (resistiveAt r scratch) = beside d (resistiveCall (d .graph) (d .locks) (length scratch) r)
 
 -- what it leaves for the next call
 abbrev pub left : LockedOutcome → Locked
@@ -62,6 +65,7 @@ fault d (manyAt us ms) = first (ifLess (length ms) (length us) 4 0) (listNumber 
 fault d (majorityAt u t scratch) =
     first (nodeFault (d .graph) u) (first (tripleFault t u) (first (lockFault (d .graph) (d .locks) u) (scratchFault (d .graph) (length scratch))))
 fault d (finding scratch) = scratchFault (d .graph) (length scratch)
+fault d (resistiveAt r scratch) = first (nodeFault (d .graph) r) (first (rootFault (d .graph) r) (scratchFault (d .graph) (length scratch)))
 
 -- rounds as settling reports them: those of the definition, at most the fall plus one; and the sums over their calls
 pub record RoundsReported (d : Locked) (o : LockedOutcome) : Type 0 where
@@ -75,7 +79,9 @@ Least d us o = (ms : List ℕ) → Fits (map (movesAt (d .graph) (d .locks)) us)
 
 -- what an accepted call on d promises beside: a node, pair or tree call that it is least; settling that no such choice at one node, on a
 -- pair or on a tree lowers C then; many moves that one by one, in every order, they give the graph that it left; a majority call that every
--- index keeps its value; the finder that no free node is left unread, and that it returns the new number of nodes
+-- index keeps its value; the finder that no free node is left unread, and that it returns the new number of nodes; a call for resistive
+-- memory that every choice at the tree's nodes that leaves locked nodes alone and the root's readers unturned has fewer majorities with just
+-- one complemented input, or as many and at least the C that it left
 abbrev pub Beside : Locked → Call → LockedOutcome → Type 0
 Beside d (nodeAt u) o = Least d (u ∷ []) o
 Beside d (pairAt u k) o = isNode (d .graph) (namedBy (d .graph) u k) ≡ true → Least d (namedBy (d .graph) u k ∷ u ∷ []) o
@@ -84,6 +90,7 @@ Beside d (settling scratch) o = NothingLowers (o .graph) (o .locks) × RoundsRep
 Beside d (manyAt us ms) o = (es : List Entry) → Perm (entries us ms) es → oneByOne (d .graph) es ≡ o .graph
 Beside d (majorityAt u t scratch) o = (a : Assignment) (i : ℕ) → i < node (d .graph) (d .graph .N) → value (o .graph) a i ≡ value (d .graph) a i
 Beside d (finding scratch) o = AllRead (o .graph) (o .locks) × (o .answer .values ≡ o .graph .N ∷ [])
+Beside d (resistiveAt r scratch) o = MostSingle (d .graph) (d .locks) r (o .graph)
 
 -- a call on d, the graph and the locks as the load or the call before left them
 pub record Made (d : Locked) (c : Call) : Type 0 where
@@ -102,6 +109,7 @@ rewires (settling scratch) = false
 rewires (manyAt us ms) = false
 rewires (majorityAt u t scratch) = true
 rewires (finding scratch) = true
+rewires (resistiveAt r scratch) = false
 
 -- no call of the list may
 abbrev pub NoneRewires : List Call → Type 0

@@ -2,7 +2,7 @@
 use Rattle.graph.specs.All.{ℕ, _≡_, List, Admitted, LockBytes}
 use Rattle.tagged_file.specs.All.{loadCall}
 use Rattle.aiger.specs.All.{importCall}
-use Rattle.promises.specs.{Demand.Call, Demand.Locked, Demand.left, Demand.Demand, Worked.WorkedGraphs, Worked.ThereAndBack, Worked.WorkedTrials, Found.FoundAgain}
+use Rattle.promises.specs.{Demand.Call, Demand.Locked, Demand.left, Demand.Demand, Worked.WorkedGraphs, Worked.ThereAndBack, Worked.LostAndWon, Worked.WorkedTrials, Found.FoundAgain}
 
 pub record Promises : Type 0 where
   -- whatever the list of calls: from an admitted start, and so after an accepted load and after an accepted import
@@ -12,5 +12,6 @@ pub record Promises : Type 0 where
   -- what is worked out by hand
   pub worked-graphs : WorkedGraphs
   pub worked-list : ThereAndBack
+  pub worked-loss : LostAndWon
   pub worked-trials : WorkedTrials
   pub found-again : FoundAgain

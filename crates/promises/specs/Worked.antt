@@ -1,9 +1,9 @@
--- Document 01's worked graphs P1 to P10, with P7 as request M-101 has it and two rows of that request, and P2 and P3 with locks (M-105); a
--- list of calls (M-106); and trials worked out by hand (M-103).
+-- Document 01's worked graphs P1 to P10, with P7 as request M-101 has it and two rows of that request, and P2 and P3 with locks (M-105); two
+-- lists of calls (M-106, M-109); and trials worked out by hand (M-103).
 use Rattle.graph.specs.All.{ℕ, _≡_, List, [], _∷_, map, getD, ℤ, pos, negsuc, tab, Graph, graphOf, mark, C, Answer, refused, gained, whole, LockedOutcome, lockedOutcome}
 use Rattle.choice.specs.All.{choices}
 use Rattle.moves.specs.All.{kindMoves, bestAt, namedBy, trialCall}
-use Rattle.promises.specs.Demand.{Call, nodeAt, pairAt, treeAt, settling, manyAt, Locked, withLocks, step, left, savings}
+use Rattle.promises.specs.Demand.{Call, nodeAt, pairAt, treeAt, settling, manyAt, resistiveAt, Locked, withLocks, step, left, savings}
 
 -- the call c on g with the locks ls answers vs and both numbers of its saving (M-104), and leaves h; at the nodes us the moves ms are best; C is b
 -- before and a after
@@ -74,6 +74,16 @@ ThereAndBack =
     let calls = settling scratch ∷ manyAt (4 ∷ []) (1 ∷ []) ∷ settling scratch ∷ [] in
     let there = lockedOutcome (gained (2 ∷ 4 ∷ 0 ∷ []) (pos 3) (pos 1)) p1-after (0 ∷ []) in
     (outcomes d calls ≡ there ∷ lockedOutcome (whole (negsuc 3)) p1 (0 ∷ []) ∷ there ∷ []) × (savings d calls ≡ pos 4)
+
+-- a majority below another, no edge complemented: for resistive memory the upper one gets a complemented input, which loses 4, and a tree call
+-- wins them back
+abbrev pub LostAndWon : Type 0
+LostAndWon =
+    let g = graphOf 3 2 1 (2 ∷ 4 ∷ 6 ∷ 8 ∷ 2 ∷ 4 ∷ []) (10 ∷ []) in
+    let h = graphOf 3 2 1 (3 ∷ 5 ∷ 7 ∷ 9 ∷ 2 ∷ 4 ∷ []) (10 ∷ []) in
+    let calls = resistiveAt 5 scratch ∷ treeAt 5 scratch ∷ [] in
+    (outcomes (withLocks g free) calls ≡ lockedOutcome (gained [] (negsuc 3) (pos 0)) h free ∷ lockedOutcome (gained [] (pos 4) (pos 0)) g free ∷ [])
+    × (savings (withLocks g free) calls ≡ pos 0)
 
 -- what trials at node u and the node that its word k names answer, of these moves at both, the named node's first; and of every two moves that the
 -- kinds have, by the named node's move and then by the node's
