@@ -5,6 +5,7 @@ use crate::graph::{Graph, Number};
 use crate::majority::{majority, Majority};
 use crate::many::many;
 use crate::moves::{node_call, pair_call, tree_call_by, Saving};
+use crate::resistive::resistive_call;
 use crate::settling::{settle, Settled, MOST_TRIED};
 use crate::trees::best_within;
 
@@ -14,9 +15,17 @@ pub enum Call {
     Pair(u32, u32),
     Tree(u32),
     Settle,
-    Many { list: Vec<u32>, moves: Vec<u8> },
-    Majority { node: u32, three: [u32; 3] },
+    Many {
+        list: Vec<u32>,
+        moves: Vec<u8>,
+    },
+    Majority {
+        node: u32,
+        three: [u32; 3],
+    },
     Find,
+    /// A tree for resistive memory.
+    Resistive(u32),
 }
 
 #[derive(Clone, Copy, Debug, PartialEq, Eq)]
@@ -56,6 +65,7 @@ pub fn step(g: &mut Graph, call: &Call, scratch: usize) -> Answer {
             majority(g, node, three, scratch).map_or_else(Answer::Refused, Answer::Majority)
         }
         Call::Find => find(g, scratch).map_or_else(Answer::Refused, Answer::Found),
+        Call::Resistive(root) => saving(resistive_call(g, root, scratch, MOST_TRIED)),
     }
 }
 

@@ -22,6 +22,7 @@ pub mod preview;
 pub mod random;
 pub mod replay;
 pub mod report;
+pub mod resistive;
 pub mod settling;
 pub mod trees;
 pub mod vectors;
@@ -44,6 +45,8 @@ mod many_tests;
 mod packed_tests;
 #[cfg(test)]
 mod preview_tests;
+#[cfg(test)]
+mod resistive_tests;
 #[cfg(test)]
 mod saving_tests;
 #[cfg(test)]

@@ -262,10 +262,10 @@ fn parts_of_a_list() {
         assert_eq!(calls(&outside, &list, &moves), Err(105), "{outside:?}");
     }
     // Left over first; then call by call, the kind before the part.
-    assert_eq!(calls(&[7, 0, 0, 4], &list, &moves), Err(101));
-    assert_eq!(calls(&[7, 0, 0, 4, 6, 0], &list, &moves), Err(102));
-    assert_eq!(calls(&[4, 6, 0, 7, 0, 0], &list, &moves), Err(105));
-    assert_eq!(calls(&[7, 6, 0], &list, &moves), Err(102));
+    assert_eq!(calls(&[8, 0, 0, 4], &list, &moves), Err(101));
+    assert_eq!(calls(&[8, 0, 0, 4, 6, 0], &list, &moves), Err(102));
+    assert_eq!(calls(&[4, 6, 0, 8, 0, 0], &list, &moves), Err(105));
+    assert_eq!(calls(&[8, 6, 0], &list, &moves), Err(102));
     assert_eq!(calls(&[3, 6, 9], &list, &moves), Ok(vec![Call::Settle]));
 }
 
@@ -279,7 +279,7 @@ fn triples_of_a_list() {
         assert_eq!(calls(&[5, 7, start], &list, &[]), Err(105), "{start}");
     }
     assert_eq!(calls(&[6, 9, 9], &[], &[]), Ok(vec![Call::Find]));
-    assert_eq!(calls(&[7, 0, 0], &list, &[]), Err(102));
+    assert_eq!(calls(&[8, 0, 0], &list, &[]), Err(102));
 }
 
 /// The import of the export of one majority: a call that makes none, the finder, settling on the one node that is left, and a call at a

@@ -45,6 +45,7 @@ fn decoded(words: Words, call: &[u32]) -> Result<Call, Number> {
         [4, start, count] => part(words, start, count),
         [5, node, start] => triple(words, node, start),
         [6, _, _] => Ok(Call::Find),
+        [7, root, _] => Ok(Call::Resistive(root)),
         _ => Err(102),
     }
 }

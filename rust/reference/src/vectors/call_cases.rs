@@ -288,7 +288,7 @@ fn spoil(case: &mut Case, way: usize) {
     match way {
         0 => case.calls.push(0),
         1 => drop(case.calls.pop()),
-        2 => case.calls[57] = 7,
+        2 => case.calls[57] = 8,
         3 => case.calls[0] = MARK,
         4 => case.result = 59,
         5 => case.result = 0,

@@ -22,6 +22,7 @@ pub const SETTLE: u32 = 11;
 pub const MANY: u32 = 12;
 pub const MAJORITY: u32 = 13;
 pub const FIND: u32 = 14;
+pub const RESISTIVE: u32 = 15;
 
 #[derive(Clone)]
 pub struct Case {
@@ -72,6 +73,7 @@ impl Case {
             MANY => Some([4, 0, self.list.len() as u32]),
             MAJORITY => Some([5, self.x, 0]),
             FIND => Some([6, 0, 0]),
+            RESISTIVE => Some([7, self.x, 0]),
             _ => None,
         }
     }

@@ -111,6 +111,7 @@ pub fn changes(case: &Case) -> bool {
             node: case.x,
             three: [first, second, third],
         },
+        (RESISTIVE, _) => Call::Resistive(case.x),
         _ => Call::Find,
     };
     let mut g = case.g.clone();

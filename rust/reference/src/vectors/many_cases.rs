@@ -154,7 +154,7 @@ pub fn many_list_cases(random: &mut Random) -> Vec<Case> {
             2 => call(&mut case, 7, [4, length, 1]),
             3 => call(&mut case, 7, [4, MARK, 1]),
             4 => call(&mut case, 7, [4, 1, MARK]),
-            5 => call(&mut case, 7, [7, 0, 0]),
+            5 => call(&mut case, 7, [8, 0, 0]),
             6 => call(&mut case, 7, [4, length, 0]),
             7 => call(&mut case, 7, [4, 0, length]),
             8 => case.moves.clear(),

@@ -7,7 +7,7 @@
 //! before all this, and writing the length after the values. A list of calls shows how many words of answers it has there. A list
 //! that is not replayed has the number 1, and shows scratch before that.
 //!
-//! The program makes a node, pair, tree, settling, many or majority call, and the finder, as a list of one; on graphs that no file has, with scratch looked at after a
+//! The program makes a node, pair, tree, settling, many, majority or resistive call, and the finder, as a list of one; on graphs that no file has, with scratch looked at after a
 //! refusal, and evaluation, the same cases are run through the C interface, by rust/differential.
 
 use crate::random::Random;
@@ -17,6 +17,7 @@ use case::Case;
 use file_cases::*;
 use hidden_cases::*;
 use many_cases::*;
+use resistive_cases::*;
 
 pub mod answer;
 pub mod bit_cases;
@@ -25,6 +26,7 @@ pub mod case;
 pub mod file_cases;
 pub mod hidden_cases;
 pub mod many_cases;
+pub mod resistive_cases;
 pub mod samples;
 
 /// The cases of the program, and those of single calls and evaluation.
@@ -55,6 +57,12 @@ pub fn cases(seed: u64) -> (Vec<Case>, Vec<Case>) {
     stored.extend(changing.filter_map(Case::as_list));
     stored.extend(hidden_list_cases(other));
     direct.extend(hidden);
+    let other = &mut Random::new(seed + 2);
+    let resistive = resistive_cases(other);
+    let changing = resistive.iter().filter(|case| changes(case));
+    stored.extend(changing.filter_map(Case::as_list));
+    stored.extend(resistive_list_cases(other));
+    direct.extend(resistive);
     let mut lengthen = |cases: Vec<Case>| -> Vec<Case> {
         let all = cases.into_iter();
         all.map(|case| case.lengthened(&mut random)).collect()
