@@ -126,7 +126,7 @@ fn number_of<T>(answer: Result<T, u32>) -> u32 {
 }
 
 /// The number that every entry answers, each with the one that it is due where there is no fault.
-fn numbers(p: &Packed) -> Result<[(u32, u32); 11], String> {
+fn numbers(p: &Packed) -> Result<[(u32, u32); 12], String> {
     let (nodes, outputs) = (p.nodes as usize, p.outputs as usize);
     let (node, free, lost) = (INPUTS + 1, of_node(p.nodes), Saving::default());
     let mut bytes = vec![0xee; 40_000];
@@ -143,6 +143,7 @@ fn numbers(p: &Packed) -> Result<[(u32, u32); 11], String> {
         (step(Call::Tree(node))?, free),
         (step(Call::Settle)?, 0),
         (step(Call::Many { list: vec![], moves: vec![] })?, 0),
+        (step(Call::Resistive(node))?, free),
     ];
     let readings = [
         (number_of(raw::count(p)?), 0),
@@ -152,9 +153,9 @@ fn numbers(p: &Packed) -> Result<[(u32, u32); 11], String> {
         (number_of(raw::trial(p, (node, 1), (1, 1))?), free),
         (number_of(raw::preview(p, node, &mut vec![3; nodes], 8 * nodes)?), free),
     ];
-    let mut all = [(0, 0); 11];
-    all[..5].copy_from_slice(&steps);
-    all[5..].copy_from_slice(&readings);
+    let mut all = [(0, 0); 12];
+    all[..6].copy_from_slice(&steps);
+    all[6..].copy_from_slice(&readings);
     Ok(all)
 }
 

@@ -30,16 +30,17 @@ enum Which {
     Pair,
     Trial,
     Tree,
+    Resistive,
     Settle,
 }
 
 use Which::*;
 
-const ALL: &[Which] = &[Count, Write, Export, Evaluate, Node, Pair, Trial, Tree, Settle];
+const ALL: &[Which] = &[Count, Write, Export, Evaluate, Node, Pair, Trial, Tree, Resistive, Settle];
 /// Those that name a node, a word, and those that need scratch or a buffer.
-const OF_NODES: &[Which] = &[Node, Pair, Trial, Tree];
+const OF_NODES: &[Which] = &[Node, Pair, Trial, Tree, Resistive];
 const OF_WORDS: &[Which] = &[Pair, Trial];
-const WITH_SCRATCH: &[Which] = &[Export, Evaluate, Tree, Settle];
+const WITH_SCRATCH: &[Which] = &[Export, Evaluate, Tree, Resistive, Settle];
 const WRITING: &[Which] = &[Write, Export];
 
 const ORDER: [u32; 7] = [3, 4, 5, 13, 7, 8, 9];
@@ -83,7 +84,7 @@ static FAULTS: [&[Fault]; 9] = [
         (7, OF_NODES, |asked| asked.node = 2),
         (7, OF_NODES, |asked| asked.node = MARK),
         // A node that another reads.
-        (7, &[Tree], |asked| asked.node = 3),
+        (7, &[Tree, Resistive], |asked| asked.node = 3),
     ],
     &[(7, OF_WORDS, |asked| asked.word = 0), (7, OF_WORDS, |asked| asked.word = 4)],
     &[(8, WITH_SCRATCH, |asked| asked.missing = 1)],
@@ -124,6 +125,7 @@ fn number(which: Which, asked: &Asked) -> Result<u32, String> {
         Node => return stepped(g, Call::Node(*node), 0),
         Pair => return stepped(g, Call::Pair(*node, *word), 0),
         Tree => return stepped(g, Call::Tree(*node), scratch(24)),
+        Resistive => return stepped(g, Call::Resistive(*node), scratch(24)),
         Settle => return stepped(g, Call::Settle, scratch(24)),
     };
     Ok(answer.err().unwrap_or(0))

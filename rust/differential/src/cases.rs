@@ -30,6 +30,7 @@ impl Step {
             Call::Many { ref list, ref moves } => many_without(list, moves, gone),
             Call::Majority { node, three } => Call::Majority { node: lower(node), three: three.map(lower) },
             Call::Find => Call::Find,
+            Call::Resistive(v) => Call::Resistive(lower(v)),
         };
         Step { call, ..*self }
     }

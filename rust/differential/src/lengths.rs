@@ -65,7 +65,9 @@ fn with_tables(g: &Graph) -> Vec<Packed> {
 pub fn check_calls(g: &Packed, call: &Call) -> Result<u64, String> {
     let mut done = 0;
     let scratches: Vec<usize> = match call {
-        Call::Tree(_) | Call::Settle | Call::Majority { .. } | Call::Find => around(8 * g.nodes as usize).collect(),
+        Call::Tree(_) | Call::Settle | Call::Majority { .. } | Call::Find | Call::Resistive(_) => {
+            around(8 * g.nodes as usize).collect()
+        }
         _ => vec![0],
     };
     for scratch in scratches {

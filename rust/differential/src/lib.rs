@@ -24,6 +24,7 @@ pub mod previews;
 pub mod raw;
 pub mod replay_faults;
 pub mod replays;
+pub mod resistive;
 pub mod savings;
 pub mod shrink;
 pub mod stored;

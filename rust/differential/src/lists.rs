@@ -59,7 +59,8 @@ pub fn random_call(random: &mut Random, g: &Graph) -> Call {
     match random.below(10) {
         0 | 1 => Call::Node(node),
         2 | 3 => Call::Pair(node, if random.one_in(10) { random.below(6) } else { random.between(1, 3) }),
-        4..=6 => Call::Tree(node),
+        4 | 5 => Call::Tree(node),
+        6 => Call::Resistive(node),
         7 => Call::Settle,
         _ => random_many(random, g),
     }
@@ -193,6 +194,7 @@ pub fn plain_step(g: &mut Packed, call: &Call, scratch: usize) -> Answer {
         Call::Many { ref list, ref moves } => {
             plain::many::many(t, list, moves).map_or_else(Answer::Refused, Answer::Total)
         }
+        Call::Resistive(root) => saving(plain::resistive::resistive_call(t, root, scratch)),
     }
 }
 

@@ -226,6 +226,14 @@ pub fn tree(g: &mut Packed, root: u32, scratch: usize) -> Answered<Saving> {
     saved(number, saving)
 }
 
+pub fn resistive(g: &mut Packed, root: u32, scratch: usize) -> Answered<Saving> {
+    let mut saving = [SIGNED_CANARY; 2];
+    let mut lent = vec![CANARY; scratch];
+    let number = turn(g, |g| on_graph!(reducer_resistive, g, root, lent.as_mut_ptr(), lent.len(), &mut saving))?;
+    left("scratch", number, &vec![CANARY; scratch], &lent)?;
+    saved(number, saving)
+}
+
 pub fn preview(g: &Packed, root: u32, moves: &mut [u8], scratch: usize) -> Answered<Saving> {
     let (before, mut saving) = (moves.to_vec(), [SIGNED_CANARY; 2]);
     let mut lent = vec![CANARY; scratch];
@@ -344,6 +352,7 @@ pub fn step(g: &mut Packed, call: &Call, scratch: usize) -> Result<Answer, Strin
             Err(number) => Err(number),
         },
         Call::Find => find(g, scratch)?.map(Answer::Found),
+        Call::Resistive(root) => resistive(g, root, scratch)?.map(Answer::Saving),
     };
     Ok(answer.unwrap_or_else(Answer::Refused))
 }

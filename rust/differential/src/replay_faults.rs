@@ -27,9 +27,9 @@ fn call(asked: &mut Asked, at: usize, words: [u32; 3]) {
 
 /// Faults of one thing each, in the order in which they are told: no two of a list can be had together.
 static FAULTS: [&[Fault]; 8] = [
-    &[(101, |asked| asked.calls.push(0)), (101, |asked| asked.calls.extend([7, 0]))],
+    &[(101, |asked| asked.calls.push(0)), (101, |asked| asked.calls.extend([8, 0]))],
     &[
-        (102, |asked| call(asked, 0, [7, 0, 0])),
+        (102, |asked| call(asked, 0, [8, 0, 0])),
         (102, |asked| call(asked, 0, [MARK, 9, 9])),
         (105, |asked| call(asked, 0, [4, 0, 4])),
         (105, |asked| call(asked, 0, [4, 4, 0])),
@@ -38,13 +38,13 @@ static FAULTS: [&[Fault]; 8] = [
         (105, |asked| call(asked, 0, [5, 0, MARK])),
     ],
     &[
-        (102, |asked| call(asked, 1, [8, 0, 0])),
+        (102, |asked| call(asked, 1, [9, 0, 0])),
         (105, |asked| call(asked, 1, [4, 3, 1])),
         (105, |asked| call(asked, 1, [4, MARK, 1])),
         (105, |asked| call(asked, 1, [4, MARK, MARK])),
     ],
     &[
-        (102, |asked| call(asked, 2, [7, 4, 4])),
+        (102, |asked| call(asked, 2, [8, 4, 4])),
         (105, |asked| call(asked, 2, [5, 4, 2])),
         (105, |asked| call(asked, 2, [4, 2, 2])),
         (105, |asked| call(asked, 2, [4, 0, 65_536])),

@@ -72,6 +72,7 @@ impl ReplayCase {
                 [5, node, start as u32]
             }
             Call::Find => [6, any(), any()],
+            Call::Resistive(root) => [7, root, any()],
             Call::Many { list, mut moves } => {
                 let start = self.list.len();
                 moves.resize(list.len(), 0);
@@ -150,7 +151,7 @@ fn damage(random: &mut Random, case: &mut ReplayCase, count: u32) {
     for _ in 0..2 {
         match random.below(24) {
             0 => case.words.extend((0..random.between(1, 2)).map(|_| 0)),
-            1 if count > 0 => case.words[3 * random.below(count) as usize] = random.between(7, 9),
+            1 if count > 0 => case.words[3 * random.below(count) as usize] = random.between(8, 10),
             2 if count > 0 => case.words[3 * random.below(count) as usize] = u32::MAX,
             3 if count > 0 => case.answers = random.below(3 * count) as usize,
             4 => case.answers = 0,

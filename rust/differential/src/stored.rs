@@ -4,7 +4,7 @@ use crate::lists::differ;
 use crate::raw;
 use reference::calls::Call;
 use reference::entries;
-use reference::vectors::case::{Case, EVALUATE, FIND, MAJORITY, MANY, NODE, PAIR, TREE};
+use reference::vectors::case::{Case, EVALUATE, FIND, MAJORITY, MANY, NODE, PAIR, RESISTIVE, TREE};
 use reference::vectors::{cases, SEED};
 
 fn check_evaluation(case: &Case) -> Result<(), String> {
@@ -24,6 +24,7 @@ fn check_call(case: &Case) -> Result<(), String> {
         MANY => Call::Many { list: case.list.clone(), moves: case.moves.clone() },
         MAJORITY => Call::Majority { node: case.x, three: [case.list[0], case.list[1], case.list[2]] },
         FIND => Call::Find,
+        RESISTIVE => Call::Resistive(case.x),
         _ => Call::Settle,
     };
     let (mut got, mut due) = (case.g.clone(), case.g.clone());

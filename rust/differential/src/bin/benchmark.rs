@@ -4,6 +4,8 @@ use differential::timing::families::{Family, FAMILIES, HARD};
 use differential::timing::found;
 use differential::timing::races::{call, time, Call, Figure, Side};
 use differential::timing::samples::Sample;
+use differential::timing::single::race;
+use differential::timing::woods::WOODS;
 use differential::timing::{plain, proved, LEAST_RUNS, SHAPES, SIZES, SPREAD};
 use reference::generate::Shape;
 use reference::packed::Packed;
@@ -138,6 +140,35 @@ fn found() {
     }
 }
 
+/// Calls for resistive memory: their rows, each with so many trees of so many nodes.
+const RESISTIVE: [(&str, u32, u32); 2] = [("resistive, one tree", 1, 100_000), ("resistive, many trees", 1_000, 100)];
+
+const SINGLE_HEAD: &str =
+    "\n| call | graph | nodes | proved, ms | plain, ms | proved, ns a node | plain, ns a node | ratio |\n|---|---|---|---|---|---|---|---|";
+
+/// So many calls on a graph of so many nodes, which took these times together.
+fn print_single(call: &str, graph: &str, nodes: u32, calls: usize, times: [f64; 2]) {
+    let [ours, theirs] = times.map(|time| time / calls as f64);
+    let a_node = |time: f64| time / f64::from(nodes);
+    println!(
+        "| {call} | {graph} | {nodes} | {:.2} | {:.2} | {:.1} | {:.1} | {:.2} |",
+        ours / 1e6,
+        theirs / 1e6,
+        a_node(ours),
+        a_node(theirs),
+        ours / theirs,
+    );
+}
+
+fn resistive(call: &str, trees: u32, nodes: u32) {
+    println!("{SINGLE_HEAD}");
+    for wood in &WOODS {
+        let fresh = wood.sample(trees, nodes);
+        let times = race(wood.name, &fresh, [proved::resistive, plain::resistive], |sample| sample.g);
+        print_single(call, wood.name, fresh.g.nodes, fresh.roots.len(), times);
+    }
+}
+
 const BEFORE: &str = "before";
 
 const HEAD: &str = "| call | graph | nodes | proved, µs | plain, µs | proved, ns a node | plain, ns a node | \
@@ -169,6 +200,9 @@ fn main() {
     }
     if chosen(FIND) {
         found();
+    }
+    for (call, trees, nodes) in RESISTIVE.into_iter().filter(|row| chosen(row.0)) {
+        resistive(call, trees, nodes);
     }
     if chosen(BEFORE) {
         before_and_after();

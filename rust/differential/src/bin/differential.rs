@@ -10,7 +10,7 @@ use differential::extremes::{self, EXTREMES, LOCKED};
 use differential::shrink::{hold, Check};
 use differential::{
     bit_faults, call_faults, exports, faults, files, hidden, hidden_faults, lengths, lists, lock_fields, many,
-    many_faults, preview_faults, previews, raw, replay_faults, replays, savings, stored, text_limits, texts,
+    many_faults, preview_faults, previews, raw, replay_faults, replays, resistive, savings, stored, text_limits, texts,
     trial_faults, trials, words,
 };
 use reference::calls::Call;
@@ -21,7 +21,7 @@ use reference::random::Random;
 /// What one kind of test does with a seed: how many cases it tried, or what failed.
 type Kind = (&'static str, u64, fn(u64) -> Result<u64, String>);
 
-const KINDS: [Kind; 49] = [
+const KINDS: [Kind; 55] = [
     ("stored cases of single calls and evaluation", 1, stored),
     ("the plain implementation, lists of calls", 30_000, plain_lists),
     ("lists of calls on small graphs", 80_000, small_lists),
@@ -71,6 +71,12 @@ const KINDS: [Kind; 49] = [
     ("hidden majorities in longer graphs", 300, hidden_longer),
     ("hidden majorities with every choice of faults of known numbers", 1, faulty_hidden),
     ("hidden majorities on thousands of nodes", 60, hidden_large),
+    ("the plain implementation, trees for resistive memory", 8_000, plain_resistive),
+    ("the plain implementation, longer trees for resistive memory", 40, plain_resistive_longer),
+    ("trees for resistive memory", 8_000, resistive_small),
+    ("trees of hundreds of nodes for resistive memory", 300, resistive_deep),
+    ("trees for resistive memory on thousands of nodes", 12, resistive_large),
+    ("trees for resistive memory at the limits", EXTREMES.len() as u64, resistive_at_limits),
 ];
 
 fn stored(_: u64) -> Result<u64, String> {
@@ -376,6 +382,41 @@ fn hidden_large(seed: u64) -> Result<u64, String> {
     hidden::check_family(seed).map_err(|wrong| format!("seed {seed}: {wrong}"))
 }
 
+fn held_resistive(seed: u64, most_nodes: u32, check: &Check<Case>) -> Result<u64, String> {
+    let case = resistive::random_case(seed, most_nodes);
+    let count = case.steps.len() as u64;
+    hold(seed, case, check)?;
+    Ok(count)
+}
+
+fn plain_resistive(seed: u64) -> Result<u64, String> {
+    held_resistive(seed, 9, &hidden::check_plain)
+}
+
+fn plain_resistive_longer(seed: u64) -> Result<u64, String> {
+    held_resistive(seed, 60, &hidden::check_plain)
+}
+
+fn resistive_small(seed: u64) -> Result<u64, String> {
+    held_resistive(seed, 9, &resistive::check_calls)
+}
+
+fn resistive_deep(seed: u64) -> Result<u64, String> {
+    resistive::check_large(&previews::deep(seed), seed).map_err(|wrong| format!("seed {seed}: {wrong}"))
+}
+
+fn resistive_large(seed: u64) -> Result<u64, String> {
+    resistive::check_large(&large_graph(&mut Random::new(seed), seed), seed)
+        .map_err(|wrong| format!("seed {seed}: {wrong}"))
+}
+
+fn resistive_at_limits(seed: u64) -> Result<u64, String> {
+    let Some(extreme) = EXTREMES.get(seed as usize) else { return Ok(0) };
+    let check = |locked| resistive::check_large(&extreme.graph(seed, locked), seed);
+    let checked: Result<Vec<u64>, String> = LOCKED.into_iter().map(check).collect();
+    checked.map(|counts| counts.iter().sum()).map_err(|wrong| format!("seed {seed}: {}: {wrong}", extreme.name))
+}
+
 fn run(kind: &Kind, only: Option<u64>) -> Result<u64, String> {
     let (name, seeds, test) = *kind;
     let start = Instant::now();
@@ -414,7 +455,7 @@ fn main() -> ExitCode {
     if only.is_none() {
         let met = all_met().and_then(|()| trials::all_met()).and_then(|()| savings::all_met());
         let met = met.and_then(|()| previews::all_met()).and_then(|()| many::all_met());
-        if let Err(wrong) = met.and_then(|()| hidden::all_met()) {
+        if let Err(wrong) = met.and_then(|()| hidden::all_met()).and_then(|()| resistive::all_met()) {
             println!("{wrong}");
             failed += 1;
         }

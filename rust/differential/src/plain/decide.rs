@@ -91,9 +91,9 @@ impl Numbers {
 
 /// What is saved in all, in its two parts: of the edges outside only readers of the nodes named change, and `odd` of them are
 /// complemented before and after.
-pub fn parted(saved: u32, odd: [u32; 2]) -> Saving {
+pub fn parted(saved: impl Into<i64>, odd: [u32; 2]) -> Saving {
     let others = i64::from(odd[0]) - i64::from(odd[1]);
-    Saving { own: i64::from(saved) - others, others }
+    Saving { own: saved.into() - others, others }
 }
 
 /// The first least moves of a pair, what they save, and how many readers outside are complemented before and after them.

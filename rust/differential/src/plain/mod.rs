@@ -10,6 +10,7 @@ pub mod find;
 pub mod many;
 pub mod near;
 pub mod preview;
+pub mod resistive;
 pub mod settle;
 pub mod sweeps;
 pub mod tree;

@@ -23,7 +23,7 @@ pub(super) struct Kept {
     /// How much its cost, shown 0 and 1, exceeds the other: two bits.
     pub(super) costs: u32,
     /// The next node of its tree by rising index, and by falling index; at a root, the tree's lowest.
-    above: u32,
+    pub(super) above: u32,
     pub(super) below: u32,
     pub(super) lowest: u32,
 }

@@ -49,10 +49,10 @@ impl State<'_> {
             self.make(v, number);
             at = self.next(root, v);
         }
-        parted(before - self.count, [odd, self.kept[root].odd])
+        parted(i64::from(before) - i64::from(self.count), [odd, self.kept[root].odd])
     }
 
-    fn write_decided(&self, root: usize, node_bits: &mut [u64], output_bits: &mut [u64]) {
+    pub(super) fn write_decided(&self, root: usize, node_bits: &mut [u64], output_bits: &mut [u64]) {
         let mut at = Some(root);
         while let Some(v) = at {
             let turned = flags(self.is_xor(v), self.kept[v].costs);
@@ -74,16 +74,20 @@ pub(super) fn is_root(g: &View, root: u32) -> bool {
     readers_of(g, root).0 != 1 || g.outs().contains(&root)
 }
 
-pub fn tree_call(t: &mut Tables, root: u32, scratch: usize) -> Result<Saving, Number> {
-    let g = t.view();
-    admit(&g)?;
-    if !is_node(&g, root) || !is_root(&g, root) {
+/// 3, 4, 5, 13, 7, 8 in that order; else where the root is kept.
+pub(super) fn check_call(g: &View, root: u32, scratch: usize) -> Result<usize, Number> {
+    admit(g)?;
+    if !is_node(g, root) || !is_root(g, root) {
         return Err(7);
     }
     if scratch < 8 * g.nodes as usize {
         return Err(8);
     }
-    let v = (root - g.inputs - 1) as usize;
+    Ok((root - g.inputs - 1) as usize)
+}
+
+pub fn tree_call(t: &mut Tables, root: u32, scratch: usize) -> Result<Saving, Number> {
+    let v = check_call(&t.view(), root, scratch)?;
     let (mut s, node_bits, output_bits) = t.state();
     s.decide_tree(v);
     let saving = s.make_decided(v);

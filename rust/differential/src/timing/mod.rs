@@ -11,6 +11,8 @@ pub mod plain;
 pub mod proved;
 pub mod races;
 pub mod samples;
+pub mod single;
+pub mod woods;
 
 use std::time::Duration;
 

@@ -3,7 +3,10 @@
 use reference::packed::Packed;
 
 use super::samples::{as_one, part, Lent};
-use crate::plain::{aiger, calls, complemented_edges, evaluate, file, find, many, preview, settle, sweeps, tree};
+use super::woods;
+use crate::plain::{
+    aiger, calls, complemented_edges, evaluate, file, find, many, preview, resistive, settle, sweeps, tree,
+};
 use crate::tables::{filled, tables, view, wired};
 
 type Sample = super::samples::Sample<Packed>;
@@ -74,4 +77,10 @@ pub fn settle(s: &mut Sample, l: &mut Lent) -> u64 {
 /// The new N.
 pub fn find(g: &mut Packed, scratch: &mut [u32]) -> u32 {
     find::find(&mut wired(g), scratch.len()).unwrap()
+}
+
+/// At each of the roots.
+pub fn resistive(s: &mut woods::Sample) -> u64 {
+    let mut t = tables(&mut s.g);
+    s.roots.iter().map(|&v| as_one(resistive::resistive_call(&mut t, v, s.scratch.len()).unwrap())).sum()
 }

@@ -3,6 +3,7 @@
 use reference::packed::Packed;
 
 use super::samples::{as_one, part, Lent};
+use super::woods;
 use crate::interface::{filling, on_graph};
 use reducer::{Saving, Settled, MARK};
 
@@ -142,6 +143,16 @@ pub fn find(g: &mut Packed, scratch: &mut [u32]) -> u32 {
     let mut nodes = 0;
     let number = on_graph!(reducer_find, &mut *g, scratch.as_mut_ptr(), scratch.len(), &mut nodes);
     accepted(number, nodes)
+}
+
+/// At each of the roots.
+pub fn resistive(s: &mut woods::Sample) -> u64 {
+    let (g, scratch) = (&mut s.g, &mut s.scratch);
+    let mut call = |v: u32| {
+        let mut saving = [0; 2];
+        saved(on_graph!(reducer_resistive, &mut *g, v, scratch.as_mut_ptr(), scratch.len(), &mut saving), saving)
+    };
+    s.roots.iter().map(|&v| call(v)).sum()
 }
 
 /// What the calls of a round save in both parts, where each call scans the tables.
