@@ -1,5 +1,5 @@
 //! Holds the proved reducer to two other implementations, and says how much was tried. `differential SEED` tries one
-//! seed of every kind again.
+//! seed of every kind again, `differential WORDS` all seeds of the kinds whose name has these words.
 
 use std::process::ExitCode;
 use std::sync::atomic::Ordering;
@@ -440,10 +440,12 @@ fn all_met() -> Result<(), String> {
 }
 
 fn main() -> ExitCode {
-    let only = std::env::args().nth(1).map(|word| word.parse().expect("a seed is a number"));
+    let given = std::env::args().nth(1);
+    let only = given.as_ref().and_then(|word| word.parse().ok());
+    let words = given.as_ref().filter(|_| only.is_none()).map_or("", |words| words);
     let mut total = 0;
     let mut failed = 0;
-    for kind in &KINDS {
+    for kind in KINDS.iter().filter(|kind| kind.0.contains(words)) {
         match run(kind, only) {
             Ok(count) => total += count,
             Err(wrong) => {
@@ -452,7 +454,7 @@ fn main() -> ExitCode {
             }
         }
     }
-    if only.is_none() {
+    if given.is_none() {
         let met = all_met().and_then(|()| trials::all_met()).and_then(|()| savings::all_met());
         let met = met.and_then(|()| previews::all_met()).and_then(|()| many::all_met());
         if let Err(wrong) = met.and_then(|()| hidden::all_met()).and_then(|()| resistive::all_met()) {
