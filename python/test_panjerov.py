@@ -10,6 +10,7 @@ import random
 import subprocess
 import tempfile
 import threading
+import time
 import unittest
 from pathlib import Path
 
@@ -1088,8 +1089,10 @@ class Packed(unittest.TestCase):
 
         thread = threading.Thread(target=changes)
         thread.start()
-        told = set()
-        for _ in range(300):
+        told, made, end = set(), 0, time.monotonic() + 20
+        # A call that raises takes so little time that the other thread may not come to run between many of them.
+        while made < 300 or (0 not in told and time.monotonic() < end):
+            made += 1
             try:
                 graph.settle()
                 told.add(0)
