@@ -26,7 +26,7 @@
  *   The locks are a byte a node in index order, byte v for node I + 1 + v: 1 for a locked node, which must not turn, and 0 for a
  *   free one. Every function that takes a graph takes its locks after its tables and tests them, also where nothing turns. A
  *   locked node has only move 0 in every call, and the best moves are the best of those that leave locked nodes at move 0; its
- *   own words may still turn, by moves of the nodes that they name. A call may name a locked node, and a tree call a locked root;
+ *   own words may still turn, by moves of the nodes that they name. A call may name a locked node, and one on a tree a locked root;
  *   reducer_many and reducer_trial refuse a move other than 0 at one, reducer_majority refuses one, and reducer_find leaves it.
  *
  *   Moves turn bits alone. reducer_load, reducer_import and reducer_replay fill indices and locks; reducer_majority changes the
@@ -51,9 +51,9 @@
  *   A saving is two numbers, of which either may be below 0: how many complemented edges fewer there are, first among the words
  *   of the nodes that the call names, then among all other edges, words of other nodes and outputs. Together they are the
  *   complemented edges before less those after. A node call names its node, a pair call its node and the one that the word
- *   names, a tree call and its preview all nodes of the tree. A call that saves nothing has 0 for both. The saving of many moves
- *   (reducer_many) is one number. They are made as they are given, and so may leave more complemented edges than there were: the
- *   saving is then below 0.
+ *   names, a tree call, its preview and a resistive call all nodes of the tree. A call that saves nothing has 0 for both. The saving
+ *   of many moves (reducer_many) is one number. They are made as they are given, and so may leave more complemented edges than there
+ *   were: the saving is then below 0. So may a resistive call, for which fewer complemented edges come second.
  *
  * What a caller owes
  *
@@ -106,7 +106,8 @@ enum reducer_kind {
     REDUCER_SETTLE_CALL = 3,
     REDUCER_MANY_CALL = 4,
     REDUCER_MAJORITY_CALL = 5,
-    REDUCER_FIND_CALL = 6
+    REDUCER_FIND_CALL = 6,
+    REDUCER_RESISTIVE_CALL = 7
 };
 
 /*
@@ -127,7 +128,10 @@ enum reducer_number {
     REDUCER_BAD_LITERAL = 5,
     /* bytes after the end field */
     REDUCER_EXTRA_BYTES = 6,
-    /* not a node (in a list too), not a root (tree call, preview), no such word of the node, or no such triple (majority call) */
+    /*
+     * not a node (in a list too), not a root (tree call, preview, resistive call), no such word of the node, or no such triple
+     * (majority call)
+     */
     REDUCER_NO_SUCH_NODE = 7,
     /* scratch too short */
     REDUCER_SHORT_SCRATCH = 8,
@@ -149,7 +153,7 @@ enum reducer_number {
     REDUCER_MOVE_OF_LOCKED = 16,
     /* words of the list are left over: their number is not a multiple of 3 */
     REDUCER_LEFT_OVER = 101,
-    /* a call of the list has a kind above 6 */
+    /* a call of the list has a kind above 7 */
     REDUCER_UNKNOWN_KIND = 102,
     /* a many call's part, or a majority call's triple, reaches past the end of the list of nodes */
     REDUCER_PART_OUTSIDE = 105
@@ -341,6 +345,23 @@ uint32_t reducer_preview(uint32_t inputs, uint32_t nodes, uint32_t outputs,
                          uint8_t *moves, size_t moves_length,
                          uint32_t *scratch, size_t scratch_length,
                          int64_t saving[2]);
+
+/*
+ * Makes the moves of the tree of a root after which most majorities of the tree have just one complemented input, as memories of
+ * resistive cells want them. Inputs are a majority's three words, those from the constant among them; XORs do not count. The
+ * root takes only moves that leave its readers unturned: move 0, and an XOR's move 1. Of moves with equally many such majorities those
+ * with fewer complemented edges are made, of these the first in reducer_tree's order. saving[0] may be below 0, and saving[1] is
+ * always 0. Needs REDUCER_TREE_SCRATCH(nodes) words of scratch. Refusals: 3, 4, 5, 13, 7, 8.
+ */
+uint32_t reducer_resistive(uint32_t inputs, uint32_t nodes, uint32_t outputs,
+                           const uint32_t *node_table, size_t node_table_length,
+                           uint64_t *node_bits, size_t node_bits_length,
+                           const uint32_t *output_table, size_t output_table_length,
+                           uint64_t *output_bits, size_t output_bits_length,
+                           const uint8_t *locks, size_t locks_length,
+                           uint32_t root,
+                           uint32_t *scratch, size_t scratch_length,
+                           int64_t saving[2]);
 
 /*
  * Makes rounds of all tree, node and pair calls until one saves nothing. figures are the rounds made, that last one included,

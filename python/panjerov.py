@@ -8,7 +8,8 @@
 
 import_aiger and Graph.export_aiger do the same for ASCII AIGER, the text of and-inverter tools. Graph.lock locks a node that is laid
 out already: no call turns it, and its file says so. Graph.many makes moves that the caller has chosen, all of them or none.
-Graph.find finds the majorities that and-inverter tools have hidden in ANDs, and Graph.majority makes a node one.
+Graph.find finds the majorities that and-inverter tools have hidden in ANDs, and Graph.majority makes a node one. Graph.resistive_call
+chooses a tree's moves for memories of resistive cells, which want majorities with just one complemented input.
 
 Every call is one of the proved library's. A call that cannot be made raises: Refused, with the number of the refusal, where
 the library refuses it; TypeError or ValueError where an argument is not of the kind that the library takes. Either way
@@ -34,13 +35,13 @@ from typing import Iterable, Iterator, List, NamedTuple, Sequence, Tuple, Type, 
 
 __all__ = [
     "Graph", "Literals", "Majority", "Preview", "Refused", "Saving", "Settled", "Told", "load", "import_aiger", "field", "replay",
-    "NODE", "PAIR", "TREE", "SETTLE", "MANY", "MAJORITY", "FIND", "MARK", "MOST_INPUTS", "MOST_NODES", "MOST_OUTPUTS",
+    "NODE", "PAIR", "TREE", "SETTLE", "MANY", "MAJORITY", "FIND", "RESISTIVE", "MARK", "MOST_INPUTS", "MOST_NODES", "MOST_OUTPUTS",
 ]
 
 #: The third literal of an XOR node, and its third index.
 MARK = 4294967295
 #: The kinds of calls in a list.
-NODE, PAIR, TREE, SETTLE, MANY, MAJORITY, FIND = range(7)
+NODE, PAIR, TREE, SETTLE, MANY, MAJORITY, FIND, RESISTIVE = range(8)
 #: Limits of a graph.
 MOST_INPUTS = 4096
 MOST_NODES = 100000
@@ -179,6 +180,7 @@ _pair = _function("reducer_pair", _GRAPH + [_U32, _U32, ctypes.c_void_p])
 _trial = _function("reducer_trial", _GRAPH + [_U32] * 4 + [ctypes.c_void_p])
 _tree = _function("reducer_tree", _GRAPH + [_U32] + _WORDS + [ctypes.c_void_p])
 _preview = _function("reducer_preview", _GRAPH + [_U32] + _WORDS * 2 + [ctypes.c_void_p])
+_resistive = _function("reducer_resistive", _GRAPH + [_U32] + _WORDS + [ctypes.c_void_p])
 _settle = _function("reducer_settle", _GRAPH + _WORDS + [ctypes.c_void_p] * 2)
 _many = _function("reducer_many", _GRAPH + _WORDS * 2 + [ctypes.c_void_p])
 _majority = _function("reducer_majority", _GRAPH + [_U32] * 4 + _WORDS + [ctypes.c_void_p])
@@ -487,8 +489,8 @@ def replay(
 ) -> Tuple["Graph", List[Told]]:
     """The graph that a tagged file holds after a list of calls, each of which gets its locks, and what each call answers.
 
-    A call is its kind (NODE, PAIR, TREE or SETTLE), a node and a word; those that a kind does not want are not looked at. Of the
-    kind MANY it is the kind, a start and a count: that part of indices and of moves is made, as Graph.many does. Of the kind
+    A call is its kind (NODE, PAIR, TREE, SETTLE or RESISTIVE), a node and a word; those that a kind does not want are not looked at.
+    Of the kind MANY it is the kind, a start and a count: that part of indices and of moves is made, as Graph.many does. Of the kind
     MAJORITY it is the kind, a node and a start: the node is made a majority of three of indices from there on, as Graph.majority does.
     FIND is Graph.find. A call that is refused changes nothing, and the list goes on.
     """
@@ -688,6 +690,16 @@ class Graph:
         moves, room = _array(ctypes.c_uint8, lent[1]), 8 * lent[1]
         _call(_preview, *lent, number, moves, lent[1], _array(_U32, room), room, saving)
         return Preview(Saving(*saving), ctypes.string_at(moves, lent[1]))
+
+    def resistive_call(self, root: int) -> Saving:
+        """Makes the moves of the tree of a root after which most of its majorities have just one complemented input, an edge from the
+        constant being one; of these moves those that leave fewer complemented edges. The root's readers do not turn. What they save, all
+        of it own, and perhaps less than 0."""
+        number, saving = _number(root, 32, "root"), (_I64 * 2)()
+        lent = self._lent()
+        room = 8 * lent[1]
+        _call(_resistive, *lent, number, _array(_U32, room), room, saving)
+        return Saving(*saving)
 
     def many(self, indices: Iterable[int], moves: Union[bytes, Iterable[int]]) -> int:
         """Makes many moves, all of them or none: at each node of indices, which rise, the move at the same place. What they save, less

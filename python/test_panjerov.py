@@ -5,6 +5,7 @@ In the repository's root: python3 python/test_panjerov.py
 """
 
 import copy
+import itertools
 import pickle
 import random
 import subprocess
@@ -623,14 +624,14 @@ class Bad(unittest.TestCase):
         file = p1().write()
         for number, bad, calls in [
             (1, file[:39], []),
-            (102, file, [(7, 4, 0)]),
+            (102, file, [(8, 4, 0)]),
             (102, b"", [(9, 0, 0)]),
             (105, file, [(4, 0, 3)]),
             (105, b"", [(4, 3, 0)]),
-            (105, b"", [(4, 2, 1), (7, 0, 0)]),
+            (105, b"", [(4, 2, 1), (8, 0, 0)]),
             (105, b"", [(5, 4, 0)]),
             (105, b"", [(4, 1, 2**32 - 1)]),
-            (102, b"", [(7, 0, 0), (4, 2, 1)]),
+            (102, b"", [(8, 0, 0), (4, 2, 1)]),
             (1, b"", [(4, 2, 0)]),
             (6, file + b"\0", [(0, 4, 0)]),
         ]:
@@ -772,6 +773,7 @@ def every_call(graph: Graph) -> list:
         lambda: graph.trial(last, 1, 1, 1),
         lambda: graph.tree_call(last),
         lambda: graph.preview(last),
+        lambda: graph.resistive_call(last),
         lambda: graph.many([last], [1]),
     ]
 
@@ -888,6 +890,107 @@ class Hidden(unittest.TestCase):
         self.assertEqual((graph.evaluate(words), found), (due, len(graph.nodes) // 3))
         self.assertTrue(4096 <= found <= 25000, found)
         self.assertTrue(all(0 not in (x // 2, y // 2, z // 2) for x, y, z in zip(*[iter(graph.nodes)] * 3)))
+
+
+def tree_of(graph: Graph, root: int) -> list:
+    """The nodes of a root's tree by falling index."""
+    count = len(graph.nodes) // 3
+    nodes = range(graph.inputs + 1, graph.inputs + 1 + count)
+    reading = {node: [] for node in nodes}
+    for at, word in enumerate(graph.nodes):
+        if word // 2 in reading and word != MARK:
+            reading[word // 2].append(graph.inputs + 1 + at // 3)
+    for word in graph.outputs:
+        if word // 2 in reading:
+            reading[word // 2] += [0, 0]
+    tree = [root]
+    for node in range(root - 1, graph.inputs, -1):
+        if len(reading[node]) == 1 and reading[node][0] in tree:
+            tree.append(node)
+    return tree
+
+
+def singles(graph: Graph, nodes: list) -> int:
+    """How many of these nodes are majorities with just one complemented input."""
+    words = [graph.nodes[3 * (node - graph.inputs - 1) :][:3] for node in nodes]
+    return sum(three[2] != MARK and sum(word % 2 for word in three) == 1 for three in words)
+
+
+def best_for_memory(graph: Graph, root: int) -> Graph:
+    """The graph after the choice that a resistive call makes, by trying every permitted one in the tree call's order."""
+    tree, best = tree_of(graph, root), None
+
+    def permitted(node: int) -> range:
+        xor = graph.nodes[3 * (node - graph.inputs - 1) + 2] == MARK
+        return range(1 if graph.is_locked(node) else (2 if xor else 1) if node == root else 4 if xor else 2)
+
+    for choice in itertools.product(*map(permitted, tree)):
+        moves = bytearray(len(graph.nodes) // 3)
+        for node, move in zip(tree, choice):
+            moves[node - graph.inputs - 1] = move
+        after = made(graph, moves)
+        key = (-singles(after, tree), after.complemented_edges())
+        if best is None or key < best[0]:
+            best = (key, after)
+    return best[1]
+
+
+class Resistive(unittest.TestCase):
+    """Trees for resistive memory."""
+
+    def test_worked(self) -> None:
+        graph = Graph(3, [2, 4, 6, 8, 2, 4], [10])
+        self.assertEqual(graph.resistive_call(5), (-4, 0))
+        self.assertEqual(graph, Graph(3, [3, 5, 7, 9, 2, 4], [10]))
+        locked = Graph(3, [2, 4, 6, 8, 2, 4], [10], [4])
+        self.assertEqual((locked.resistive_call(5), locked), ((0, 0), Graph(3, [2, 4, 6, 8, 2, 4], [10], [4])))
+        # The root's readers stay: P1 as it is, and an XOR by its move 1.
+        graph = p1()
+        self.assertEqual((graph.resistive_call(4), graph), ((0, 0), p1()))
+        graph = Graph(2, [3, 5, MARK], [7])
+        self.assertEqual((graph.resistive_call(3), graph), ((2, 0), Graph(2, [2, 4, MARK], [7])))
+        # The constant's edge is an input.
+        graph = Graph(2, [1, 3, 4, 6, 2, 4], [8])
+        self.assertEqual((graph.resistive_call(4), graph), ((0, 0), Graph(2, [0, 2, 5, 7, 2, 4], [8])))
+
+    def test_by_every_choice(self) -> None:
+        generator = random.Random(109)
+        called = turned = lost = 0
+        while called < 1500:
+            graph = random_graph(generator)
+            for root in range(graph.inputs + 1, graph.inputs + 1 + len(graph.nodes) // 3):
+                after, before = copied(graph), graph.complemented_edges()
+                try:
+                    saving = after.resistive_call(root)
+                except Refused as refused:
+                    self.assertEqual((refused.number, after), (7, graph))
+                    continue
+                self.assertEqual(after, best_for_memory(graph, root))
+                self.assertEqual((saving.total, saving.others), (before - after.complemented_edges(), 0))
+                self.assertEqual(values(after, list(range(2**graph.inputs))), values(graph, list(range(2**graph.inputs))))
+                called, turned, lost = called + 1, turned + (after != graph), lost + (saving.own < 0)
+        self.assertTrue(turned > 100 and lost > 0, (turned, lost))
+
+    def test_refusals(self) -> None:
+        for number, graph, root in [
+            (7, p1(), 3),
+            (7, p1(), 5),
+            (7, Graph(3, [2, 4, 6, 8, 2, 4], [10]), 4),
+            (5, Graph(3, [8, 7, 7], []), 9),
+            (3, Graph(4097, [], []), 9),
+        ]:
+            before = copied(graph)
+            with self.assertRaises(Refused) as caught:
+                graph.resistive_call(root)
+            self.assertEqual((caught.exception.number, graph), (number, before))
+
+    def test_replay(self) -> None:
+        """Kind 7 among others; a refused one changes nothing."""
+        file = Graph(3, [2, 4, 6, 8, 2, 4], [10]).write()
+        calls = [(panjerov.RESISTIVE, 5, 9), (panjerov.RESISTIVE, 4, 0), (panjerov.SETTLE, 0, 0), (panjerov.RESISTIVE, 5, 0)]
+        graph, told = panjerov.replay(file, calls)
+        self.assertEqual(graph, Graph(3, [3, 5, 7, 9, 2, 4], [10]))
+        self.assertEqual(told, [(0, (-4, 0)), (7, (0, 0)), (0, (4, 0)), (0, (-4, 0))])
 
 
 class Packed(unittest.TestCase):
@@ -1022,7 +1125,7 @@ class Packed(unittest.TestCase):
     def test_words_past_the_last(self) -> None:
         """They change no answer and stay, as long as no literal needs them."""
         for make in [lambda: chain(22, 65), lambda: chain(64, 64), lambda: Graph(2, [], [])]:
-            for at in range(11):
+            for at in range(len(every_call(make()))):
                 short, long = make(), make()
                 long.nodes.bits.extend([2**64 - 1, 5])
                 long.outputs.bits.append(7)

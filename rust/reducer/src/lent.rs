@@ -452,6 +452,44 @@ pub fn preview(
     answer(number, parted(saving))
 }
 
+/// The moves of the tree of a root after which most of its majorities have just one complemented input, then those that leave fewer
+/// complemented edges; what they save, own alone and perhaps below 0. The root's readers do not turn. Scratch is
+/// [`crate::scratch_words`] long.
+pub fn resistive_call(
+    size: Size,
+    node_table: &[u32],
+    node_bits: &mut [u64],
+    output_table: &[u32],
+    output_bits: &mut [u64],
+    locks: &[u8],
+    root: u32,
+    scratch: &mut [u32],
+) -> Result<Saving, Refusal> {
+    let mut saving = [0i64; 2];
+    let number = unsafe {
+        raw::reducer_resistive(
+            size.inputs,
+            size.nodes,
+            size.outputs,
+            node_table.as_ptr(),
+            node_table.len(),
+            node_bits.as_mut_ptr(),
+            node_bits.len(),
+            output_table.as_ptr(),
+            output_table.len(),
+            output_bits.as_mut_ptr(),
+            output_bits.len(),
+            locks.as_ptr(),
+            locks.len(),
+            root,
+            scratch.as_mut_ptr(),
+            scratch.len(),
+            &mut saving,
+        )
+    };
+    answer(number, parted(saving))
+}
+
 /// Rounds of tree, node and pair calls until one saves nothing. Scratch is [`crate::scratch_words`] long.
 pub fn settle(
     size: Size,

@@ -22,6 +22,8 @@
 //!
 //! [`Graph::find`] finds the majorities that and-inverter tools have hidden in ANDs, and [`Graph::majority`] makes a node one.
 //!
+//! [`Graph::resistive_call`] chooses a tree's moves for memories of resistive cells, which want majorities with just one complemented input.
+//!
 //! A literal, as a file has it, is twice an index, and one more if it is complemented: [`Graph::new`] takes a graph so, and
 //! [`Graph::node`] and [`Graph::output`] give it so. Its tables are kept as they are lent, indices and complement bits apart.
 //!
@@ -57,8 +59,8 @@ pub enum Refusal {
     BadLiteral = 5,
     /// There are bytes after the end field.
     ExtraBytes = 6,
-    /// That is not a node (in a list too), not a root (tree call, preview), no such word of the node, or not three lower indices that rise
-    /// from above 0 (majority call).
+    /// That is not a node (in a list too), not a root (tree call, preview, resistive call), no such word of the node, or not three lower
+    /// indices that rise from above 0 (majority call).
     NoSuchNode = 7,
     /// The scratch is too short.
     ShortScratch = 8,
@@ -244,6 +246,8 @@ pub enum Call {
         start: u32,
     },
     Find,
+    /// Of the tree of this root, for resistive memory.
+    Resistive(u32),
 }
 
 impl Call {
@@ -258,6 +262,7 @@ impl Call {
             Call::Many { start, count } => [4, start, count],
             Call::Majority { node, start } => [5, node, start],
             Call::Find => [6, 0, 0],
+            Call::Resistive(root) => [7, root, 0],
         }
     }
 }
@@ -292,7 +297,7 @@ pub type Replayed = (Graph, Vec<Result<Told, Refusal>>);
 pub enum ReplayRefusal {
     /// The words of the list are not three a call.
     LeftOver,
-    /// A call of the list has a kind above 6.
+    /// A call of the list has a kind above 7.
     UnknownKind,
     /// A many call's part, or a majority call's triple, reaches past the end of the list of nodes.
     PartOutside,
@@ -305,7 +310,8 @@ pub fn bit_words(literals: usize) -> usize {
     literals.div_ceil(64)
 }
 
-/// How many words of scratch the tree call, its preview, settling, the majority call and the finder need for so many nodes.
+/// How many words of scratch the tree call, its preview, the resistive call, settling, the majority call and the finder need for so many
+/// nodes.
 pub fn scratch_words(nodes: u32) -> usize {
     8 * nodes as usize
 }
@@ -657,6 +663,23 @@ impl Graph {
             &mut scratch,
         )?;
         Ok(Preview { saving, moves })
+    }
+
+    /// Makes the moves of the tree of a root after which most of its majorities have just one complemented input, an edge from the constant
+    /// being one; of these moves those that leave fewer complemented edges. The root takes only moves that leave its readers unturned. What
+    /// they save, all of it own, and perhaps below 0.
+    pub fn resistive_call(&mut self, root: u32) -> Result<Saving, Refusal> {
+        let mut scratch = self.scratch();
+        lent::resistive_call(
+            self.size,
+            &self.node_table,
+            &mut self.node_bits,
+            &self.output_table,
+            &mut self.output_bits,
+            &self.locks,
+            root,
+            &mut scratch,
+        )
     }
 
     /// Makes many moves, all of them or none: at each node of a list of rising indices the move at the same place. What they save,

@@ -214,6 +214,26 @@ extern "C" {
         saving: *mut [i64; 2],
     ) -> u32;
 
+    pub fn reducer_resistive(
+        inputs: u32,
+        nodes: u32,
+        outputs: u32,
+        node_table: *const u32,
+        node_table_length: usize,
+        node_bits: *mut u64,
+        node_bits_length: usize,
+        output_table: *const u32,
+        output_table_length: usize,
+        output_bits: *mut u64,
+        output_bits_length: usize,
+        locks: *const u8,
+        locks_length: usize,
+        root: u32,
+        scratch: *mut u32,
+        scratch_length: usize,
+        saving: *mut [i64; 2],
+    ) -> u32;
+
     pub fn reducer_settle(
         inputs: u32,
         nodes: u32,

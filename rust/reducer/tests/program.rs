@@ -17,6 +17,8 @@ mod moves;
 mod pictures;
 #[path = "program/reports.rs"]
 mod reports;
+#[path = "program/resistive.rs"]
+mod resistive;
 
 const PROGRAM: &str = env!("CARGO_BIN_EXE_panjerov");
 const MAJORITY: &str = "aag 7 3 0 1 4\n2\n4\n6\n15\n8 5 7\n10 2 9\n12 4 6\n14 11 13\n";
@@ -135,12 +137,15 @@ fn importing_and_exporting() {
 
 #[test]
 fn showing() {
-    let due = "format tagged\ninputs 3 nodes 1 outputs 1\nmajorities 1 xors 0\ncomplemented edges 4\ndepth 1\nlocked nodes 0\n";
+    let due = "format tagged\ninputs 3 nodes 1 outputs 1\nmajorities 1 xors 0\ncomplemented edges 4\n\
+               majorities with just one complemented input 0\ndepth 1\nlocked nodes 0\n";
     gives(&run(&["show"], &p1()), due.as_bytes(), "");
-    let due = "format aiger\ninputs 3 nodes 4 outputs 1\nmajorities 4 xors 0\ncomplemented edges 6\ndepth 3\nlocked nodes 0\n";
+    let due = "format aiger\ninputs 3 nodes 4 outputs 1\nmajorities 4 xors 0\ncomplemented edges 6\n\
+               majorities with just one complemented input 1\ndepth 3\nlocked nodes 0\n";
     gives(&run(&["show"], MAJORITY.as_bytes()), due.as_bytes(), "");
     let mixed = tagged(&[(1, &[2, 2, 2]), (3, &[2, 5]), (2, &[1, 6, 4]), (4, &[8]), (4, &[1]), (5, &[])]);
-    let due = "format tagged\ninputs 2 nodes 2 outputs 2\nmajorities 1 xors 1\ncomplemented edges 3\ndepth 2\nlocked nodes 0\n";
+    let due = "format tagged\ninputs 2 nodes 2 outputs 2\nmajorities 1 xors 1\ncomplemented edges 3\n\
+               majorities with just one complemented input 1\ndepth 2\nlocked nodes 0\n";
     gives(&run(&["show"], &mixed), due.as_bytes(), "");
 }
 
@@ -410,6 +415,7 @@ fn usage() {
         &["-h"],
         &["settle", "--help"],
         &["find", "--help"],
+        &["resistive", "--help"],
         &["import", "-h"],
         &["export", "--help"],
         &["show", "--help"],
@@ -459,7 +465,7 @@ fn long_input() {
     (1..=4_096).for_each(|_| long += "208193\n");
     (4_097..=104_096).for_each(|gate| long += &format!("{} {} {}\n", 2 * gate, 2 * gate - 1, 2 * gate - 2));
     let due = "format aiger\ninputs 4096 nodes 100000 outputs 4096\nmajorities 100000 xors 0\n\
-               complemented edges 104096\ndepth 100000\nlocked nodes 0\n";
+               complemented edges 104096\nmajorities with just one complemented input 100000\ndepth 100000\nlocked nodes 0\n";
     gives(&run(&["show"], long.as_bytes()), due.as_bytes(), "");
     let symbols = "i0 a name that is long enough\n".repeat(200_000);
     gives(&run(&["show"], (long.clone() + &symbols).as_bytes()), due.as_bytes(), "");

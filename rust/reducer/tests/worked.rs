@@ -328,12 +328,12 @@ fn replays_refused() {
         assert_eq!((locks, scratch, answers), ([77; 1], [77; 8], vec![77; room]));
     };
     refused(&[0, 4], 9, ReplayRefusal::LeftOver);
-    refused(&[7, 4, 0, 9], 0, ReplayRefusal::LeftOver);
-    refused(&[0, 4, 0, 7, 0, 0], 0, ReplayRefusal::UnknownKind);
+    refused(&[8, 4, 0, 9], 0, ReplayRefusal::LeftOver);
+    refused(&[0, 4, 0, 8, 0, 0], 0, ReplayRefusal::UnknownKind);
     refused(&[4, 0, 2, 4, 0, 3], 0, ReplayRefusal::PartOutside);
-    refused(&[4, 3, 0, 7, 0, 0], 0, ReplayRefusal::PartOutside);
-    refused(&[5, 4, 0, 7, 0, 0], 0, ReplayRefusal::PartOutside);
-    refused(&[7, 0, 0, 4, 3, 0], 0, ReplayRefusal::UnknownKind);
+    refused(&[4, 3, 0, 8, 0, 0], 0, ReplayRefusal::PartOutside);
+    refused(&[5, 4, 0, 8, 0, 0], 0, ReplayRefusal::PartOutside);
+    refused(&[8, 0, 0, 4, 3, 0], 0, ReplayRefusal::UnknownKind);
     refused(&[4, 2, 1], 3, ReplayRefusal::PartOutside);
     refused(&[4, 1, u32::MAX], 3, ReplayRefusal::PartOutside);
     refused(&[4, u32::MAX, 1], 3, ReplayRefusal::PartOutside);

@@ -104,7 +104,7 @@ fn help_of_lock() {
     let help = run(&["lock", "--help"], b"");
     let line = said(&run(&["lock", "-", "7"], &p2()));
     assert!(text(&help.stdout).contains(&format!("\n\n    {line}")));
-    assert!(text(&run(&["--help"], b"").stdout).contains("\n    lock     "));
+    assert!(text(&run(&["--help"], b"").stdout).contains("\n    lock       "));
     let shown = run(&["show"], &p1());
     let lines: String = text(&shown.stdout).split_inclusive('\n').map(|line| format!("    {line}")).collect();
     assert!(text(&run(&["show", "--help"], b"").stdout).contains(&format!("\n\n{lines}")));
@@ -145,7 +145,7 @@ fn showing_locks() {
     long.extend(tagged(&[(5, &[])]));
     assert_eq!(long.len(), 18 + 22 * 100_000 + 7 * 4_096);
     let due = "format tagged\ninputs 4096 nodes 100000 outputs 4096\nmajorities 100000 xors 0\ncomplemented edges 0\n\
-               depth 0\nlocked nodes 100000 at 4097-104096\n";
+               majorities with just one complemented input 0\ndepth 0\nlocked nodes 100000 at 4097-104096\n";
     gives(&run(&["show"], &long), due.as_bytes(), "");
     let extra = "panjerov: standard input: refused 6: there are bytes after the end field\n";
     stops(&run(&["show"], &[&long[..], &[0]].concat()), 1, extra);

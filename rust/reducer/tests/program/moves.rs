@@ -163,5 +163,5 @@ fn longest_list() {
 fn help_of_apply() {
     let help = run(&["apply", "--help"], b"");
     assert!(text(&help.stdout).contains(&format!("\n\n    {MADE}")));
-    assert!(text(&run(&["--help"], b"").stdout).contains("\n    apply    "));
+    assert!(text(&run(&["--help"], b"").stdout).contains("\n    apply      "));
 }

@@ -32,7 +32,7 @@ const NO_GRAPHVIZ: &str =
 
 /// P3's rows. An inverter has 13 cells and a majority 5: 4 * 13 + 2 * 5 before, 2 * 13 + 2 * 5 after.
 fn p3_rows() -> Vec<Vec<String>> {
-    let rows: [&[&str]; 19] = [
+    let rows: [&[&str]; 20] = [
         &["", "before", "after", "change"],
         &["inputs", "5", "5", ""],
         &["outputs", "1", "1", ""],
@@ -44,6 +44,7 @@ fn p3_rows() -> Vec<Vec<String>> {
         &["complemented edges", "4", "2", "-2 (-50 %)"],
         &["among the words of the nodes that a call named", "", "", "-1"],
         &["among all other edges", "", "", "-1"],
+        &["majorities with just one complemented input", "1", "2", "+1"],
         &["cells of inverters, 13 each", "52", "26", "-26 (-50 %)"],
         &["cells of majorities, 5 each", "10", "10", ""],
         &["cells of XORs, 12 each", "0", "0", ""],
@@ -139,9 +140,9 @@ fn moves_in_a_report() {
     let output = run(&["report"], &xors);
     let told = rows(text(&output.stdout));
     let cells = |row: &[&str]| row.iter().map(|cell| cell.to_string()).collect::<Vec<String>>();
-    assert_eq!(told[14], cells(&["all cells", "126", "48", "-78 (-62 %)"]));
+    assert_eq!(told[15], cells(&["all cells", "126", "48", "-78 (-62 %)"]));
     assert_eq!(
-        told[17..],
+        told[18..],
         [
             cells(&["3", "XOR", "2", "word 1 and every reader turn", "3 4", "2 4"]),
             cells(&["4", "XOR", "3", "word 2 and every reader turn", "7 5", "6 4"]),
@@ -204,7 +205,7 @@ fn a_report_at_the_limits() {
     let page = text(&output.stdout);
     needs_nothing(page);
     assert!(page.contains(&format!("<p class=\"none\">There are {none}.</p>\n")));
-    assert_eq!(rows(page)[14][1..], ["1,366,684", "933,342", "-433,342 (-32 %)"]);
+    assert_eq!(rows(page)[15][1..], ["1,366,684", "933,342", "-433,342 (-32 %)"]);
     let nodes: Vec<String> = (4_097..=104_096).step_by(3).map(|node| node.to_string()).collect();
     let head = "<strong>majority, move 1: words 1, 2 and 3 and every reader turn; nodes: 33,334</strong>";
     assert!(page.contains("<h2>Nodes that turned: 33,334 of 100,000</h2>\n"));

@@ -7,17 +7,18 @@ usage: panjerov COMMAND [FILE] [-o FILE]
 
 Reduces inversions in majority and XOR graphs. The commands:
 
-    settle   turns edges until no move lowers the number of complemented edges
-    find     finds the majorities that and-inverter tools have hidden in ANDs
-    import   gives the graph as a tagged file
-    export   gives the graph as ASCII AIGER text
-    lock     locks nodes that are laid out already: from then on they do not turn
-    unlock   frees locked nodes
-    show     tells sizes, kinds, complemented edges, depth and locked nodes
-    preview  tells what the best moves of a tree would save, and makes none
-    apply    makes the moves that a list has, all of them or none
-    picture  draws the graph, as DOT text for Graphviz, as SVG or as PNG
-    report   settles the graph and gives a page with figures, pictures and the nodes that turned
+    settle     turns edges until no move lowers the number of complemented edges
+    find       finds the majorities that and-inverter tools have hidden in ANDs
+    resistive  turns edges so that most majorities have one complemented input
+    import     gives the graph as a tagged file
+    export     gives the graph as ASCII AIGER text
+    lock       locks nodes that are laid out already: then they do not turn
+    unlock     frees locked nodes
+    show       tells sizes, kinds, complemented edges, depth and locked nodes
+    preview    tells what the best moves of a tree would save, and makes none
+    apply      makes the moves that a list has, all of them or none
+    picture    draws the graph, as DOT text for Graphviz, as SVG or as PNG
+    report     settles the graph and gives a page with figures and pictures
 
 `panjerov help COMMAND`, or `panjerov COMMAND --help`, tells more of a command.
 ";
@@ -67,6 +68,40 @@ What is given is a tagged file, also where FILE is AIGER text; with --to aiger e
 
 Most graphs take a fraction of a second, at 100,000 nodes too. There are some on which it takes time that grows with the
 square of their nodes; as long as it works, it can be interrupted, and no file has changed.
+";
+
+const RESISTIVE: &str = "\
+usage: panjerov resistive FILE ROOT [-o FILE] [--to tagged|aiger]
+       panjerov resistive [FILE] --all [-o FILE] [--to tagged|aiger]
+
+Memories of resistive cells prefer majorities with just one complemented input.
+This makes those moves in the tree of ROOT, a node's index, after which most of
+its majorities are such; where several choices have as many, the one that leaves
+fewer complemented edges. The root takes only moves that leave its readers as
+they are, so that nothing outside the tree turns. With --all the trees of all
+roots are taken one after the other, by rising index; `panjerov preview FILE`
+tells the roots. Wiring and function stay the same.
+
+Two lines go to standard error, for the graph before and after: its majorities,
+those with just one complemented input (single), where an edge from the constant
+is an input too, and all complemented edges:
+
+    before majorities 2 single 0 complemented 0
+    after majorities 2 single 1 complemented 4
+
+There may be more complemented edges than before. Settling lowers their number,
+and may take single majorities away again: do that first.
+
+Locked nodes do not turn; the second line ends in their number where there are
+any (locked 2). A ROOT that is none is refused.
+
+The graph is given in the format that FILE has, or in the one that --to names.
+As AIGER text each majority is four ANDs and each XOR three.
+
+Each tree of more than one node takes a time that grows with the whole graph:
+--all on a graph of 100,000 nodes with thousands of such trees takes a minute or
+more, and says each second at which tree it is. As long as it works, no file has
+changed.
 ";
 
 const IMPORT: &str = "\
@@ -125,10 +160,12 @@ Tells of the graph:
     inputs 3 nodes 1 outputs 1
     majorities 1 xors 0
     complemented edges 4
+    majorities with just one complemented input 0
     depth 1
     locked nodes 0
 
-Complemented edges from the constant count like all others. The depth is the most nodes on a way from an output down.
+Complemented edges from the constant count like all others, also as inputs of majorities. The depth is the most nodes
+on a way from an output down.
 Locked nodes are told as `panjerov unlock` takes them: locked nodes 5 at 7,9-12.
 ";
 
@@ -221,8 +258,8 @@ usage: panjerov report [FILE] [--output K|--root R] [-o FILE]
 
 Settles the graph and gives one HTML page to hand in, which needs no network and no other file:
 
-    figures    sizes, locked nodes, complemented edges, rounds and cells before and after, at 13 cells an inverter,
-               5 a majority and 12 an XOR
+    figures    sizes, locked nodes, complemented edges, majorities with just one complemented input, rounds and cells
+               before and after, at 13 cells an inverter, 5 a majority and 12 an XOR
     pictures   before and after, as `panjerov picture` draws them, the edges that turned in colour
     nodes      those that turned, with their moves and words, and those that are locked
 
@@ -248,6 +285,7 @@ pub fn of(command: Command) -> String {
     let own = match command {
         Command::Settle => SETTLE,
         Command::Find => FIND,
+        Command::Resistive => RESISTIVE,
         Command::Import => IMPORT,
         Command::Export => EXPORT,
         Command::Lock => LOCK,

@@ -1,5 +1,5 @@
-//! The program `panjerov`: settles graphs, finds their hidden majorities, shows, draws and reports on them, previews their trees, makes
-//! listed moves, locks their nodes, and makes tagged files of AIGER texts and back.
+//! The program `panjerov`: settles graphs, finds their hidden majorities, chooses moves for resistive memory, shows, draws and reports on
+//! graphs, previews their trees, makes listed moves, locks nodes, and makes tagged files of AIGER texts and back.
 
 mod apply;
 mod drawing;
@@ -16,6 +16,7 @@ mod picture;
 mod preview;
 mod progress;
 mod report;
+mod resistive;
 mod show;
 mod trees;
 mod turned;
@@ -61,7 +62,7 @@ fn formed(graph: &Graph, format: Format, mut lines: Vec<String>) -> Result<Given
     Ok(Given { bytes: formats::bytes_of(graph, format)?, lines })
 }
 
-fn given(asked: &Work, input: &Input) -> Result<Given, String> {
+fn given(asked: &Work, input: &Input, working: &Progress) -> Result<Given, String> {
     let (mut graph, got) = formats::graph_of(input)?;
     match asked.command {
         Command::Settle => {
@@ -73,6 +74,10 @@ fn given(asked: &Work, input: &Input) -> Result<Given, String> {
         Command::Find => {
             let lines = found::find(&mut graph)?;
             formed(&graph, asked.to.unwrap_or(Format::Tagged), lines)
+        }
+        Command::Resistive => {
+            let lines = resistive::choose(&mut graph, asked.root, working);
+            formed(&graph, asked.to.unwrap_or(got), lines.map_err(|why| format!("{}: {why}", input.name))?)
         }
         Command::Apply => {
             let moves = files::read_moves(asked.moves.as_deref())?;
@@ -103,7 +108,7 @@ fn given(asked: &Work, input: &Input) -> Result<Given, String> {
 fn work(asked: &Work) -> Result<(), String> {
     let input = files::read(asked.input.as_deref())?;
     let working = Progress::of(format!("{} {}", asked.command.doing(), input.name));
-    let Given { bytes, lines } = given(asked, &input)?;
+    let Given { bytes, lines } = given(asked, &input, &working)?;
     files::write(asked.output.as_deref(), &bytes)?;
     drop(working);
     lines.iter().for_each(|line| say(line));

@@ -9,6 +9,7 @@ use crate::nodes::{is_xor, words_of};
 use crate::parts::{count, Part, Wanted};
 use crate::picture;
 use crate::preview::turns;
+use crate::resistive::single;
 use crate::show::depth;
 use crate::turned;
 use crate::{figures_of, Given};
@@ -123,6 +124,10 @@ impl Report<'_> {
         let fell = |what: &str, [x, y]: [u64; 2]| {
             format!("<tr><th>{what}<td>{}<td>{}<td>{}", grouped(x), grouped(y), fall(x, y))
         };
+        let went = |what: &str, [x, y]: [usize; 2]| {
+            let [x, y] = [x as u64, y as u64];
+            format!("<tr><th>{what}<td>{}<td>{}<td>{}", grouped(x), grouped(y), change(y as i64 - x as i64))
+        };
         let part = |what: &str, saved: i64| format!("<tr><th>{what}<td><td><td>{}", change(-saved));
         let inverters = [before, after].map(|many| CELLS[0] * u64::from(many));
         let (majority_cells, xor_cells) = (CELLS[1] * (nodes - xors), CELLS[2] * xors);
@@ -138,6 +143,7 @@ impl Report<'_> {
             fell("complemented edges", [before.into(), after.into()]).replace("<tr>", "<tr class=\"main\">"),
             part("among the words of the nodes that a call named", own),
             part("among all other edges", others),
+            went("majorities with just one complemented input", [single(self.before), single(&self.after)]),
             fell("cells of inverters, 13 each", inverters),
             same("cells of majorities, 5 each", majority_cells),
             same("cells of XORs, 12 each", xor_cells),

@@ -3,6 +3,7 @@
 use crate::formats::Format;
 use crate::locks;
 use crate::nodes::{is_xor, output_of, words_of};
+use crate::resistive::single;
 use reducer::{Graph, Size};
 
 /// The most nodes on a way from an output down, of a graph that the library has admitted.
@@ -23,9 +24,10 @@ pub fn text_of(graph: &Graph, format: Format) -> Result<String, String> {
     let xors = (inputs + 1..=inputs + nodes).filter(|&node| is_xor(graph, node)).count() as u32;
     Ok(format!(
         "format {}\ninputs {inputs} nodes {nodes} outputs {outputs}\nmajorities {} xors {xors}\n\
-         complemented edges {complemented}\ndepth {}\nlocked nodes {}\n",
+         complemented edges {complemented}\nmajorities with just one complemented input {}\ndepth {}\nlocked nodes {}\n",
         format.name(),
         nodes - xors,
+        single(graph),
         depth(graph),
         locks::told(&locks::of(graph))
     ))

@@ -13,6 +13,7 @@ use crate::parts::Wanted;
 pub enum Command {
     Settle,
     Find,
+    Resistive,
     Import,
     Export,
     Lock,
@@ -25,27 +26,30 @@ pub enum Command {
 }
 
 impl Command {
+    const ALL: [Command; 12] = [
+        Command::Settle,
+        Command::Find,
+        Command::Resistive,
+        Command::Import,
+        Command::Export,
+        Command::Lock,
+        Command::Unlock,
+        Command::Show,
+        Command::Preview,
+        Command::Apply,
+        Command::Picture,
+        Command::Report,
+    ];
+
     fn named(name: &str) -> Option<Command> {
-        match name {
-            "settle" => Some(Command::Settle),
-            "find" => Some(Command::Find),
-            "import" => Some(Command::Import),
-            "export" => Some(Command::Export),
-            "lock" => Some(Command::Lock),
-            "unlock" => Some(Command::Unlock),
-            "show" => Some(Command::Show),
-            "preview" => Some(Command::Preview),
-            "apply" => Some(Command::Apply),
-            "picture" => Some(Command::Picture),
-            "report" => Some(Command::Report),
-            _ => None,
-        }
+        Command::ALL.into_iter().find(|command| command.name() == name)
     }
 
     pub fn name(self) -> &'static str {
         match self {
             Command::Settle => "settle",
             Command::Find => "find",
+            Command::Resistive => "resistive",
             Command::Import => "import",
             Command::Export => "export",
             Command::Lock => "lock",
@@ -63,6 +67,7 @@ impl Command {
         match self {
             Command::Settle => "settling",
             Command::Find => "finding majorities in",
+            Command::Resistive => "choosing moves on",
             Command::Import => "importing",
             Command::Export => "exporting",
             Command::Lock => "locking nodes of",
@@ -78,6 +83,16 @@ impl Command {
     fn sets_locks(self) -> bool {
         matches!(self, Command::Lock | Command::Unlock)
     }
+
+    /// Whether the format of the graph that it gives can be asked for.
+    fn takes_format(self) -> bool {
+        self.sets_locks() || matches!(self, Command::Settle | Command::Find | Command::Resistive | Command::Apply)
+    }
+
+    /// Whether it takes the root of a tree after FILE.
+    fn takes_root(self) -> bool {
+        matches!(self, Command::Preview | Command::Resistive)
+    }
 }
 
 /// A command with its files; none is standard input or standard output.
@@ -92,8 +107,10 @@ pub struct Work {
     pub find: bool,
     /// Which nodes are locked or freed.
     pub nodes: Vec<Named>,
-    /// Whose tree is previewed; none is a list of the roots.
+    /// Whose tree is previewed, or has its moves chosen; none is a list of the roots, or all of them.
     pub root: Option<u32>,
+    /// Whether all roots are taken.
+    pub all: bool,
     /// Whether a preview gives its moves alone.
     pub only_moves: bool,
     /// Where the moves to make are listed; none is standard input.
@@ -118,6 +135,7 @@ impl Work {
             find: false,
             nodes: Vec::new(),
             root: None,
+            all: false,
             only_moves: false,
             moves: None,
             wanted: Wanted::Whole,
@@ -256,6 +274,15 @@ fn holds_majorities(work: &Work) -> Result<(), String> {
     }
 }
 
+/// That either one root is named or all are.
+fn one_or_all(work: &Work) -> Result<(), String> {
+    match (work.root, work.all) {
+        (None, false) => Err("ROOT or --all is missing after FILE; `panjerov preview FILE` tells the roots".into()),
+        (Some(root), true) => Err(format!("--all takes every root, and so cannot stand with {root}")),
+        _ => Ok(()),
+    }
+}
+
 /// That what a command gives can hold locks.
 fn holds_locks(work: &Work) -> Result<(), String> {
     let name = work.command.name();
@@ -282,7 +309,7 @@ fn put_plain(work: &mut Work, plain: Vec<OsString>) -> Result<(), String> {
         return put_moves(work, plain);
     }
     match plain.next() {
-        Some(word) if work.command == Command::Preview => work.root = Some(root_named(&word.to_string_lossy())?),
+        Some(word) if work.command.takes_root() => work.root = Some(root_named(&word.to_string_lossy())?),
         Some(word) if work.compare => work.after = file(word),
         Some(_) => return Err("FILE is given twice".into()),
         None if work.compare => return Err("--compare wants BEFORE and AFTER".into()),
@@ -328,9 +355,8 @@ fn asked_of(command: Command, mut words: impl Iterator<Item = OsString>) -> Resu
             _ if only_files || text == "-" || !text.starts_with('-') => plain.push(word),
             "--help" | "-h" => return Ok(Asked::Help(help::of(command))),
             "-o" => put(&mut output, words.next().ok_or("-o wants a file after it")?, "-o")?,
-            "--to" if matches!(command, Command::Settle | Command::Find | Command::Apply) || command.sets_locks() => {
-                put(&mut work.to, format_named(words.next())?, "--to")?
-            }
+            "--to" if command.takes_format() => put(&mut work.to, format_named(words.next())?, "--to")?,
+            "--all" if command == Command::Resistive => work.all = true,
             "--moves" if command == Command::Preview => work.only_moves = true,
             "--find" if command == Command::Settle => work.find = true,
             "--" => only_files = true,
@@ -348,6 +374,7 @@ fn asked_of(command: Command, mut words: impl Iterator<Item = OsString>) -> Resu
     match command {
         Command::Lock | Command::Unlock => holds_locks(&work)?,
         Command::Find => holds_majorities(&work)?,
+        Command::Resistive => one_or_all(&work)?,
         _ => {}
     }
     Ok(Asked::Work(work))
@@ -395,6 +422,17 @@ mod tests {
         assert_eq!(of(&["find", "--to", "aiger", "a", "-o", "b.aag"]), text);
         let settled = Work { input: Some("a".into()), find: true, ..Work::of(Command::Settle) };
         assert_eq!(of(&["settle", "a", "--find"]), Ok(Asked::Work(settled)));
+    }
+
+    #[test]
+    fn a_root_or_all() {
+        let chosen = |input: Option<&str>, root, all, to| {
+            Ok(Asked::Work(Work { input: input.map(PathBuf::from), root, all, to, ..Work::of(Command::Resistive) }))
+        };
+        assert_eq!(of(&["resistive", "a", "7"]), chosen(Some("a"), Some(7), false, None));
+        assert_eq!(of(&["resistive", "-", "7", "--to", "tagged"]), chosen(None, Some(7), false, Some(Format::Tagged)));
+        assert_eq!(of(&["resistive", "--all", "a"]), chosen(Some("a"), None, true, None));
+        assert_eq!(of(&["resistive", "--all"]), chosen(None, None, true, None));
     }
 
     #[test]
@@ -512,6 +550,14 @@ mod tests {
             &["preview", "--moves"],
             &["preview", "a", "--moves"],
             &["preview", "a", "7", "--to", "aiger"],
+            &["resistive"],
+            &["resistive", "a"],
+            &["resistive", "a", "-o", "b"],
+            &["resistive", "a", "7", "--all"],
+            &["resistive", "a", "7", "8"],
+            &["resistive", "a", "x"],
+            &["resistive", "a", "7", "--moves"],
+            &["settle", "a", "--all"],
             &["lock"],
             &["lock", "a"],
             &["lock", "7"],
