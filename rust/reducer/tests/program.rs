@@ -432,7 +432,7 @@ fn usage() {
         let command = words.iter().find(|word| !["help", "--help", "-h"].contains(word)).unwrap_or(&"COMMAND");
         let begin = &format!("usage: panjerov {command} ");
         assert!(text(&output.stdout).starts_with(begin), "{words:?}");
-        assert!(text(&output.stdout).lines().all(|line| line.chars().count() <= 120), "{words:?}");
+        assert!(text(&output.stdout).lines().all(|line| line.chars().count() <= 80), "{words:?}");
         assert_eq!((text(&output.stderr), output.status.code()), ("", Some(0)));
     }
 }

@@ -26,48 +26,59 @@ Reduces inversions in majority and XOR graphs. The commands:
 const SETTLE: &str = "\
 usage: panjerov settle [FILE] [-o FILE] [--to tagged|aiger] [--find]
 
-Turns edges until no move at a node, on a pair or on a tree lowers the number of complemented edges. Wiring and
-function stay the same. The settled graph is given in the format that FILE has, or in the one that --to names. A
-line with the figures goes to standard error:
+Turns edges until no move at a node, on a pair or on a tree lowers the number of
+complemented edges. Wiring and function stay the same. The settled graph is
+given in the format that FILE has, or in the one that --to names. A line with
+the figures goes to standard error:
 
     inputs 3 nodes 1 outputs 1 before 4 after 0 rounds 2 own 3 others 1
 
-The last two say where the gain arose: own sums up what each call saved among the words of the nodes that it names
-(one node, a pair or a tree), others what it saved among all other edges. Either may be below 0; together they are
-before less after.
+The last two say where the gain arose: own sums up what each call saved among
+the words of the nodes that it names (one node, a pair or a tree), others what
+it saved among all other edges. Either may be below 0; together they are before
+less after.
 
-Locked nodes do not turn: only the moves of the others are made. The words of a locked node may still turn, where a
-node that they name turns. The line ends in the number of locked nodes where there are any (locked 2). A tagged file
-that is given has the locks of FILE; AIGER text cannot hold them, which a line on standard error says.
+Locked nodes do not turn: only the moves of the others are made. The words of a
+locked node may still turn, where a node that they name turns. The line ends in
+the number of locked nodes where there are any (locked 2). A tagged file that is
+given has the locks of FILE; AIGER text cannot hold them, which a line on
+standard error says.
 
-With --find hidden majorities are found first, as `panjerov find` does it, and its two lines come before that of the
-figures. That is the usual way from AIGER text: import, find, settle.
+With --find hidden majorities are found first, as `panjerov find` does it, and
+its two lines come before that of the figures. That is the usual way from AIGER
+text: import, find, settle.
 
-AIGER has ANDs alone: as text, each majority is four ANDs and each XOR three. Between two settlings keep the tagged
-file, which has one node for each AND that was imported.
+AIGER has ANDs alone: as text, each majority is four ANDs and each XOR three.
+Between two settlings keep the tagged file, which has one node for each AND that
+was imported.
 ";
 
 const FIND: &str = "\
 usage: panjerov find [FILE] [-o FILE] [--to tagged|aiger]
 
-Finds majorities that lie hidden in ANDs, as AIGER text has them. Each free node by rising index is tried as a majority
-of three inputs or nodes that at most three words lead down to from it, and becomes the first that has its value, with
-words complemented as needed; a majority of three different inputs or nodes is passed over. Then free nodes that nothing
-reads are dropped until none is left, and the rest are renumbered in order. The function stays the same.
+Finds majorities that lie hidden in ANDs, as AIGER text has them. Each free node
+by rising index is tried as a majority of three inputs or nodes that at most
+three words lead down to from it, and becomes the first that has its value, with
+words complemented as needed; a majority of three different inputs or nodes is
+passed over. Then free nodes that nothing reads are dropped until none is left,
+and the rest are renumbered in order. The function stays the same.
 
-Two lines go to standard error, for the graph before and after: its nodes, those of them that are majorities of three
-different inputs or nodes, and its complemented edges:
+Two lines go to standard error, for the graph before and after: its nodes, those
+of them that are majorities of three different inputs or nodes, and its
+complemented edges:
 
     before nodes 4 majorities 0 complemented 6
     after nodes 1 majorities 1 complemented 4
 
-Locked nodes stay as they are, and so does all that they read; their indices may be lower. The second line ends in their
-number where there are any (locked 2).
+Locked nodes stay as they are, and so does all that they read; their indices may
+be lower. The second line ends in their number where there are any (locked 2).
 
-What is given is a tagged file, also where FILE is AIGER text; with --to aiger each majority is four ANDs again.
+What is given is a tagged file, also where FILE is AIGER text; with --to aiger
+each majority is four ANDs again.
 
-Most graphs take a fraction of a second, at 100,000 nodes too. There are some on which it takes time that grows with the
-square of their nodes; as long as it works, it can be interrupted, and no file has changed.
+Most graphs take a fraction of a second, at 100,000 nodes too. There are some on
+which it takes time that grows with the square of their nodes; as long as it
+works, it can be interrupted, and no file has changed.
 ";
 
 const RESISTIVE: &str = "\
@@ -107,24 +118,27 @@ changed.
 const IMPORT: &str = "\
 usage: panjerov import [FILE] [-o FILE]
 
-Gives the graph as a tagged file. Each AND of AIGER text becomes a majority with the constant false as its first
-word, and every node is free. The text must have no latches, inputs from literal 2 on and gates after them, both
-rising by 2; what follows the last gate, symbols and comments, is not read. A tagged file is given back as it is once
-it has been checked.
+Gives the graph as a tagged file. Each AND of AIGER text becomes a majority with
+the constant false as its first word, and every node is free. The text must have
+no latches, inputs from literal 2 on and gates after them, both rising by 2;
+what follows the last gate, symbols and comments, is not read. A tagged file is
+given back as it is once it has been checked.
 ";
 
 const EXPORT: &str = "\
 usage: panjerov export [FILE] [-o FILE]
 
-Gives the graph as ASCII AIGER text, each majority as four ANDs and each XOR as three, without symbols or comments.
-Locks are lost, which a line on standard error says.
+Gives the graph as ASCII AIGER text, each majority as four ANDs and each XOR as
+three, without symbols or comments. Locks are lost, which a line on standard
+error says.
 ";
 
 const LOCK: &str = "\
 usage: panjerov lock FILE NODES... [-o FILE]
 
-Locks nodes that are laid out already, those that are locked staying so. A locked node does not turn: settling and
-previews choose among the moves of the other nodes. Its words may still turn, where a node that they name turns.
+Locks nodes that are laid out already, those that are locked staying so. A
+locked node does not turn: settling and previews choose among the moves of the
+other nodes. Its words may still turn, where a node that they name turns.
 
 NODES are indices and runs of them, parted by commas or spaces, or all:
 
@@ -132,23 +146,27 @@ NODES are indices and runs of them, parted by commas or spaces, or all:
     panjerov lock graph 7,9-12 20 -o locked
     panjerov lock graph all -o locked
 
-An index that is no node's is refused, and then nothing is written. A line on standard error tells the locked nodes:
+An index that is no node's is refused, and then nothing is written. A line on
+standard error tells the locked nodes:
 
     inputs 5 nodes 2 outputs 1 locked 1 at 7
 
-What is given is a tagged file, also where FILE is AIGER text, which cannot hold locks.
+What is given is a tagged file, also where FILE is AIGER text, which cannot hold
+locks.
 ";
 
 const UNLOCK: &str = "\
 usage: panjerov unlock FILE NODES... [-o FILE]
 
-Frees nodes, those that are free staying so. NODES are indices and runs of them, parted by commas or spaces, or all:
+Frees nodes, those that are free staying so. NODES are indices and runs of them,
+parted by commas or spaces, or all:
 
     panjerov unlock locked 9-12 -o graph
     panjerov unlock locked all -o graph
 
-An index that is no node's is refused, and then nothing is written. A line on standard error tells the nodes that are
-still locked. What is given is a tagged file.
+An index that is no node's is refused, and then nothing is written. A line on
+standard error tells the nodes that are still locked. What is given is a tagged
+file.
 ";
 
 const SHOW: &str = "\
@@ -164,31 +182,36 @@ Tells of the graph:
     depth 1
     locked nodes 0
 
-Complemented edges from the constant count like all others, also as inputs of majorities. The depth is the most nodes
-on a way from an output down.
-Locked nodes are told as `panjerov unlock` takes them: locked nodes 5 at 7,9-12.
+Complemented edges from the constant count like all others, also as inputs of
+majorities. The depth is the most nodes on a way from an output down. Locked
+nodes are told as `panjerov unlock` takes them: locked nodes 5 at 7,9-12.
 ";
 
 const PREVIEW: &str = "\
 usage: panjerov preview [FILE [ROOT [--moves]]] [-o FILE]
 
-Tells what the best moves of the tree of ROOT, a node's index, would save, and makes none of them:
+Tells what the best moves of the tree of ROOT, a node's index, would save, and
+makes none of them:
 
     root 7 before 4 after 2 saving 2 own 2 others 0
     tree nodes 2 majorities 2 xors 0
     node 6 majority move 1: words 1, 2 and 3 and every reader turn
     node 7 majority move 0: nothing turns
 
-The first line has the complemented edges of the whole graph before and after, and of the saving what arises among
-the words of the tree's nodes (own) and among all other edges (others); either may be below 0. Then there is a line
-for each node of the tree by rising index. An edge that two moves turn ends as it was. A node is a root unless it has
-just one reader and that is a node; its tree is the root with every other node that leads to it through no root. A
-ROOT that is none is refused.
+The first line has the complemented edges of the whole graph before and after,
+and of the saving what arises among the words of the tree's nodes (own) and
+among all other edges (others); either may be below 0. Then there is a line for
+each node of the tree by rising index. An edge that two moves turn ends as it
+was. A node is a root unless it has just one reader and that is a node; its tree
+is the root with every other node that leads to it through no root. A ROOT that
+is none is refused.
 
-A locked node has move 0, and its line says that it is locked; the line of the tree then ends in their number.
+A locked node has move 0, and its line says that it is locked; the line of the
+tree then ends in their number.
 
-With --moves each line is a node's index and its move, for all nodes of the tree, as `panjerov apply` takes them, and
-the first line above goes to standard error, with one that tells the locked nodes of the tree where there are any.
+With --moves each line is a node's index and its move, for all nodes of the
+tree, as `panjerov apply` takes them, and the first line above goes to standard
+error, with one that tells the locked nodes of the tree where there are any.
 
 Without ROOT all roots are told, with the sizes of their trees:
 
@@ -199,82 +222,106 @@ Without ROOT all roots are told, with the sizes of their trees:
 const APPLY: &str = "\
 usage: panjerov apply FILE MOVES [-o FILE] [--to tagged|aiger]
 
-Makes the moves that MOVES lists, all of them or none. MOVES is a file, or - for standard input, with a line for each
-node: its index and its move. Indices rise from line to line; blank lines and lines that begin with # are passed over.
+Makes the moves that MOVES lists, all of them or none. MOVES is a file, or - for
+standard input, with a line for each node: its index and its move. Indices rise
+from line to line; blank lines and lines that begin with # are passed over.
 
     majority   move 1 turns words 1, 2 and 3 and every reader
-    XOR        move 1 turns words 1 and 2, move 2 word 1 and every reader, move 3 word 2 and every reader
+    XOR        move 1 turns words 1 and 2, move 2 word 1 and every reader,
+               move 3 word 2 and every reader
 
-Move 0 turns nothing, and an edge that two moves turn ends as it was: the order of the moves does not matter. Wiring and
-function stay the same. Such a list is what `panjerov preview FILE ROOT --moves` gives, for the best moves of a tree:
+Move 0 turns nothing, and an edge that two moves turn ends as it was: the order
+of the moves does not matter. Wiring and function stay the same. Such a list is
+what `panjerov preview FILE ROOT --moves` gives, for the best moves of a tree:
 
     panjerov preview graph 7 --moves -o moves
     panjerov apply graph moves -o turned
 
-A line with the figures goes to standard error. The saving is before less after, and below 0 where there are more
-complemented edges than there were; moved is how many of the nodes that are listed have a move other than 0:
+A line with the figures goes to standard error. The saving is before less after,
+and below 0 where there are more complemented edges than there were; moved is
+how many of the nodes that are listed have a move other than 0:
 
     inputs 5 nodes 2 outputs 1 before 4 after 2 saving 2 listed 2 moved 1
 
-A line that is not understood, an index that is no node's (refused 7) or not above the one before (14), a move that the
-node's kind lacks (15) and a move other than 0 at a locked node (16) are told with the line's number, and then nothing
-is written. The line of figures ends in the number of locked nodes where there are any (locked 2).
+A line that is not understood, an index that is no node's (refused 7) or not
+above the one before (14), a move that the node's kind lacks (15) and a move
+other than 0 at a locked node (16) are told with the line's number, and then
+nothing is written. The line of figures ends in the number of locked nodes where
+there are any (locked 2).
 
-The graph is given in the format that FILE has, or in the one that --to names. AIGER has ANDs alone: as text, each
-majority is four ANDs and each XOR three, so that nodes have other indices. Keep the tagged file for further moves.
+The graph is given in the format that FILE has, or in the one that --to names.
+AIGER has ANDs alone: as text, each majority is four ANDs and each XOR three, so
+that nodes have other indices. Keep the tagged file for further moves.
 ";
 
 const PICTURE: &str = "\
 usage: panjerov picture [FILE] [--svg|--png] [--output K|--root R] [-o FILE]
-       panjerov picture --compare BEFORE AFTER [--svg|--png] [--output K|--root R] [-o FILE]
+       panjerov picture --compare BEFORE AFTER [--svg|--png]
+                        [--output K|--root R] [-o FILE]
 
-Draws the graph: inputs at the bottom, outputs at the top, majorities as boxes with corners and XORs as round ones.
-Below a node's kind and index are its words 1 to 3, and the edge that each word is ends there. A word is a literal:
-twice the index that it names, and 1 more if the edge is complemented; such an edge has a dot at its end. The
-constant, a 0 in a circle, is drawn at each reader. A locked node says so beside its index and has a thick border.
+Draws the graph: inputs at the bottom, outputs at the top, majorities as boxes
+with corners and XORs as round ones. Below a node's kind and index are its words
+1 to 3, and the edge that each word is ends there. A word is a literal: twice
+the index that it names, and 1 more if the edge is complemented; such an edge
+has a dot at its end. The constant, a 0 in a circle, is drawn at each reader. A
+locked node says so beside its index and has a thick border.
 
-Without an option it gives DOT text, which Graphviz and other programs read. With --svg or --png Graphviz makes the
-picture, by its program dot; where that is not installed or takes more than 4 seconds, nothing is given. A PNG has
-at most 4,800 points a side; SVG stays sharp at every size.
+Without an option it gives DOT text, which Graphviz and other programs read.
+With --svg or --png Graphviz makes the picture, by its program dot; where that
+is not installed or takes more than 4 seconds, nothing is given. A PNG has at
+most 4,800 points a side; SVG stays sharp at every size.
 
-With --compare two graphs of the same wiring, as a graph and what settling made of it, are drawn side by side, and the
-edges that turned are thick and orange in both. One of the two may be -. Other wiring is refused. AIGER text has other
-nodes once it has been settled: compare it with what `panjerov settle --to tagged` gives. Lines on standard error say
-where the locks of the two differ, and which nodes turned though they are locked in BEFORE.
+With --compare two graphs of the same wiring, as a graph and what settling made
+of it, are drawn side by side, and the edges that turned are thick and orange in
+both. One of the two may be -. Other wiring is refused. AIGER text has other
+nodes once it has been settled: compare it with what `panjerov settle --to
+tagged` gives. Lines on standard error say where the locks of the two differ,
+and which nodes turned though they are locked in BEFORE.
 
-A whole graph is drawn up to 300 nodes, and 600 inputs, nodes and outputs together; a larger one is refused. A part of
-a graph of any size is drawn by one of these, and a line on standard error says what it has:
+A whole graph is drawn up to 300 nodes, and 600 inputs, nodes and outputs
+together; a larger one is refused. A part of a graph of any size is drawn by one
+of these, and a line on standard error says what it has:
 
     --output K   output K, counted from 1, and what it rests on
     --root R     the tree of a root; `panjerov preview FILE` tells the roots
 
-Of more than 300 nodes those nearest to the output or the root are drawn. A dashed box is a node that is read there and
-whose words are not drawn. In a graph so deep that edges would run along most of it, inputs and outputs stand near
-their nodes.
+Of more than 300 nodes those nearest to the output or the root are drawn. A
+dashed box is a node that is read there and whose words are not drawn. In a
+graph so deep that edges would run along most of it, inputs and outputs stand
+near their nodes.
 ";
 
 const REPORT: &str = "\
 usage: panjerov report [FILE] [--output K|--root R] [-o FILE]
 
-Settles the graph and gives one HTML page to hand in, which needs no network and no other file:
+Settles the graph and gives one HTML page to hand in, which needs no network and
+no other file:
 
-    figures    sizes, locked nodes, complemented edges, majorities with just one complemented input, rounds and cells
-               before and after, at 13 cells an inverter, 5 a majority and 12 an XOR
-    pictures   before and after, as `panjerov picture` draws them, the edges that turned in colour
-    nodes      those that turned, with their moves and words, and those that are locked
+    figures    sizes, locked nodes, complemented edges, majorities with just one
+               complemented input, rounds and cells before and after, at 13 an
+               inverter, 5 a majority and 12 an XOR
+    pictures   before and after, as `panjerov picture` draws them, the edges
+               that turned in colour
+    nodes      those that turned, with their moves and words, and those that are
+               locked
 
-The settled graph itself comes from `panjerov settle`. Of a graph with more than 300 nodes --output K, which draws
-what output K rests on, or --root R, which draws a tree, makes pictures of a part. Where there are none, since
-the graph is too large or Graphviz is not installed, the page and a line on standard error say why.
+The settled graph itself comes from `panjerov settle`. Of a graph with more than
+300 nodes --output K, which draws what output K rests on, or --root R, which
+draws a tree, makes pictures of a part. Where there are none, since the graph is
+too large or Graphviz is not installed, the page and a line on standard error
+say why.
 ";
 
 const FILES: &str = "
-FILE is a tagged file or ASCII AIGER text, which is seen from its first bytes; without FILE, or where it is -,
-standard input is read. What is given goes to standard output, or with -o to a file, which is replaced only once
-all of it is there, and may be FILE itself. Work of more than a second says so on standard error.
+FILE is a tagged file or ASCII AIGER text, which is seen from its first bytes;
+without FILE, or where it is -, standard input is read. What is given goes to
+standard output, or with -o to a file, which is replaced only once all of it is
+there, and may be FILE itself. Work of more than a second says so on standard
+error.
 
-The exit status is 0; 1 where something is refused, a file cannot be read or written or Graphviz makes no picture that
-was asked for, and then no file is made or changed; 2 where the command line is not understood.
+The exit status is 0; 1 where something is refused, a file cannot be read or
+written or Graphviz makes no picture that was asked for, and then no file is
+made or changed; 2 where the command line is not understood.
 ";
 
 pub fn program() -> String {
