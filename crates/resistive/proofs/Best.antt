@@ -1,24 +1,23 @@
 -- M-109: the moves decided from the root down are the best by the key, for any number of moves a node that leaves the root's
 -- readers unturned.
 use mathlib.Core.Path.{_≡_, refl, sym, ap, _∙_}
-use mathlib.Core.Bool.{Bool, true, false, not, _&&_}
+use mathlib.Core.Bool.{Bool, true, false, _&&_}
 use mathlib.Core.List.{List, map}
 use mathlib.Core.Logic.{⊎-elim, _≢_}
-use Prim.Native.Nat.{ℕ, zero, suc, _+_, _-_, _*_, _/_, _≤_, _<_, min}
+use Prim.Native.Nat.{ℕ, suc, _+_, _-_, _*_, _/_, _≤_, _<_}
 use native.Mathlib.Omega.{arith}
 use borrow.Author.Tests.{eq-eqb, ne-eqb, lt-ltb}
 use lib.Dec.{eqb, ltb}
 use Rattle.graph.specs.Admission.{Admitted}
 use Rattle.graph.specs.Count.{outputAdds}
-use Rattle.graph.specs.Finite.{ifEqual, ifLess}
 use Rattle.graph.specs.Graph.{Graph, isXor, node, word}
 use Rattle.moves.specs.Apply.{Choice, seen, apply, at, none, put}
 use Rattle.moves.specs.Call.{moved}
 use Rattle.moves.specs.Cost.{inner}
 use Rattle.resistive.specs.Resistive.{key, stillAt, bestStill}
 use Rattle.resistive.specs.Family.{missKey, below, KeyCosts, earlier, seenIn, readerFamily, KeyDecided}
-use Rattle.moves.specs.Rows.{flag, rows, firstRow, arity, movesAt}
-use Rattle.moves.specs.Tree.{isRoot, place, reader, rootOf, tree}
+use Rattle.moves.specs.Rows.{flag}
+use Rattle.moves.specs.Tree.{isRoot, place, rootOf, tree}
 use Rattle.graph.proofs.Cases.{eq-or-ne, lt-or-le}
 use Rattle.graph.proofs.Finite.{sum-same, sum-but-one}
 use Rattle.moves.proofs.Changed.{at-same, at-other, seen-none, out-adds}

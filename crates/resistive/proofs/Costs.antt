@@ -61,19 +61,6 @@ module _ (g : Graph) (q : ℕ → Bool) (s : ℕ → ℕ) (c : ℕ → ℕ → �
       (λ (x : isEdge g j ≡ false). omega (arith, turned-mark g q s c n j h x, turned-mark g q s c n j e x, a 0))
       (true-or-false (isEdge g j))
 
-  turned-few : (j b m : ℕ) (h : ℕ → ℕ) → ((t : ℕ) → h t ≤ b) → ((u t : ℕ) → c u t ≤ m) → turned g q s c n j h ≤ b + m
-  turned-few j b m h a w =
-      ⊎-elim
-      (λ (x : isEdge g j ≡ true).
-      ⊎-elim
-      (λ (y : q (word g j / 2) ≡ true).
-      let u : ℕ = word g j / 2 in
-      omega (arith, turned-free g q s c n j h x y, lowest-low (n u) (λ t. c u t + h t) (pos u) 0 (pos u), a 0, w u 0))
-      (λ (y : q (word g j / 2) ≡ false). omega (arith, turned-fixed g q s c n j h x y, a (s (word g j / 2))))
-      (true-or-false (q (word g j / 2))))
-      (λ (x : isEdge g j ≡ false). omega (arith, turned-mark g q s c n j h x, a 0))
-      (true-or-false (isEdge g j))
-
   -- another move changes a family by at most 304,100
   pub family-near : (z : Bool) (v k l : ℕ) → family g z q s c n v k ≤ family g z q s c n v l + 304100
   unfolding family
@@ -85,24 +72,6 @@ module _ (g : Graph) (q : ℕ → Bool) (s : ℕ → ℕ) (c : ℕ → ℕ → �
         arith,
         local-few g z v (flag (isXor g v) k 0 + x) (flag (isXor g v) k 1 + y) (flag (isXor g v) k 2 + t),
       ))))
-
-  -- where no cost is above 304,100 a family is at most four times that
-  pub family-few : (z : Bool) (v k : ℕ) → ((u t : ℕ) → c u t ≤ 304100) → family g z q s c n v k ≤ 1216400
-  unfolding family
-  family-few z v k w =
-      turned-few (3 * v + 0) 912300 304100 _
-      (λ x. turned-few (3 * v + 1) 608200 304100 _
-      (λ y. turned-few (3 * v + 2) 304100 304100 _
-      (λ t. local-few g z v (flag (isXor g v) k 0 + x) (flag (isXor g v) k 1 + y) (flag (isXor g v) k 2 + t)) w) w) w
-
--- the two costs of a node: less the lesser, at most 304,100
-pub cost-near : (g : Graph) (mv : ℕ → ℕ) (c : ℕ → ℕ → ℕ) (n o : ℕ → ℕ) → ((u : ℕ) → 0 < n u) → KeyCosts g mv c n o
-    → (v s t : ℕ) → v < g .N → isRoot g (node g v) ≡ false → s < n (node g v) → t < n (node g v) → c (node g v) s ≤ c (node g v) t + 304100
-unfolding below
-cost-near g mv c n o pos cs v s t h i a b =
-    let k = cs .met v s h i a in
-    let l = cs .met v t h i b in
-    omega (arith, k .3, l .3, family-near g (inner g) (λ u. 0) c n pos true v (k .0) (l .0))
 
 -- a cost looks only at the non-roots that its node names
 pub turned-local : (g : Graph) (q : ℕ → Bool) (s : ℕ → ℕ) (c c′ : ℕ → ℕ → ℕ) (n : ℕ → ℕ) (j : ℕ)

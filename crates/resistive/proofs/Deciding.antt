@@ -1,20 +1,19 @@
 -- A decision looks only at what is above; and moves decided by the costs of the recursion are the choice of the call.
-use mathlib.Core.Path.{_≡_, refl, sym, ap, _∙_, fun-ext}
-use mathlib.Core.Bool.{true, false, cond}
+use mathlib.Core.Path.{_≡_, refl, sym, ap, _∙_}
+use mathlib.Core.Bool.{true, false}
 use mathlib.Core.List.{List, map}
 use mathlib.Core.Logic.{_⊎_, ⊎-elim, _≢_}
-use Prim.Native.Nat.{ℕ, zero, suc, _+_, _-_, _*_, _/_, _≤_, _<_}
+use Prim.Native.Nat.{ℕ, _+_, _-_, _*_, _/_, _≤_, _<_}
 use native.Mathlib.Omega.{arith}
 use native.Mathlib.Nat.{eq-or-lt-of-le}
-use borrow.Author.Tests.{eq-eqb, ne-eqb, lt-ltb}
-use lib.Dec.{eqb}
+use borrow.Author.Tests.{ne-eqb, lt-ltb}
 use Rattle.graph.specs.Admission.{Admitted}
-use Rattle.graph.specs.Graph.{Graph, isXor, node, word}
-use Rattle.moves.specs.Apply.{Choice, at, none}
-use Rattle.moves.specs.Cost.{inner, pick}
+use Rattle.graph.specs.Graph.{Graph, node, word}
+use Rattle.moves.specs.Apply.{Choice, at}
+use Rattle.moves.specs.Cost.{inner}
 use Rattle.resistive.specs.Resistive.{stillAt, bestStill}
 use Rattle.resistive.specs.Family.{below, KeyCosts, earlier, seenIn, readerFamily, KeyDecided, keyCost, keyTurns}
-use Rattle.moves.specs.Rows.{flag, movesAt}
+use Rattle.moves.specs.Rows.{movesAt}
 use Rattle.moves.specs.Tree.{isRoot, place, rootOf, tree}
 use Rattle.graph.proofs.Cases.{true-or-false, eq-or-ne, lt-or-le}
 use Rattle.moves.proofs.Changed.{at-same, at-other}
@@ -24,11 +23,9 @@ use Rattle.resistive.proofs.Best.{seen-same, still-best}
 use Rattle.resistive.proofs.Still.{still-other}
 use Rattle.resistive.proofs.Costs.{baseKey, costs-hold, turns-pos}
 use Rattle.resistive.proofs.Step.{family-same}
-use Rattle.resistive.proofs.Lowest.{picked}
-use Rattle.moves.proofs.Readers.{rootOf-root, rootOf-inner, rootOf-above, not-root}
+use Rattle.moves.proofs.Readers.{rootOf-root, rootOf-inner, rootOf-above}
 use Rattle.moves.proofs.TreeBest.{reader-node}
 use Rattle.moves.proofs.Moves.{moves-of}
-use Rattle.choice.specs.Inner.{FirstBelow}
 use Rattle.moves.specs.Compose.{IsRoot}
 
 earlier-yes : (g : Graph) (n u : ℕ) → g .I < u → u < node g n → isRoot g u ≡ false → earlier g n u ≡ true

@@ -6,7 +6,6 @@ use Prim.Native.Nat.{ℕ, _+_, _/_, _≤_, _<_}
 use native.Mathlib.Omega.{arith}
 use Rattle.graph.specs.Graph.{Graph, isEdge, word}
 use Rattle.graph.proofs.Cases.{true-or-false}
-use Rattle.choice.specs.Choice.{least}
 use Rattle.choice.proofs.Best.{least-below}
 use Rattle.moves.specs.Cost.{pick}
 use Rattle.resistive.specs.Family.{lowest, turned}

@@ -10,7 +10,6 @@ use Rattle.graph.specs.Admission.{Admitted}
 use Rattle.graph.specs.Graph.{Graph, node}
 use Rattle.graph.proofs.Cases.{lt-or-le, eq-or-ne}
 use Rattle.graph.proofs.DifferenceSum.{no-difference}
-use Rattle.choice.specs.Choice.{Fits}
 use Rattle.choice.specs.Inner.{zeros}
 use Rattle.choice.proofs.Best.{Best, best-is}
 use Rattle.moves.specs.Apply.{Choice, seen, apply, none, put}

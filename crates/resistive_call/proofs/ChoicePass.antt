@@ -1,14 +1,14 @@
 -- The moves of a tree by falling index, each stored where the node's costs stood: it is the first least one under the moves stored
 -- above it, and all together are M-109's choice. From the theorem on decided moves and the laws on states.
 use mathlib.Core.Path.{_≡_, refl, sym, ap, _∙_}
-use mathlib.Core.Bool.{Bool, true, false, not, cond}
+use mathlib.Core.Bool.{Bool, true, false, cond}
 use mathlib.Core.List.{List}
 use mathlib.Core.Logic.{⊎-elim, _≢_}
 use Prim.Native.Nat.{ℕ, suc, _+_, _-_, _*_, _/_, _≤_, _<_, min}
 use native.Mathlib.Omega.{arith}
 use native.Mathlib.Nat.{eq-or-lt-of-le}
-use borrow.Author.Tests.{eq-eqb, ne-eqb, lt-ltb, not-true}
-use lib.Dec.{eqb, ltb}
+use borrow.Author.Tests.{eq-eqb, ne-eqb, lt-ltb}
+use lib.Dec.{eqb}
 use Rattle.graph.specs.Admission.{Admitted}
 use Rattle.graph.specs.Finite.{ifEqual}
 use Rattle.graph.specs.Graph.{Graph, mark, node, word, isEdge, isXor}
@@ -24,7 +24,7 @@ use Rattle.moves.proofs.Compose.{seen-low, seen-node}
 use Rattle.moves.proofs.Count.{clash}
 use Rattle.moves.proofs.Flags.{flag-bit}
 use Rattle.moves.proofs.Moves.{moves-no-more, moves-of, moves-row, node-row}
-use Rattle.moves.proofs.Readers.{both-true, rootOf-root, rootOf-above, rootOf-inner, not-root}
+use Rattle.moves.proofs.Readers.{rootOf-root, rootOf-above, rootOf-inner, not-root}
 use Rattle.moves.proofs.TreeBest.{reader-node}
 use Rattle.resistive.specs.Family.{below, family, familyBy, stored, earlier, seenIn, readerFamily, keyCost, keyTurns, keyStored}
 use Rattle.resistive.specs.Resistive.{stillMoves, stillAt}
@@ -34,12 +34,13 @@ use Rattle.state.specs.State.{field}
 use Rattle.trees.specs.Costing.{CostsOnly}
 use Rattle.trees.specs.Deciding.{movesIn, ReaderDecided}
 use Rattle.trees.specs.Filling.{Stored}
+use Rattle.trees.proofs.DecidePass.{moves-at}
 use Rattle.trees.proofs.LinkSteps.{placed-root, placed-other, placed-low, other-if}
 use Rattle.trees.proofs.Ready.{Ready, ready-costs, named-below, named-in}
 use Rattle.resistive_call.specs.Keys.{turnAt, wordKeys, scoreBy, readerBy, besideAt, movesHere, KeyedBelow, FamiliesLow, StillDecided}
 use Rattle.resistive_call.proofs.Families.{by-turn}
 use Rattle.resistive_call.proofs.KeyPass.{below-is}
-use Rattle.resistive_call.proofs.Words.{words-low, family-now}
+use Rattle.resistive_call.proofs.Words.{words-low, family-now, turn-own, turn-other}
 use Rattle.choice.specs.Inner.{FirstBelow}
 
 -- the same first least move, the scores being the same
@@ -52,13 +53,6 @@ first-in f n n′ m m′ p q t = rw (← p, ← q) t
 moves-as : (h : Graph) (sc : List ℕ) (u : ℕ) → movesIn (h .I) sc u ≡ field sc (u - (h .I + 1)) 4
 unfolding movesIn
 moves-as h sc u = refl
-
-pub moves-at : (h : Graph) (sc : List ℕ) (v : ℕ) → movesIn (h .I) sc (node h v) ≡ field sc v 4
-moves-at h sc v = let e : node h v - (h .I + 1) ≡ v = omega arith in moves-as h sc (node h v) ∙ rw e
-
-inner-no : (h : Graph) (u : ℕ) → inner h u ≡ true → isRoot h u ≡ false
-unfolding inner
-inner-no h u e = not-true _ (both-true (ltb (h .I) u) (not (isRoot h u)) e .1)
 
 inner-yes : (h : Graph) (u : ℕ) → h .I < u → isRoot h u ≡ false → inner h u ≡ true
 unfolding inner
@@ -79,14 +73,6 @@ seen-input h r m u e = rw (seen-low h m u e) (same (eqb (rootOf h u) r))
     same : (b : Bool) → _≡_ {A = ℕ} (cond b 0 0) 0
     same true = refl
     same false = refl
-
-turn-own : (h : Graph) (sc : List ℕ) (v s u : ℕ) → u ≡ node h v → turnAt h sc v s u ≡ s
-unfolding turnAt
-turn-own h sc v s u e = sym (equal u (node h v) s _ e refl)
-
-turn-other : (h : Graph) (sc : List ℕ) (v s u : ℕ) → u ≢ node h v → turnAt h sc v s u ≡ flag (isXor h (u - (h .I + 1))) (field sc (u - (h .I + 1)) 4) 3
-unfolding turnAt
-turn-other h sc v s u e = sym (unequal u (node h v) s _ e refl)
 
 beside-root : (h : Graph) (sc : List ℕ) (v s : ℕ) → field sc v 3 ≡ mark → besideAt h sc v s ≡ 0
 unfolding besideAt

@@ -127,13 +127,12 @@ module _ (x : Bool) (z : List ℕ) (k f g h : ℕ) (kx : k < arity x) (ef : f �
         ← ei ∙ by-turn h (λ y. getD z (5 - y) 0) hl,
       ) er)
 
-pub either-low : (r f s t m : ℕ) → r ≡ ifEqual f 0 s t → s ≤ m → t ≤ m → r ≤ m
-unfolding ifEqual
-either-low r f s t m e a b = rw e (cond-le (eqb f 0) s t m a b)
-
 pub either-le : (f s t m : ℕ) → s ≤ m → t ≤ m → ifEqual f 0 s t ≤ m
 unfolding ifEqual
 either-le f s t m a b = cond-le (eqb f 0) s t m a b
+
+pub either-low : (r f s t m : ℕ) → r ≡ ifEqual f 0 s t → s ≤ m → t ≤ m → r ≤ m
+either-low r f s t m e a b = rw e (either-le f s t m a b)
 
 pub arity-true : (k : ℕ) → k < 4 → k < arity true
 unfolding arity
@@ -147,11 +146,6 @@ pub arity-few : (x : Bool) → arity x ≤ 4
 unfolding arity
 arity-few true = omega arith
 arity-few false = omega arith
-
-pub arity-two : (x : Bool) (k : ℕ) → k < 2 → k < arity x
-unfolding arity
-arity-two true k h = omega arith
-arity-two false k h = h
 
 module _ (z : List ℕ) (t : ℕ) where
   turn-true : min (familyBy true z (2 * t)) (familyBy true z (2 * t + 1)) ≡ turnBy true z t
@@ -199,11 +193,11 @@ still-xor x m r e q = rw (e, ← still-true) q
 pub still-majority : (x : Bool) (m r : ℕ) → x ≡ false → r ≡ min m 1 → r ≡ min m (stillMoves x)
 still-majority x m r e q = rw (e, ← still-false) q
 
-arity-xor : arity true ≡ 4
+pub arity-xor : arity true ≡ 4
 unfolding arity
 arity-xor = refl
 
-arity-majority : arity false ≡ 2
+pub arity-majority : arity false ≡ 2
 unfolding arity
 arity-majority = refl
 

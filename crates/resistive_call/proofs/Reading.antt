@@ -3,14 +3,14 @@ use mathlib.Core.Path.{_≡_, refl, sym, ap, _∙_}
 use mathlib.Core.Bool.{Bool, true, false}
 use mathlib.Core.List.{List, [], _∷_}
 use mathlib.Core.Logic.{⊎-elim, _≢_}
-use Prim.Native.Nat.{ℕ, zero, suc, _+_, _-_, _*_, _/_, _%_, _≤_, _<_, min}
+use Prim.Native.Nat.{ℕ, zero, suc, _+_, _-_, _/_, _%_, _≤_, _<_, min}
 use native.Mathlib.Omega.{arith}
 use borrow.Author.Tests.{eq-eqb, ne-eqb, lt-ltb, le-ltb}
 use lib.ListN.{getD}
 use Rattle.graph.specs.Finite.{ifEqual, ifLess}
 use Rattle.graph.specs.Graph.{Graph, mark, node, word, isEdge, isXor}
 use Rattle.graph.proofs.Cases.{eq-or-ne, lt-or-le}
-use Rattle.graph.proofs.Tests.{less, no-less, equal, unequal}
+use Rattle.graph.proofs.Tests.{equal, unequal}
 use Rattle.choice.specs.Inner.{FirstBelow}
 use Rattle.moves.specs.Decide.{MovesOf}
 use Rattle.moves.specs.Rows.{rows, firstRow, arity, flag, kindMoves, movesAt}
@@ -23,6 +23,8 @@ use Rattle.state.specs.State.{field, Ordered}
 use Rattle.trees.specs.Costing.{innerAt}
 use Rattle.trees.specs.Deciding.{ReaderDecided}
 use Rattle.trees.proofs.LinkSteps.{placed-other, other-if}
+use Rattle.resistive_call.proofs.Families.{arity-xor, arity-majority}
+use Rattle.resistive_call.proofs.Words.{turn-own, turn-other, cost-out, cost-below, cost-above}
 use Rattle.resistive_call.specs.Keys.{turnAt, turnCost, wordKey, wordAt, wordKeys, Low, CostsLow, scoreBy, keyBy, readerBy, besideAt, movesHere, FamiliesLow}
 
 pub stored-same : (x t : ℕ) → x % 2 ≡ t → _≡_ {A = ℕ} 0 (stored x t)
@@ -34,14 +36,6 @@ unfolding stored
 stored-other x t e = unequal (x % 2) t 0 (x / 2) e refl
 
 -- which moves turn the readers
-arity-xor : arity true ≡ 4
-unfolding arity
-arity-xor = refl
-
-arity-majority : arity false ≡ 2
-unfolding arity
-arity-majority = refl
-
 xor-turns : (m : ℕ) → m < 4 → flag true m 3 ≡ m / 2
 unfolding flag rows firstRow arity ifLess
 xor-turns zero h = refl
@@ -91,41 +85,41 @@ fixed-is (suc (suc s)) t a b = absurd (omega arith)
 
 -- what both turns of index u cost
 module _ (h : Graph) (sc : List ℕ) (v s u : ℕ) where
+  inner-input : u ≤ h .I → innerAt (h .I) sc u ≡ false
+  unfolding innerAt
+  inner-input l = rw (le-ltb (h .I) u l)
+
   pub turns-input : u ≤ h .I → (t : ℕ) → t < 2 → stored 608200 t ≡ turnCost h sc v s u t
-  unfolding turnCost innerAt
-  turns-input l t k = rw (le-ltb (h .I) u l) (fixed-is 0 t (omega arith) k)
+  turns-input l t k = fixed-is 0 t (omega arith) k ∙ sym (cost-out h sc v s u t (inner-input l))
 
   module _ (w : ℕ) (l : h .I < u) (e : w ≡ u - (h .I + 1)) where
+    inner-root : field sc w 3 ≡ mark → innerAt (h .I) sc u ≡ false
+    unfolding innerAt
+    inner-root m = rw (lt-ltb (h .I) u l, ← e, eq-eqb (field sc w 3) mark m)
+
+    inner-node : field sc w 3 ≢ mark → innerAt (h .I) sc u ≡ true
+    unfolding innerAt
+    inner-node m = rw (lt-ltb (h .I) u l, ← e, ne-eqb (field sc w 3) mark m)
+
     pub turns-root : field sc w 3 ≡ mark → (t : ℕ) → t < 2 → stored 608200 t ≡ turnCost h sc v s u t
-    unfolding turnCost innerAt
-    turns-root m t k = rw (lt-ltb (h .I) u l, ← e, eq-eqb (field sc w 3) mark m) (fixed-is 0 t (omega arith) k)
+    turns-root m t k = fixed-is 0 t (omega arith) k ∙ sym (cost-out h sc v s u t (inner-root m))
 
     pub turns-below : field sc w 3 ≢ mark → w < v → (x : ℕ) → x ≡ field sc w 4 → (t : ℕ) → t < 2 → stored x t ≡ turnCost h sc v s u t
-    unfolding turnCost innerAt
     turns-below m k x p t i =
-        rw (lt-ltb (h .I) u l, ← e, ne-eqb (field sc w 3) mark m)
-        (less u (node h v) (stored (field sc w 4) t) (ifEqual t (turnAt h sc v s u) 0 304100) (omega arith) (rw p))
+        ap (λ (y : ℕ). stored y t) (p ∙ ap (λ (y : ℕ). field sc y 4) e) ∙ sym (cost-below h sc v s u t (inner-node m) (omega arith))
 
     turns-decided : field sc w 3 ≢ mark → v ≤ w → (f : ℕ) → f ≤ 1 → turnAt h sc v s u ≡ f → (t : ℕ) → t < 2 → stored (608200 + f) t ≡ turnCost h sc v s u t
-    unfolding turnCost innerAt
     turns-decided m k f a q t i =
-        rw (lt-ltb (h .I) u l, ← e, ne-eqb (field sc w 3) mark m)
-        (no-less u (node h v) (stored (field sc w 4) t) (ifEqual t (turnAt h sc v s u) 0 304100) (omega arith) (rw q (fixed-is f t a i)))
-
-    turn-own : w ≡ v → turnAt h sc v s u ≡ s
-    unfolding turnAt
-    turn-own k = sym (equal u (node h v) s _ (omega arith) refl)
-
-    turn-above : w ≢ v → turnAt h sc v s u ≡ flag (isXor h w) (field sc w 4) 3
-    unfolding turnAt
-    turn-above k = rw (← e) (sym (unequal u (node h v) s (flag (isXor h w) (field sc w 4) 3) (λ z. k (omega arith)) refl))
+        fixed-is f t a i ∙ ap (λ (y : ℕ). ifEqual t y 0 304100) (sym q) ∙ sym (cost-above h sc v s u t (inner-node m) (omega arith))
 
     pub turns-own : field sc w 3 ≢ mark → w ≡ v → s ≤ 1 → (t : ℕ) → t < 2 → stored (608200 + s) t ≡ turnCost h sc v s u t
-    turns-own m k a = turns-decided m (omega arith) s a (turn-own k)
+    turns-own m k a = turns-decided m (omega arith) s a (turn-own h sc v s u (omega arith))
 
     pub turns-above : field sc w 3 ≢ mark → v ≤ w → w ≢ v → (x f : ℕ) (y : Bool) → x ≡ field sc w 4 → y ≡ isXor h w → f ≡ flag y x 3 → f ≤ 1 → (t : ℕ) → t < 2
         → stored (608200 + f) t ≡ turnCost h sc v s u t
-    turns-above m k d x f y ex ey ef a = turns-decided m k f a (turn-above d ∙ sym (ef ∙ ap (λ (i : ℕ). flag y i 3) ex ∙ ap (λ (i : Bool). flag i (field sc w 4) 3) ey))
+    turns-above m k d x f y ex ey ef a =
+        let own : f ≡ flag (isXor h w) (field sc w 4) 3 = ef ∙ ap (λ (i : ℕ). flag y i 3) ex ∙ ap (λ (i : Bool). flag i (field sc w 4) 3) ey in
+        turns-decided m k f a (turn-other h sc v s u (λ z. d (omega arith)) ∙ sym (own ∙ ap (λ (i : ℕ). flag (isXor h i) (field sc i 4) 3) e))
 
 -- the numbers of a word
 module _ (h : Graph) (sc : List ℕ) (v s j : ℕ) where

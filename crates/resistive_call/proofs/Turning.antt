@@ -13,11 +13,12 @@ use Rattle.graph.specs.Finite.{ifEqual}
 use Rattle.graph.specs.Graph.{Graph, mark, node, word, isEdge}
 use Rattle.graph.proofs.Cases.{true-or-false, eq-or-ne}
 use Rattle.graph.proofs.Edge.{edge-none}
-use Rattle.graph.proofs.Tests.{no-less, equal, unequal}
+use Rattle.graph.proofs.Tests.{equal, unequal}
 use Rattle.moves.specs.Decide.{swapped, given, naming}
 use Rattle.moves.proofs.Deciding.{naming-le}
 use Rattle.state.specs.State.{field, Ordered}
 use Rattle.trees.specs.Costing.{innerAt}
+use Rattle.resistive_call.proofs.Words.{turn-own, turn-other, cost-above}
 use Rattle.resistive_call.specs.Keys.{turnAt, turnCost, wordKey, wordAt, wordKeys}
 
 -- p and q, as they stand or with their places changed
@@ -67,20 +68,12 @@ module _ (h : Graph) (sc : List ℕ) (v : ℕ) (adm : Admitted h) (vn : v < h .N
   unfolding innerAt
   inner-own = let e : node h v - (h .I + 1) ≡ v = omega arith in rw (lt-ltb (h .I) (node h v) (omega arith), e, ne-eqb (field sc v 3) mark d)
 
-  own-turn : (s : ℕ) → turnAt h sc v s (node h v) ≡ s
-  unfolding turnAt
-  own-turn s = sym (equal (node h v) (node h v) s _ refl refl)
-
   own-cost : (s t : ℕ) → turnCost h sc v s (node h v) t ≡ ifEqual t s 0 304100
-  unfolding turnCost
-  own-cost s t =
-      rw inner-own
-      (sym (no-less (node h v) (node h v) _ (ifEqual t (turnAt h sc v s (node h v)) 0 304100) (omega arith) refl) ∙ ap (λ (x : ℕ). ifEqual t x 0 304100) (own-turn s))
+  own-cost s t = cost-above h sc v s (node h v) t inner-own (omega arith) ∙ ap (λ (x : ℕ). ifEqual t x 0 304100) (turn-own h sc v s (node h v) refl)
 
   -- any other index is not changed
   other-turn : (u : ℕ) → u ≢ node h v → (s s′ : ℕ) → turnAt h sc v s u ≡ turnAt h sc v s′ u
-  unfolding turnAt
-  other-turn u q s s′ = sym (unequal u (node h v) s _ q refl) ∙ unequal u (node h v) s′ _ q refl
+  other-turn u q s s′ = turn-other h sc v s u q ∙ sym (turn-other h sc v s′ u q)
 
   other-cost : (u : ℕ) → u ≢ node h v → (s s′ t : ℕ) → turnCost h sc v s u t ≡ turnCost h sc v s′ u t
   unfolding turnCost

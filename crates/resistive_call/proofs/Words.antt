@@ -3,7 +3,7 @@
 use mathlib.Core.Path.{_≡_, refl, sym, ap, _∙_}
 use mathlib.Core.Bool.{Bool, true, false, not, cond, _&&_}
 use mathlib.Core.List.{List}
-use mathlib.Core.Logic.{_⊎_, inl, inr, ⊎-elim}
+use mathlib.Core.Logic.{_⊎_, inl, inr, ⊎-elim, _≢_}
 use Prim.Native.Nat.{ℕ, zero, suc, _+_, _-_, _*_, _/_, _%_, _≤_, _<_}
 use native.Mathlib.Omega.{arith}
 use borrow.Author.Tests.{lt-ltb, le-ltb, ltb-true}
@@ -13,9 +13,9 @@ use Rattle.graph.specs.Admission.{Admitted}
 use Rattle.graph.specs.Finite.{ifEqual, ifLess}
 use Rattle.graph.specs.Graph.{Graph, node, word, isEdge, isXor}
 use Rattle.graph.proofs.Cases.{true-or-false, lt-or-le, cond-le}
-use Rattle.graph.proofs.Tests.{less, no-less}
+use Rattle.graph.proofs.Tests.{less, no-less, equal, unequal}
 use Rattle.moves.specs.Cost.{inner}
-use Rattle.moves.specs.Rows.{arity, movesAt}
+use Rattle.moves.specs.Rows.{arity, flag, movesAt}
 use Rattle.moves.specs.Tree.{isRoot}
 use Rattle.moves.proofs.Count.{clash}
 use Rattle.moves.proofs.Moves.{moves-of}
@@ -59,17 +59,27 @@ module _ (h : Graph) (ls : List ℕ) (adm : Admitted h) where
       (λ (e : movesAt h ls (node h v) ≡ arity (isXor h v)). inr (ap turnsOf e ∙ turns-all (isXor h v)))
       (moves-of h ls v)
 
--- what a turn of u costs, as scratch has it
+-- how u is turned, as scratch has it
+module _ (h : Graph) (sc : List ℕ) (v s u : ℕ) where
+  pub turn-own : u ≡ node h v → turnAt h sc v s u ≡ s
+  unfolding turnAt
+  turn-own e = sym (equal u (node h v) s _ e refl)
+
+  pub turn-other : u ≢ node h v → turnAt h sc v s u ≡ flag (isXor h (u - (h .I + 1))) (field sc (u - (h .I + 1)) 4) 3
+  unfolding turnAt
+  turn-other e = sym (unequal u (node h v) s _ e refl)
+
+-- and what its turn costs
 module _ (h : Graph) (sc : List ℕ) (v s u t : ℕ) where
-  cost-out : innerAt (h .I) sc u ≡ false → turnCost h sc v s u t ≡ ifEqual t 0 0 304100
+  pub cost-out : innerAt (h .I) sc u ≡ false → turnCost h sc v s u t ≡ ifEqual t 0 0 304100
   unfolding turnCost
   cost-out e = rw e
 
-  cost-below : innerAt (h .I) sc u ≡ true → u < node h v → turnCost h sc v s u t ≡ stored (field sc (u - (h .I + 1)) 4) t
+  pub cost-below : innerAt (h .I) sc u ≡ true → u < node h v → turnCost h sc v s u t ≡ stored (field sc (u - (h .I + 1)) 4) t
   unfolding turnCost
   cost-below e l = rw e (sym (less u (node h v) (stored (field sc (u - (h .I + 1)) 4) t) (ifEqual t (turnAt h sc v s u) 0 304100) l refl))
 
-  cost-above : innerAt (h .I) sc u ≡ true → node h v ≤ u → turnCost h sc v s u t ≡ ifEqual t (turnAt h sc v s u) 0 304100
+  pub cost-above : innerAt (h .I) sc u ≡ true → node h v ≤ u → turnCost h sc v s u t ≡ ifEqual t (turnAt h sc v s u) 0 304100
   unfolding turnCost
   cost-above e l = rw e (sym (no-less u (node h v) (stored (field sc (u - (h .I + 1)) 4) t) (ifEqual t (turnAt h sc v s u) 0 304100) l refl))
 

@@ -1,7 +1,7 @@
 // The costs of a tree's nodes for resistive memory, by rising index.
 ghost use mathlib.Core.Path.{_≡_};
 ghost use mathlib.Core.Bool.{true};
-ghost use Prim.Native.Nat.{_+_, _*_, _≤_, _<_};
+ghost use Prim.Native.Nat.{_+_, _≤_, _<_};
 ghost use lib.ListN.{length};
 ghost use Rattle.graph.specs.Graph.{isXor};
 ghost use Rattle.graph.specs.Literals.{graphIn};

@@ -1,5 +1,4 @@
 -- `reader_keys` meets its contract. From what a family is worked out from.
-use Prim.Native.Nat.{_+_}
 use borrow.Author.Needs.{needs}
 use Rattle.graph.specs.Graph.{Graph}
 use Rattle.graph.specs.Literals.{graphIn}

@@ -1,5 +1,4 @@
 -- `rewrite_still` fills scratch, decides the tree, writes its moves and counts again: that is the call.
-use mathlib.Core.Path.{_≡_}
 use borrow.Author.Needs.{needs}
 use Rattle.trees.proofs.Ready.{ordered-costs}
 use Rattle.tree_call.proofs.Saved.{root-node}
