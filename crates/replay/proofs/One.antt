@@ -21,6 +21,7 @@ use Rattle.moves.specs.declared.Gain.{Gain}
 use Rattle.moves.specs.declared.Gain.the-variants.{Whole, Refused}
 use Rattle.many.specs.Many.{manyCall}
 use Rattle.rounds.specs.Settle.{settleCall}
+use Rattle.resistive.specs.Resistive.{resistiveCall}
 use Rattle.answers.specs.Told.{toldBy, toldOne, toldSigned, toldGain}
 use Rattle.hidden.specs.Truth.{Triple, triple}
 use Rattle.hidden.specs.Call.{majorityAnswer, foundAnswer, majorityCall, findCall}
@@ -28,7 +29,7 @@ use Rattle.hidden.specs.declared.Majority.{Majority}
 use Rattle.hidden.specs.declared.Majority.the-variants as became
 use Rattle.hidden.specs.declared.Found.{Found}
 use Rattle.hidden.specs.declared.Found.the-variants as finder
-use Rattle.promises.specs.Demand.{Call, nodeAt, pairAt, treeAt, settling, manyAt, majorityAt, finding, Locked, withLocks, beside, step, left, rewires}
+use Rattle.promises.specs.Demand.{Call, nodeAt, pairAt, treeAt, settling, manyAt, majorityAt, finding, resistiveAt, Locked, withLocks, beside, step, left, rewires}
 use Rattle.replay.specs.Replay.{Lent, lent, part, threeAt, movingOf, callOf, lesser, valueOf, secondOf}
 use Rattle.replay.specs.Inner.{Answers, Tells}
 use Rattle.replay.specs.declared.calls.CallAnswer.{CallAnswer}
@@ -137,19 +138,41 @@ pub told-finding : (g h : Graph) (ls ls′ sc : List ℕ) (a : Answer) (r : Call
     → Tells (withLocks g ls) (finding sc) (withLocks h ls′) r
 told-finding g h ls ls′ sc a r e q = tells (withLocks g ls) (withLocks h ls′) (finding sc) a r e q
 
--- the call of a kind: one that makes moves, a majority call, the finder
+-- the call on a tree for resistive memory
+pub told-memory : (g h : Graph) (ls sc : List ℕ) (u : ℕ) (a : Answer) (r : CallAnswer) → outcome a h ≡ resistiveCall g ls (length sc) u → Answers ownOf a (h .N) r
+    → Tells (withLocks g ls) (resistiveAt u sc) (withLocks h ls) r
+told-memory g h ls sc u a r e q = tells (withLocks g ls) (withLocks h ls) (resistiveAt u sc) a r (ap (beside (withLocks g ls)) e) q
+
+-- the call of a kind: one that makes moves, a majority call, the finder, one for resistive memory
 module _ (d h : Locked) (sc us ms : List ℕ) (k u w : ℕ) (t : CallAnswer) where
-  pub told-moving : k < 5 → Tells d (movingOf (lent sc us ms) k u w) h t → Tells d (callOf (lent sc us ms) k u w) h t
-  unfolding callOf
-  told-moving l q = rw (← less k 5 (movingOf (lent sc us ms) k u w) (ifEqual k 5 (majorityAt u (threeAt w us) sc) (finding sc)) l refl) q
+  abbrev Told-call : Type 0
+  Told-call = Tells d (callOf (lent sc us ms) k u w) h t
 
-  pub told-five : 5 ≤ k → k ≡ 5 → Tells d (majorityAt u (threeAt w us) sc) h t → Tells d (callOf (lent sc us ms) k u w) h t
-  unfolding callOf
-  told-five l e q = rw (← no-less k 5 (movingOf (lent sc us ms) k u w) _ l (equal k 5 (majorityAt u (threeAt w us) sc) (finding sc) e refl)) q
+  -- what is left of the choice from kind 6 and from kind 5 on
+  abbrev from-six : Call
+  from-six = ifEqual k 6 (finding sc) (resistiveAt u sc)
 
-  pub told-six : 5 ≤ k → k ≢ 5 → Tells d (finding sc) h t → Tells d (callOf (lent sc us ms) k u w) h t
+  abbrev from-five : Call
+  from-five = ifEqual k 5 (majorityAt u (threeAt w us) sc) from-six
+
+  pub told-moving : k < 5 → Tells d (movingOf (lent sc us ms) k u w) h t → Told-call
   unfolding callOf
-  told-six l e q = rw (← no-less k 5 (movingOf (lent sc us ms) k u w) _ l (unequal k 5 (majorityAt u (threeAt w us) sc) (finding sc) e refl)) q
+  told-moving l q = rw (← less k 5 (movingOf (lent sc us ms) k u w) from-five l refl) q
+
+  pub told-five : 5 ≤ k → k ≡ 5 → Tells d (majorityAt u (threeAt w us) sc) h t → Told-call
+  unfolding callOf
+  told-five l e q = rw (← no-less k 5 (movingOf (lent sc us ms) k u w) from-five l (equal k 5 (majorityAt u (threeAt w us) sc) from-six e refl)) q
+
+  module _ (l : 5 ≤ k) (m : k ≢ 5) where
+    pub told-six : k ≡ 6 → Tells d (finding sc) h t → Told-call
+    unfolding callOf
+    told-six e q =
+        rw (← no-less k 5 (movingOf (lent sc us ms) k u w) from-five l (unequal k 5 (majorityAt u (threeAt w us) sc) from-six m (equal k 6 (finding sc) (resistiveAt u sc) e refl))) q
+
+    pub told-seven : k ≢ 6 → Tells d (resistiveAt u sc) h t → Told-call
+    unfolding callOf
+    told-seven n q =
+        rw (← no-less k 5 (movingOf (lent sc us ms) k u w) from-five l (unequal k 5 (majorityAt u (threeAt w us) sc) from-six m (unequal k 6 (finding sc) (resistiveAt u sc) n refl))) q
 
 -- the number of nodes is the one that it answers
 pub by-answer : (d : Locked) (c : Call) (i n o : ℕ) (ns os ls : List ℕ) (t : CallAnswer) → Tells d c (withLocks (graphOf i n o ns os) ls) t
@@ -206,22 +229,23 @@ record Alike (d : Locked) (c c′ : Call) : Type 0 where
   steps : step d c ≡ step d c′
   words : rewires c ≡ rewires c′
 
-alike : (b x y z a m : Bool) (d : Locked) (sc sc′ us ms : List ℕ) (u w : ℕ) (v : Triple) → length sc ≡ length sc′
-    → let c = cond b (cond x (nodeAt u) (cond y (pairAt u w) (cond z (treeAt u sc) (cond a (settling sc) (manyAt us ms))))) (cond m (majorityAt u v sc) (finding sc)) in
-    let c′ = cond b (cond x (nodeAt u) (cond y (pairAt u w) (cond z (treeAt u sc′) (cond a (settling sc′) (manyAt us ms))))) (cond m (majorityAt u v sc′) (finding sc′)) in
+alike : (b x y z a m f : Bool) (d : Locked) (sc sc′ us ms : List ℕ) (u w : ℕ) (v : Triple) → length sc ≡ length sc′
+    → let c = cond b (cond x (nodeAt u) (cond y (pairAt u w) (cond z (treeAt u sc) (cond a (settling sc) (manyAt us ms))))) (cond m (majorityAt u v sc) (cond f (finding sc) (resistiveAt u sc))) in
+    let c′ = cond b (cond x (nodeAt u) (cond y (pairAt u w) (cond z (treeAt u sc′) (cond a (settling sc′) (manyAt us ms))))) (cond m (majorityAt u v sc′) (cond f (finding sc′) (resistiveAt u sc′))) in
     Alike d c c′
-alike true true y z a m d sc sc′ us ms u w v e = record { steps = refl; words = refl }
-alike true false true z a m d sc sc′ us ms u w v e = record { steps = refl; words = refl }
-alike true false false true a m d sc sc′ us ms u w v e = record { steps = ap (λ (n : ℕ). beside d (treeCall (d .graph) (d .locks) n u)) e; words = refl }
-alike true false false false true m d sc sc′ us ms u w v e = record { steps = ap (λ (n : ℕ). beside d (settleCall (d .graph) (d .locks) n)) e; words = refl }
-alike true false false false false m d sc sc′ us ms u w v e = record { steps = refl; words = refl }
-alike false x y z a true d sc sc′ us ms u w v e = record { steps = ap (λ (n : ℕ). beside d (majorityCall (d .graph) (d .locks) n v u)) e; words = refl }
-alike false x y z a false d sc sc′ us ms u w v e = record { steps = ap (λ (n : ℕ). findCall (d .graph) (d .locks) n) e; words = refl }
+alike true true y z a m f d sc sc′ us ms u w v e = record { steps = refl; words = refl }
+alike true false true z a m f d sc sc′ us ms u w v e = record { steps = refl; words = refl }
+alike true false false true a m f d sc sc′ us ms u w v e = record { steps = ap (λ (n : ℕ). beside d (treeCall (d .graph) (d .locks) n u)) e; words = refl }
+alike true false false false true m f d sc sc′ us ms u w v e = record { steps = ap (λ (n : ℕ). beside d (settleCall (d .graph) (d .locks) n)) e; words = refl }
+alike true false false false false m f d sc sc′ us ms u w v e = record { steps = refl; words = refl }
+alike false x y z a true f d sc sc′ us ms u w v e = record { steps = ap (λ (n : ℕ). beside d (majorityCall (d .graph) (d .locks) n v u)) e; words = refl }
+alike false x y z a false true d sc sc′ us ms u w v e = record { steps = ap (λ (n : ℕ). findCall (d .graph) (d .locks) n) e; words = refl }
+alike false x y z a false false d sc sc′ us ms u w v e = record { steps = ap (λ (n : ℕ). beside d (resistiveCall (d .graph) (d .locks) n u)) e; words = refl }
 
 module _ (d h : Locked) (sc sc′ us ms : List ℕ) (k u w : ℕ) (t : CallAnswer) (e : length sc ≡ length sc′) where
   same-call : Alike d (callOf (lent sc us ms) k u w) (callOf (lent sc′ us ms) k u w)
   unfolding callOf movingOf ifLess ifEqual
-  same-call = alike (ltb k 5) (eqb k 0) (eqb k 1) (eqb k 2) (eqb k 3) (eqb k 5) d sc sc′ (part u w us) (part u w ms) u w (threeAt w us) e
+  same-call = alike (ltb k 5) (eqb k 0) (eqb k 1) (eqb k 2) (eqb k 3) (eqb k 5) (eqb k 6) d sc sc′ (part u w us) (part u w ms) u w (threeAt w us) e
 
   pub tells-alike : Tells d (callOf (lent sc us ms) k u w) h t → Tells d (callOf (lent sc′ us ms) k u w) h t
   tells-alike q =

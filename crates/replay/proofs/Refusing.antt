@@ -12,13 +12,13 @@ use Rattle.replay.specs.Replay.{partNumber, callNumber, wordsNumber, cod
 
 -- what the tests of one call come to
 module _ (n k u w : ℕ) where
-  pub kind-unknown : 6 < k → 102 ≡ callNumber n k u w
+  pub kind-unknown : 7 < k → 102 ≡ callNumber n k u w
   unfolding callNumber
-  kind-unknown h = let q : _≡_ {A = ℕ} 102 (ifLess 6 k 102 0) = less 6 k 102 0 h refl in fault _ _ q (λ z. omega (arith, q))
+  kind-unknown h = let q : _≡_ {A = ℕ} 102 (ifLess 7 k 102 0) = less 7 k 102 0 h refl in fault _ _ q (λ z. omega (arith, q))
 
-  module _ (h : k ≤ 6) where
-    kind-known : _≡_ {A = ℕ} (ifLess 6 k 102 0) 0
-    kind-known = sym (no-less 6 k 102 0 h refl)
+  module _ (h : k ≤ 7) where
+    kind-known : _≡_ {A = ℕ} (ifLess 7 k 102 0) 0
+    kind-known = sym (no-less 7 k 102 0 h refl)
 
     pub of-many : {x : ℕ} → k ≡ 4 → x ≡ partNumber n (u + w) → x ≡ callNumber n k u w
     unfolding callNumber
@@ -60,8 +60,8 @@ module _ (n : ℕ) where
   call-cases : (k u w : ℕ) → callNumber n k u w ≢ 0 → callNumber n k u w ≢ 102 → 105 ≡ callNumber n k u w
   call-cases k u w z m =
       ⊎-elim
-      (λ (h : 6 < k). absurd (m (sym (kind-unknown n k u w h))))
-      (λ (h : k ≤ 6).
+      (λ (h : 7 < k). absurd (m (sym (kind-unknown n k u w h))))
+      (λ (h : k ≤ 7).
       ⊎-elim
       (λ (e : k ≡ 4). at-part _ (u + w) (of-many n k u w h e refl) z)
       (λ (f : k ≢ 4).
@@ -70,7 +70,7 @@ module _ (n : ℕ) where
       (λ (e : k ≢ 5). absurd (z (sym (no-part n k u w h f e))))
       (eq-or-ne k 5))
       (eq-or-ne k 4))
-      (lt-or-le 6 k)
+      (lt-or-le 7 k)
 
   first-cases : (a b : ℕ) → first a b ≢ 0 → first a b ≢ 102 → (a ≢ 0 → a ≢ 102 → 105 ≡ a) → (b ≢ 0 → b ≢ 102 → 105 ≡ b) → 105 ≡ first a b
   unfolding first

@@ -1,13 +1,13 @@
 -- A replay: a file is loaded, and a list of calls is made on the loaded graph and its locks, each on what the one before left. A call is three
--- words: its kind (0 node, 1 pair, 2 tree, 3 settling, 4 many moves, 5 majority, 6 finder), a node and a word. Many moves have in their
--- place where their part of the lent nodes and moves begins, and how many entries it has; a majority call has for a word where its three
--- indices begin among the lent nodes. A call's answer is three signed words: the number, and what it saved over the words of the nodes that
+-- words: its kind (0 node, 1 pair, 2 tree, 3 settling, 4 many moves, 5 majority, 6 finder, 7 a tree for resistive memory), a node and a word.
+-- Many moves have in their place where their part of the lent nodes and moves begins, and how many entries it has; a majority call has for a
+-- word where its three indices begin among the lent nodes. A call's answer is three signed words: the number, and what it saved over the words of the nodes that
 -- it names and over all other edges. Settling's are the sums over its calls, and many moves' the whole saving and 0; the majority call and
 -- the finder have what they answer, and 0.
 use Rattle.graph.specs.All.{ℕ, _+_, _*_, _/_, _%_, _≤_, _<_, cond, _≡_, List, [], _∷_, _++_, length, getD, take, drop, ℤ, pos, _+ℤ_, ifLess, ifEqual, first, Graph, graphOf, wiring, Assignment, outputValue, C, Answer, accepted, refused, numberOf, ownOf, othersOf, LockedOutcome, lockedOutcome, guardedLocks}
 use Rattle.tagged_file.specs.All.{blank, loadCall}
 use Rattle.hidden.specs.All.{Triple, triple}
-use Rattle.promises.specs.All.{Call, nodeAt, pairAt, treeAt, settling, manyAt, majorityAt, finding, Locked, step, left, run, rewires, Quiet, Demand}
+use Rattle.promises.specs.All.{Call, nodeAt, pairAt, treeAt, settling, manyAt, majorityAt, finding, resistiveAt, Locked, step, left, run, rewires, Quiet, Demand}
 use Rattle.replay.specs.{declared.CallsFault.CallsFault, declared.Replayed.Replayed}
 use Rattle.replay.specs.declared.CallsFault.the-variants.{LeftOver, UnknownKind, PartOutside}
 use Rattle.replay.specs.declared.Replayed.the-variants as replayed
@@ -38,12 +38,13 @@ movingOf t k u w =
     (ifEqual k 3 (settling (t .scratch))
     (manyAt (part u w (t .list)) (part u w (t .moves))))))
 
--- the call of kind k at node u and word w: what a kind does not want is not looked at, and a kind above 6 is refused before any call
+-- the call of kind k at node u and word w: what a kind does not want is not looked at, and a kind above 7 is refused before any call
 unfoldable pub callOf : Lent → ℕ → ℕ → ℕ → Call
 callOf t k u w =
     ifLess k 5 (movingOf t k u w)
     (ifEqual k 5 (majorityAt u (threeAt w (t .list)) (t .scratch))
-    (finding (t .scratch)))
+    (ifEqual k 6 (finding (t .scratch))
+    (resistiveAt u (t .scratch))))
 
 -- the calls that words say, three to a call
 abbrev pub decode : Lent → List ℕ → List Call
@@ -68,7 +69,7 @@ answersOf d (c ∷ cs) =
     pos (a .number) ∷ secondOf c a ∷ othersOf a ∷ answersOf (left (step d c)) cs
 
 -- The faults of a list of words are a replay's own, and their numbers are none of document 01's. 101: words are left over, fewer
--- than a call has; 102: a call's kind is above 6; 105: the part of many moves, or the three of a majority call, reach past the end of the
+-- than a call has; 102: a call's kind is above 7; 105: the part of many moves, or the three of a majority call, reach past the end of the
 -- lent nodes.
 abbrev pub callsNumber : CallsFault → ℕ
 callsNumber LeftOver = 101
@@ -80,7 +81,7 @@ unfoldable pub partNumber : ℕ → ℕ → ℕ
 partNumber n end = ifLess n end 105 0
 
 unfoldable pub callNumber : ℕ → ℕ → ℕ → ℕ → ℕ
-callNumber n k u w = first (ifLess 6 k 102 0) (ifEqual k 4 (partNumber n (u + w)) (ifEqual k 5 (partNumber n (w + 3)) 0))
+callNumber n k u w = first (ifLess 7 k 102 0) (ifEqual k 4 (partNumber n (u + w)) (ifEqual k 5 (partNumber n (w + 3)) 0))
 
 abbrev pub wordsNumber : ℕ → List ℕ → ℕ
 wordsNumber n [] = 0

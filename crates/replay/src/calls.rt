@@ -8,7 +8,7 @@ ghost use Rattle.graph.specs.Literals.{graphIn};
 ghost use Rattle.moves.specs.Call.{savingAnswer, gainAnswer};
 ghost use Rattle.settling.specs.Settle.{settledAnswer};
 ghost use Rattle.hidden.specs.Call.{majorityAnswer, foundAnswer, nodesAfter};
-ghost use Rattle.promises.specs.Demand.{manyAt, majorityAt, finding, withLocks, run};
+ghost use Rattle.promises.specs.Demand.{manyAt, majorityAt, finding, resistiveAt, withLocks, run};
 ghost use Rattle.replay.specs.Replay.{lent, part, threeAt, movingOf, callOf, decode, valueOf, answersOf};
 ghost use Rattle.replay.specs.Inner.{Answers, Tells};
 use crate::faults::lesser;
@@ -321,7 +321,40 @@ pub fn find_call(
     )
 }
 
-// The call that three words say; kinds above 6 are refused before.
+// The call on a tree for resistive memory.
+pub fn memory_call(
+    inputs: u32,
+    nodes: u32,
+    outputs: u32,
+    node_table: &[u32],
+    node_bits: &mut [u64],
+    output_table: &[u32],
+    output_bits: &mut [u64],
+    locks: &[u8],
+    root: u32,
+    scratch: &mut [u32],
+) -> CallAnswer
+    ensures { λ r.
+        let g = graphIn inputs nodes outputs (now («node_table» .entry)) (now («node_bits» .entry)) (now («output_table» .entry)) (now («output_bits» .entry)) in
+        let k = graphIn inputs nodes outputs (now («node_table» .entry)) (now («node_bits» .exit)) (now («output_table» .entry)) (now («output_bits» .exit)) in
+        ⌜ Tells (withLocks g (now (locks .entry))) (resistiveAt root (now (scratch .entry))) (withLocks k (now (locks .entry))) r ⌝ }
+{
+    let answer = resistive_call::resistive_call(
+        inputs,
+        nodes,
+        outputs,
+        node_table,
+        node_bits,
+        output_table,
+        output_bits,
+        locks,
+        root,
+        scratch,
+    );
+    saving_answer(answer, nodes)
+}
+
+// The call that three words say; kinds above 7 are refused before.
 pub fn one_call(
     inputs: u32,
     nodes: u32,
@@ -378,7 +411,20 @@ pub fn one_call(
             scratch,
         );
     }
-    find_call(
+    if kind == 6 {
+        return find_call(
+            inputs,
+            nodes,
+            outputs,
+            node_table,
+            node_bits,
+            output_table,
+            output_bits,
+            locks,
+            scratch,
+        );
+    }
+    memory_call(
         inputs,
         nodes,
         outputs,
@@ -387,6 +433,7 @@ pub fn one_call(
         output_table,
         output_bits,
         locks,
+        node,
         scratch,
     )
 }

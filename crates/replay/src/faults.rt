@@ -25,7 +25,7 @@ pub fn part_number(length: usize, end: usize) -> u32
 pub fn call_number(length: usize, kind: u32, node: u32, word: u32) -> u32
     ensures { λ r. ⌜ r ≡ callNumber length kind node word ⌝ }
 {
-    if 6 < kind {
+    if 7 < kind {
         return 102;
     }
     if kind == 4 {

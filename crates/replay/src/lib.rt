@@ -31,10 +31,10 @@ pub enum Replayed {
     Refused(graph::Refusal),
 }
 
-// Each call is three words of `calls`: kind (0 node, 1 pair, 2 tree, 3 settling, 4 many moves, 5 majority, 6 finder), node and word. Many
-// moves have in their place where their part of `list` and `bytes` begins and how many entries it has, and a majority call for a word
-// where its three indices begin in `list`. Its answer is three words of `answers`: the number, and both numbers of its saving; of a
-// majority call and the finder what they answer, and 0.
+// Each call is three words of `calls`: kind (0 node, 1 pair, 2 tree, 3 settling, 4 many moves, 5 majority, 6 finder, 7 a tree for
+// resistive memory), node and word. Many moves have in their place where their part of `list` and `bytes` begins and how many entries it
+// has, and a majority call for a word where its three indices begin in `list`. Its answer is three words of `answers`: the number, and both
+// numbers of its saving; of a majority call and the finder what they answer, and 0.
 pub fn replay(
     file: &[u8],
     calls: &[u32],
