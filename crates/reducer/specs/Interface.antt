@@ -11,7 +11,7 @@ use denote.Triple.Both.{Both}
 unfoldable pub fieldAnswer : List ℕ → Answer
 fieldAnswer s = unless (fieldNumber s) (accepted (3 ∷ length (fieldPayload s) ∷ []))
 
--- node, pair, tree and settling: the graph k, and both numbers of the saving
+-- node, pair, tree, resistive and settling: the graph k, and both numbers of the saving
 pub record SavingLeft (o : Outcome) (r : ℕ) (k : Graph) (saving : Both (RefT (List ℤ)) (RefT (List ℤ))) : Type 0 where
   pub number : r ≡ o .answer .number
   pub graph : k ≡ o .graph

@@ -16,6 +16,7 @@ ghost use Rattle.aiger.specs.Export.{exportCall};
 ghost use Rattle.evaluation.specs.Evaluation.{evaluateNumber, resultsAfter};
 ghost use Rattle.moves.specs.Call.{nodeCall, pairCall, treeCall, trialCall};
 ghost use Rattle.preview.specs.Preview.{previewAnswer, previewBytes};
+ghost use Rattle.resistive.specs.Resistive.{resistiveCall};
 ghost use Rattle.many.specs.Many.{manyCall};
 ghost use Rattle.rounds.specs.Settle.{settleCall};
 ghost use Rattle.hidden.specs.Truth.{triple};
@@ -420,6 +421,47 @@ pub extern "C" fn reducer_tree(
         ⌜ ScratchKept (o .answer) (before scratch) (after scratch) ⌝ }
 {
     let answer = tree_call::tree_call(
+        inputs,
+        nodes,
+        outputs,
+        node_table,
+        node_bits,
+        output_table,
+        output_bits,
+        locks,
+        root,
+        scratch,
+    );
+    *saving = answers::told::saving_told(answer, *saving);
+    answers::told::saving_number(answer)
+}
+
+// The moves of the tree of a root that are best for resistive memory; `saving` may be below 0.
+#[no_mangle]
+pub extern "C" fn reducer_resistive(
+    inputs: u32,
+    nodes: u32,
+    outputs: u32,
+    node_table: &[u32],
+    node_bits: &mut [u64],
+    output_table: &[u32],
+    output_bits: &mut [u64],
+    locks: &[u8],
+    root: u32,
+    scratch: &mut [u32],
+    saving: &mut [i64; 2],
+) -> u32
+    ensures saving { λ r.
+        let g = graphBefore inputs nodes outputs «node_table» «node_bits» «output_table» «output_bits» in
+        let k = graphAfter inputs nodes outputs «node_table» «node_bits» «output_table» «output_bits» in
+        let o = resistiveCall g (before locks) (length (before scratch)) root in
+        ⌜ SavingLeft o r k saving ⌝ }
+    ensures scratch { λ r.
+        let g = graphBefore inputs nodes outputs «node_table» «node_bits» «output_table» «output_bits» in
+        let o = resistiveCall g (before locks) (length (before scratch)) root in
+        ⌜ ScratchKept (o .answer) (before scratch) (after scratch) ⌝ }
+{
+    let answer = resistive_call::resistive_call(
         inputs,
         nodes,
         outputs,
