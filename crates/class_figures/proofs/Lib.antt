@@ -1,0 +1,9 @@
+pub mod SameKinds
+pub mod Falling
+pub mod Refusing
+pub mod Answering
+pub mod Standing
+pub mod Low
+pub mod Afresh
+pub mod Worked
+pub mod Promises
