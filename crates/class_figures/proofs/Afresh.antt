@@ -6,7 +6,7 @@ use mathlib.Core.Logic.{⊎-elim, _≢_}
 use Prim.Native.Nat.{ℕ, zero, suc, _≤_, _<_}
 use native.Mathlib.Omega.{arith}
 use lib.ListN.{length, getD}
-use Rattle.graph.specs.Finite.{ifLess, ifEqual, firstOf}
+use Rattle.graph.specs.Finite.{ifLess, firstOf}
 use Rattle.graph.specs.Graph.{Graph}
 use Rattle.graph.proofs.Cases.{lt-or-le, eq-or-ne}
 use Rattle.graph.proofs.Tests.{less, no-less, equal, unequal, fault, none, all-none}
@@ -81,7 +81,7 @@ module _ (rs : List (List ℕ)) (r : List ℕ) (q : Good rs r) where
     unfolding classCall oneMore
     taken l z = (
       book-new number (h .graph) r result (number-is l ∙ z),
-      sym (less (length rs) 1000 (ifEqual (numberFor h) 0 (rowFor h ∷ rs) rs) rs l (equal (numberFor h) 0 (rowFor h ∷ rs) rs z refl)),
+      sym (less (length rs) 1000 _ _ l (equal (numberFor h) 0 _ _ z refl)),
     )
 
     refused-one : number ≢ 0 → book ≡ r
@@ -92,14 +92,14 @@ module _ (rs : List (List ℕ)) (r : List ℕ) (q : Good rs r) where
     unfolding oneMore
     left-out l d = (
       refused-one (λ z. d (sym (number-is l) ∙ z)),
-      sym (less (length rs) 1000 (ifEqual (numberFor h) 0 (rowFor h ∷ rs) rs) rs l (unequal (numberFor h) 0 (rowFor h ∷ rs) rs d refl)),
+      sym (less (length rs) 1000 _ _ l (unequal (numberFor h) 0 _ _ d refl)),
     )
 
     over : 1000 ≤ length rs → (book ≡ r) × (oneMore rs h ≡ rs)
     unfolding oneMore
     over l = (
       refused-one (λ z. let e = number-full l in omega arith),
-      sym (no-less (length rs) 1000 (ifEqual (numberFor h) 0 (rowFor h ∷ rs) rs) rs l refl),
+      sym (no-less (length rs) 1000 _ _ l refl),
     )
 
     one-good : Good (oneMore rs h) book
