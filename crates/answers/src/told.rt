@@ -8,6 +8,7 @@ ghost use Rattle.evaluation.specs.Evaluation.{evaluatedAnswer};
 ghost use Rattle.moves.specs.Call.{savingAnswer, gainAnswer};
 ghost use Rattle.settling.specs.Settle.{settledAnswer};
 ghost use Rattle.hidden.specs.Call.{majorityAnswer, foundAnswer};
+ghost use Rattle.class_figures.specs.Call.{figuresAnswer};
 ghost use Rattle.answers.specs.Told.{told, toldOne, toldSigned, toldGain};
 
 // The payload of a field starts after the 3 bytes of its head.
@@ -195,5 +196,45 @@ pub fn found_told(answer: hidden::Found, before: u32) -> u32
     match answer {
         hidden::Found::Nodes(nodes) => nodes,
         hidden::Found::Refused(_) => before,
+    }
+}
+
+pub fn figures_number(answer: class_figures::ClassFigures) -> u32
+    ensures { λ r. ⌜ r ≡ figuresAnswer answer .number ⌝ }
+{
+    match answer {
+        class_figures::ClassFigures::Told { .. } => 0,
+        class_figures::ClassFigures::Refused(refusal) => graph::faults::number_of(refusal),
+    }
+}
+
+pub fn figures_told(answer: class_figures::ClassFigures, before: [u64; 6]) -> [u64; 6]
+    ensures { λ r. ⌜ r ≡ told (figuresAnswer answer) before ⌝ }
+{
+    match answer {
+        class_figures::ClassFigures::Told {
+            count,
+            before: first,
+            after,
+            rounds,
+            cells_before,
+            cells_after,
+            ..
+        } => [count, first, after, rounds, cells_before, cells_after],
+        class_figures::ClassFigures::Refused(_) => before,
+    }
+}
+
+// The fall of C, and the total before.
+pub fn improvement_told(answer: class_figures::ClassFigures, before: [i64; 2]) -> [i64; 2]
+    ensures { λ r. ⌜ r ≡ toldSigned (figuresAnswer answer) before ⌝ }
+{
+    match answer {
+        class_figures::ClassFigures::Told {
+            fall,
+            total_before,
+            ..
+        } => [fall, total_before],
+        class_figures::ClassFigures::Refused(_) => before,
     }
 }
