@@ -15,6 +15,7 @@ use Rattle.file_checks.specs.File.{be2, fieldNumber, fieldPayload}
 use Rattle.tagged_file.specs.declared.Loaded.{Loaded}
 use Rattle.tagged_file.specs.declared.Loaded.the-variants as loaded
 use Rattle.tagged_file.specs.Load.{loadedGraph}
+use Rattle.class_figures.specs.Call.{ClassOutcome, classOutcome}
 use Rattle.answers.specs.Told.{told, toldOne, toldSigned}
 use Rattle.answers.proofs.Same.{same-told, same-one, same-signed}
 use Rattle.hidden.specs.Call.{nodesAfter}
@@ -27,7 +28,7 @@ use Rattle.graph.proofs.Answers.{number-some}
 use Rattle.graph.specs.Literals.{before, after, Slice, tableAfter}
 use denote.Ref.{RefT}
 use denote.Triple.Both.{Both}
-use Rattle.reducer.specs.Interface.{SavingLeft, TextLeft, GraphLeft, FoundLeft}
+use Rattle.reducer.specs.Interface.{SavingLeft, TextLeft, GraphLeft, FoundLeft, ClassLeft, FiguresLeft}
 
 -- equal answers keep the same scratch
 pub same-kept : {a b : Answer} (s t : List ℕ) → a ≡ b → ScratchKept a s t → ScratchKept b s t
@@ -70,6 +71,23 @@ module _ (r : ℕ) (a : Answer) (number : r ≡ a .number) where
         locks = ap (λ (x : LockedOutcome). x .locks) e;
         tells = t ∙ same-one _ p;
       }
+
+  pub class-left : (o : ClassOutcome) (k : Graph) (sheet figures : Slice) (savings : Both (RefT (List ℤ)) (RefT (List ℤ))) → after figures ≡ told a (before figures)
+      → after savings ≡ toldSigned a (before savings) → classOutcome a k (after sheet) ≡ o → ClassLeft o r k sheet figures savings
+  class-left o k sheet figures savings t s e =
+      let p = ap (λ (x : ClassOutcome). x .answer) e in
+      record {
+        number = number ∙ ap (λ (x : ClassOutcome). x .answer .number) e;
+        graph = ap (λ (x : ClassOutcome). x .graph) e;
+        book = ap (λ (x : ClassOutcome). x .book) e;
+        tells = t ∙ same-told _ p;
+        saves = s ∙ same-signed p refl;
+      }
+
+  pub figures-left : (b : Answer) (figures : Slice) (improvement : Both (RefT (List ℤ)) (RefT (List ℤ))) → after figures ≡ told a (before figures)
+      → after improvement ≡ toldSigned a (before improvement) → a ≡ b → FiguresLeft b r figures improvement
+  figures-left b figures improvement t s e =
+      record { number = number ∙ ap (λ (x : Answer). x .number) e; tells = t ∙ same-told _ e; improves = s ∙ same-signed e refl }
 
 -- the tables that an answered load leaves are those of its graph
 pub loaded-nodes : (r : Loaded) (ns os : List ℕ) → ns ≡ loadedGraph r ns os .nodes

@@ -3,6 +3,7 @@
 use Rattle.graph.specs.All.{ℕ, _≡_, List, [], _∷_, length, ℤ, Graph, Answer, Outcome, LockedOutcome, accepted, unless, before, after, Slice, tableAfter}
 use Rattle.file_checks.specs.All.{fieldNumber, fieldPayload}
 use Rattle.tagged_file.specs.All.{WriteOutcome}
+use Rattle.class_figures.specs.All.{ClassOutcome}
 use Rattle.answers.specs.All.{told, toldOne, toldSigned, toldGain}
 use denote.Ref.{RefT}
 use denote.Triple.Both.{Both}
@@ -43,3 +44,17 @@ pub record FoundLeft (o : LockedOutcome) (r : ℕ) (k : Graph) (ls : List ℕ) (
   pub graph : k ≡ o .graph
   pub locks : ls ≡ o .locks
   pub tells : is ≡ toldOne (o .answer) was
+
+-- a class: the graph k, the record, the rounds with C before and after, and both numbers of the saving
+pub record ClassLeft (o : ClassOutcome) (r : ℕ) (k : Graph) (sheet figures : Slice) (savings : Both (RefT (List ℤ)) (RefT (List ℤ))) : Type 0 where
+  pub number : r ≡ o .answer .number
+  pub graph : k ≡ o .graph
+  pub book : after sheet ≡ o .book
+  pub tells : after figures ≡ told (o .answer) (before figures)
+  pub saves : after savings ≡ toldSigned (o .answer) (before savings)
+
+-- and its figures, with the improvement
+pub record FiguresLeft (a : Answer) (r : ℕ) (figures : Slice) (improvement : Both (RefT (List ℤ)) (RefT (List ℤ))) : Type 0 where
+  pub number : r ≡ a .number
+  pub tells : after figures ≡ told a (before figures)
+  pub improves : after improvement ≡ toldSigned a (before improvement)

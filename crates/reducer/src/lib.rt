@@ -21,10 +21,11 @@ ghost use Rattle.many.specs.Many.{manyCall};
 ghost use Rattle.rounds.specs.Settle.{settleCall};
 ghost use Rattle.hidden.specs.Truth.{triple};
 ghost use Rattle.hidden.specs.Call.{nodesAfter, majorityCall, findCall};
+ghost use Rattle.class_figures.specs.Call.{classCall, figuresCall};
 ghost use Rattle.answers.specs.Told.{told, toldOne, toldSigned, toldGain};
 ghost use Rattle.promises.specs.Demand.{withLocks, left};
 ghost use Rattle.replay.specs.Replay.{lent, decode, replayCall, answersAfter, DemandMet};
-ghost use Rattle.reducer.specs.Interface.{fieldAnswer, SavingLeft, GainLeft, GraphLeft, TextLeft, FoundLeft};
+ghost use Rattle.reducer.specs.Interface.{fieldAnswer, SavingLeft, GainLeft, GraphLeft, TextLeft, FoundLeft, ClassLeft, FiguresLeft};
 
 // Where the payload of the field at the front starts, and its length.
 #[no_mangle]
@@ -565,6 +566,66 @@ pub extern "C" fn reducer_settle(
     *figures = answers::told::settled_told(answer, *figures);
     *savings = answers::told::settled_sums(answer, *savings);
     answers::told::settled_number(answer)
+}
+
+// Settles a graph and enters it into the record of a class, whose words lie in `book`; it tells what `reducer_settle` does.
+#[no_mangle]
+pub extern "C" fn reducer_class(
+    inputs: u32,
+    nodes: u32,
+    outputs: u32,
+    node_table: &[u32],
+    node_bits: &mut [u64],
+    output_table: &[u32],
+    output_bits: &mut [u64],
+    locks: &[u8],
+    scratch: &mut [u32],
+    book: &mut [u64],
+    figures: &mut [u32; 3],
+    savings: &mut [i64; 2],
+) -> u32
+    ensures call { λ r.
+        let g = graphBefore inputs nodes outputs «node_table» «node_bits» «output_table» «output_bits» in
+        let k = graphAfter inputs nodes outputs «node_table» «node_bits» «output_table» «output_bits» in
+        let o = classCall (before book) g (before locks) (length (before scratch)) in
+        ⌜ ClassLeft o r k book figures savings ⌝ }
+    ensures scratch { λ r.
+        let g = graphBefore inputs nodes outputs «node_table» «node_bits» «output_table» «output_bits» in
+        let o = classCall (before book) g (before locks) (length (before scratch)) in
+        ⌜ ScratchKept (o .answer) (before scratch) (after scratch) ⌝ }
+{
+    let answer = class_figures::enter(
+        inputs,
+        nodes,
+        outputs,
+        node_table,
+        node_bits,
+        output_table,
+        output_bits,
+        locks,
+        scratch,
+        book,
+    );
+    *figures = answers::told::settled_told(answer, *figures);
+    *savings = answers::told::settled_sums(answer, *savings);
+    answers::told::settled_number(answer)
+}
+
+// The figures of all graphs of a class where `latest` is 0, and else of its latest sixteen: the count, C before and after, rounds, cells before and
+// after. The improvement is the fall of C, and the total before.
+#[no_mangle]
+pub extern "C" fn reducer_class_figures(
+    book: &[u64],
+    latest: u32,
+    figures: &mut [u64; 6],
+    improvement: &mut [i64; 2],
+) -> u32
+    ensures { λ r. ⌜ FiguresLeft (figuresCall (before book) latest) r figures improvement ⌝ }
+{
+    let answer = class_figures::figures(book, latest);
+    *figures = answers::told::figures_told(answer, *figures);
+    *improvement = answers::told::improvement_told(answer, *improvement);
+    answers::told::figures_number(answer)
 }
 
 // Makes a node one majority of three lower indices where it is one; `answer` is 0 then, 1 for "not majority", 2 for "not covered".
