@@ -8,7 +8,8 @@ use crate::packed::{
     admit, check_lengths, check_locks, check_words, ones, unpack, words_for, Packed,
 };
 use crate::replay::{calls_of, told, Words};
-use crate::{aiger, calls, evaluation, file, moves, preview};
+use crate::settling::{settle, Settled};
+use crate::{aiger, calls, class, evaluation, file, moves, preview};
 
 /// The graph that is held, where 3, 4, 5 or 13 does not refuse it; `short` is a slice of the call's own, whose 4 is told with that of
 /// the tables.
@@ -115,4 +116,15 @@ pub fn replay(
         three.copy_from_slice(&told(step(p, call, scratch)));
     }
     Ok((p.inputs, p.nodes, p.outputs))
+}
+
+/// A graph settled and entered into the record of a class. 3 for the record comes before all else, 4 for it with that of the tables.
+pub fn class(p: &mut Packed, scratch: usize, book: &mut [u64]) -> Result<Settled, Number> {
+    class::check_record(book, class::MOST_GRAPHS)?;
+    let before = graph_of(p, book.len() < class::WORDS)?;
+    let mut after = before.clone();
+    let settled = settle(&mut after, scratch)?;
+    p.put(&after);
+    class::enter(book, class::row_of(&before, &after, settled));
+    Ok(settled)
 }

@@ -7,6 +7,7 @@
 pub mod aiger;
 pub mod buried;
 pub mod calls;
+pub mod class;
 pub mod entries;
 pub mod evaluation;
 pub mod fast;
@@ -29,6 +30,8 @@ pub mod vectors;
 
 #[cfg(test)]
 mod aiger_tests;
+#[cfg(test)]
+mod class_tests;
 #[cfg(test)]
 mod entry_tests;
 #[cfg(test)]
