@@ -6,6 +6,8 @@
 pub mod bit_faults;
 pub mod call_faults;
 pub mod cases;
+pub mod class;
+pub mod class_faults;
 pub mod exports;
 pub mod extremes;
 pub mod faults;

@@ -99,7 +99,7 @@ pub fn longer_case(seed: u64) -> Case {
     Case::new(graph, steps, seed)
 }
 
-pub fn differ<T: PartialEq + std::fmt::Debug>(what: &str, got: &T, due: &T) -> Result<(), String> {
+pub fn differ<T: PartialEq + std::fmt::Debug + ?Sized>(what: &str, got: &T, due: &T) -> Result<(), String> {
     if got == due {
         Ok(())
     } else {

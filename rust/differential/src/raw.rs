@@ -4,6 +4,7 @@
 use std::sync::atomic::{AtomicU64, Ordering};
 
 use reference::calls::{Answer, Call};
+use reference::class::{Figures, WORDS};
 use reference::majority::Majority;
 use reference::moves::Saving;
 use reference::packed::{Lengths, Packed};
@@ -246,19 +247,43 @@ pub fn preview(g: &Packed, root: u32, moves: &mut [u8], scratch: usize) -> Answe
     saved(number, saving)
 }
 
+/// What settling tells.
+fn settled(([rounds, before, after], [own, others]): ([u32; 3], [i64; 2])) -> Settled {
+    Settled { rounds, before, after, own, others }
+}
+
 pub fn settle(g: &mut Packed, scratch: usize) -> Answered<Settled> {
     let canary = ([CANARY; 3], [SIGNED_CANARY; 2]);
     let mut told = canary;
     let mut lent = vec![CANARY; scratch];
     let number = turn(g, |g| on_graph!(reducer_settle, g, lent.as_mut_ptr(), lent.len(), &mut told.0, &mut told.1))?;
     left("scratch", number, &vec![CANARY; scratch], &lent)?;
-    Ok(answered(number, told, canary)?.map(|([rounds, before, after], [own, others])| Settled {
-        rounds,
-        before,
-        after,
-        own,
-        others,
-    }))
+    Ok(answered(number, told, canary)?.map(settled))
+}
+
+/// A graph settled and entered into the record of a class.
+pub fn class(g: &mut Packed, scratch: usize, book: &mut [u64]) -> Answered<Settled> {
+    let canary = ([CANARY; 3], [SIGNED_CANARY; 2]);
+    let (before, mut told) = (book.to_vec(), canary);
+    let mut lent = vec![CANARY; scratch];
+    let call = |g: &mut Packed| {
+        let (figures, savings) = (&mut told.0, &mut told.1);
+        on_graph!(reducer_class, g, lent.as_mut_ptr(), lent.len(), book.as_mut_ptr(), book.len(), figures, savings)
+    };
+    let number = turn(g, call)?;
+    left("scratch", number, &vec![CANARY; scratch], &lent)?;
+    left("the record", number, &before, book)?;
+    left_from("what stands behind the record", WORDS, &before, book)?;
+    Ok(answered(number, told, canary)?.map(settled))
+}
+
+/// The figures of all graphs of a class where `latest` is 0, and else of the latest.
+pub fn class_figures(book: &[u64], latest: u32) -> Answered<Figures> {
+    let canary = ([u64::from(CANARY); 6], [SIGNED_CANARY; 2]);
+    let mut told = canary;
+    let call = reducer::raw::reducer_class_figures;
+    let number = unsafe { call(book.as_ptr(), book.len(), latest, &mut told.0, &mut told.1) };
+    Ok(answered(number, told, canary)?.map(|([count, sums @ ..], improvement)| Figures { count, sums, improvement }))
 }
 
 pub fn many(g: &mut Packed, list: &[u32], moves: &[u8]) -> Answered<i64> {

@@ -9,9 +9,9 @@ use differential::cases::{Case, Step};
 use differential::extremes::{self, EXTREMES, LOCKED};
 use differential::shrink::{hold, Check};
 use differential::{
-    bit_faults, call_faults, exports, faults, files, hidden, hidden_faults, lengths, lists, lock_fields, many,
-    many_faults, preview_faults, previews, raw, replay_faults, replays, resistive, savings, stored, text_limits, texts,
-    trial_faults, trials, words,
+    bit_faults, call_faults, class, class_faults, exports, faults, files, hidden, hidden_faults, lengths, lists,
+    lock_fields, many, many_faults, preview_faults, previews, raw, replay_faults, replays, resistive, savings, stored,
+    text_limits, texts, trial_faults, trials, words,
 };
 use reference::calls::Call;
 use reference::generate::{graph, locked_one_in, moves_of, with_locks, Shape, SHAPES};
@@ -21,7 +21,7 @@ use reference::random::Random;
 /// What one kind of test does with a seed: how many cases it tried, or what failed.
 type Kind = (&'static str, u64, fn(u64) -> Result<u64, String>);
 
-const KINDS: [Kind; 55] = [
+const KINDS: [Kind; 59] = [
     ("stored cases of single calls and evaluation", 1, stored),
     ("the plain implementation, lists of calls", 30_000, plain_lists),
     ("lists of calls on small graphs", 80_000, small_lists),
@@ -77,6 +77,10 @@ const KINDS: [Kind; 55] = [
     ("trees of hundreds of nodes for resistive memory", 300, resistive_deep),
     ("trees for resistive memory on thousands of nodes", 12, resistive_large),
     ("trees for resistive memory at the limits", EXTREMES.len() as u64, resistive_at_limits),
+    ("classes, with figures worked out afresh after each graph", 1_000, classes),
+    ("records of classes from anywhere", 100_000, records),
+    ("classes with every choice of faults of known numbers", 1, faulty_classes),
+    ("classes of thousands of nodes", 4, large_classes),
 ];
 
 fn stored(_: u64) -> Result<u64, String> {
@@ -417,6 +421,24 @@ fn resistive_at_limits(seed: u64) -> Result<u64, String> {
     checked.map(|counts| counts.iter().sum()).map_err(|wrong| format!("seed {seed}: {}: {wrong}", extreme.name))
 }
 
+fn classes(seed: u64) -> Result<u64, String> {
+    class::check_class(seed).map_err(|wrong| format!("seed {seed}: {wrong}"))
+}
+
+fn records(seed: u64) -> Result<u64, String> {
+    class::check_anywhere(seed).map_err(|wrong| format!("seed {seed}: {wrong}"))
+}
+
+fn faulty_classes(_: u64) -> Result<u64, String> {
+    class_faults::check_faults()
+}
+
+fn large_classes(seed: u64) -> Result<u64, String> {
+    let mut random = Random::new(seed);
+    let graphs: Vec<Graph> = (seed..seed + 3).map(|seed| large_graph(&mut random, seed)).collect();
+    class::check_large(&graphs, seed).map_err(|wrong| format!("seed {seed}: {wrong}"))
+}
+
 fn run(kind: &Kind, only: Option<u64>) -> Result<u64, String> {
     let (name, seeds, test) = *kind;
     let start = Instant::now();
@@ -457,7 +479,8 @@ fn main() -> ExitCode {
     if given.is_none() {
         let met = all_met().and_then(|()| trials::all_met()).and_then(|()| savings::all_met());
         let met = met.and_then(|()| previews::all_met()).and_then(|()| many::all_met());
-        if let Err(wrong) = met.and_then(|()| hidden::all_met()).and_then(|()| resistive::all_met()) {
+        let met = met.and_then(|()| hidden::all_met()).and_then(|()| resistive::all_met());
+        if let Err(wrong) = met.and_then(|()| class::all_met()) {
             println!("{wrong}");
             failed += 1;
         }
