@@ -4,6 +4,7 @@
 use crate::lists::differ;
 use crate::raw;
 use reference::calls::{Answer, Call};
+use reference::class::WORDS;
 use reference::graph::MARK;
 use reference::moves::Saving;
 use reference::packed::{set_bit, Lengths, Packed};
@@ -126,7 +127,7 @@ fn number_of<T>(answer: Result<T, u32>) -> u32 {
 }
 
 /// The number that every entry answers, each with the one that it is due where there is no fault.
-fn numbers(p: &Packed) -> Result<[(u32, u32); 12], String> {
+fn numbers(p: &Packed) -> Result<Vec<(u32, u32)>, String> {
     let (nodes, outputs) = (p.nodes as usize, p.outputs as usize);
     let (node, free, lost) = (INPUTS + 1, of_node(p.nodes), Saving::default());
     let mut bytes = vec![0xee; 40_000];
@@ -153,16 +154,14 @@ fn numbers(p: &Packed) -> Result<[(u32, u32); 12], String> {
         (number_of(raw::trial(p, (node, 1), (1, 1))?), free),
         (number_of(raw::preview(p, node, &mut vec![3; nodes], 8 * nodes)?), free),
     ];
-    let mut all = [(0, 0); 12];
-    all[..6].copy_from_slice(&steps);
-    all[6..].copy_from_slice(&readings);
-    Ok(all)
+    let entered = number_of(raw::class(&mut p.clone(), 8 * nodes, &mut [0; WORDS])?);
+    Ok([&steps[..], &readings, &[(entered, 0)]].concat())
 }
 
 fn check(size: (u32, u32), (what, number, lent): &Fault) -> Result<u64, String> {
     let what = format!("{} nodes and {} outputs, {what}", size.0, size.1);
     let told = numbers(lent).map_err(|wrong| format!("{what}: {wrong}"))?;
-    for (at, (told, free)) in told.into_iter().enumerate() {
+    for (at, &(told, free)) in told.iter().enumerate() {
         differ(&format!("{what}: entry {at}"), &told, &if *number == 0 { free } else { *number })?;
     }
     Ok(told.len() as u64)
