@@ -4,8 +4,8 @@
  * Link the static library that `rt staticlib reducer` writes, target/staticlib/libreducer.a. It needs no other library,
  * keeps no state, allocates nothing and may be called from several threads on tables of their own. Proved, for all bytes, words
  * and numbers, is what is said here of answers: the number returned, and what then stands in the tables, bits, locks, results,
- * moves, buffer and answers, at the last pointer or pointers and, after a refusal, in scratch. The rest of this page is not part of
- * the proof.
+ * moves, buffer, book and answers, at the last pointer or pointers and, after a refusal, in scratch. The rest of this page is not
+ * part of the proof.
  *
  * The graph
  *
@@ -39,14 +39,14 @@
  * What a call answers
  *
  *   Every function returns 0 or the number of a refusal, below. What it answers beside that goes through its last pointer, and
- *   settling's figures and savings through its last two. A refused call has changed nothing: tables, bits, locks, scratch,
- *   results, moves, buffer, answers and that last number or those arrays are as they were. The first fault is returned, in the
- *   order of the numbers 3, 4, 5, 13, 7, 8, 9, all literals and bits being tested before any lock; loading meets its file from
- *   front to back, importing its text line by line, each line being tested for 10, 11, 12, 3, 4, 5 in that order, many moves their
- *   list entry by entry, after 3, 4, 5 and 13, each entry being tested for 7, 14, 15, 16 in that order, a trial its two moves, each
- *   for 15 and 16, after 7, a majority call its node, its triple and its lock by 7, 7 and 16, before 8, and a replay its calls and
- *   answers before its file.
- *   Scratch holds nothing of use before or after a call.
+ *   settling's figures and savings, and those of a class, through its last two. A refused call has changed nothing: tables, bits,
+ *   locks, scratch, results, moves, buffer, answers, book and that last number or those arrays are as they were. The first fault
+ *   is returned, in the order of the numbers 3, 4, 5, 13, 7, 8, 9, all literals and bits being tested before any lock; loading
+ *   meets its file from front to back, importing its text line by line, each line being tested for 10, 11, 12, 3, 4, 5 in that
+ *   order, many moves their list entry by entry, after 3, 4, 5 and 13, each entry being tested for 7, 14, 15, 16 in that order, a
+ *   trial its two moves, each for 15 and 16, after 7, a majority call its node, its triple and its lock by 7, 7 and 16, before 8,
+ *   a class its book by 3 before all else, and a replay its calls and answers before its file. Scratch holds nothing of use before
+ *   or after a call.
  *
  *   A saving is two numbers, of which either may be below 0: how many complemented edges fewer there are, first among the words
  *   of the nodes that the call names, then among all other edges, words of other nodes and outputs. Together they are the
@@ -94,6 +94,10 @@ extern "C" {
 /* Bytes that are enough for the AIGER text of a graph with i inputs, n nodes and o outputs. */
 #define REDUCER_TEXT_BYTES(i, n, o) (30 + 5 * (size_t)(i) + 84 * (size_t)(n) + 7 * (size_t)(o))
 
+/* Words of the record of a class, and the most graphs that it takes. */
+#define REDUCER_CLASS_WORDS 86
+#define REDUCER_MOST_GRAPHS 1000
+
 /* Words of one call of a list, and of its answer. */
 #define REDUCER_CALL_WORDS 3
 #define REDUCER_ANSWER_WORDS 3
@@ -120,9 +124,9 @@ enum reducer_number {
     REDUCER_MISSING_BYTES = 1,
     /* tag or length not the one due */
     REDUCER_WRONG_FIELD = 2,
-    /* I, N or O above its limit */
+    /* I, N or O above its limit; a book that is full, counts more than it can take, or holds a word of 2 to the 40th or above */
     REDUCER_OVER_LIMIT = 3,
-    /* a lent table, its bits, slice of locks, input or result slice too short; fewer moves than nodes (preview, many moves) */
+    /* a lent table, its bits, slice of locks, input or result slice or book too short; fewer moves than nodes (preview, many moves) */
     REDUCER_SHORT_SLICE = 4,
     /* a literal naming an index not allowed there; a set bit at a mark, or past the last literal in the word that it is in */
     REDUCER_BAD_LITERAL = 5,
@@ -377,6 +381,37 @@ uint32_t reducer_settle(uint32_t inputs, uint32_t nodes, uint32_t outputs,
                         uint32_t *scratch, size_t scratch_length,
                         uint32_t figures[3],
                         int64_t savings[2]);
+
+/*
+ * Settles a graph just as reducer_settle does, and enters its figures into the record of a class. That is book,
+ * REDUCER_CLASS_WORDS words, all of them 0 before the first graph; what they hold is this call's own, and reducer_class_figures tells
+ * it. A refused graph is not entered. Refused by 3, before any other check, are a book that counts REDUCER_MOST_GRAPHS graphs or more
+ * and one with a word of 2 to the 40th or above; of a book that is too short the words that are there are looked at. Needs
+ * REDUCER_SETTLE_SCRATCH(nodes) words of scratch. Refusals: 3 (book), 3, 4 (tables, locks, then book), 5, 13, 8.
+ */
+uint32_t reducer_class(uint32_t inputs, uint32_t nodes, uint32_t outputs,
+                       const uint32_t *node_table, size_t node_table_length,
+                       uint64_t *node_bits, size_t node_bits_length,
+                       const uint32_t *output_table, size_t output_table_length,
+                       uint64_t *output_bits, size_t output_bits_length,
+                       const uint8_t *locks, size_t locks_length,
+                       uint32_t *scratch, size_t scratch_length,
+                       uint64_t *book, size_t book_length,
+                       uint32_t figures[3],
+                       int64_t savings[2]);
+
+/*
+ * What the record of a class tells: where latest is 0 of all graphs that were entered, else of the latest 16, or of all while they are
+ * fewer. figures are how many graphs these are, the sums of their complemented edges before and after settling and of the rounds, and
+ * their cells before and after, at 13 an inverter, 5 a majority and 12 an XOR. improvement is by how much the complemented edges
+ * fell, and how many there were before. If all words of the book were 0 and only reducer_class has written it, these are what is
+ * worked out afresh from the graphs. Refusals: 3 (a book that counts more than REDUCER_MOST_GRAPHS graphs, or has a word of 2 to the
+ * 40th or above), 4.
+ */
+uint32_t reducer_class_figures(const uint64_t *book, size_t book_length,
+                               uint32_t latest,
+                               uint64_t figures[6],
+                               int64_t improvement[2]);
 
 /*
  * Makes many moves together, all of them or none: at node list[k] the move moves[k]. The list has indices of nodes, each above

@@ -9,7 +9,8 @@
 import_aiger and Graph.export_aiger do the same for ASCII AIGER, the text of and-inverter tools. Graph.lock locks a node that is laid
 out already: no call turns it, and its file says so. Graph.many makes moves that the caller has chosen, all of them or none.
 Graph.find finds the majorities that and-inverter tools have hidden in ANDs, and Graph.majority makes a node one. Graph.resistive_call
-chooses a tree's moves for memories of resistive cells, which want majorities with just one complemented input.
+chooses a tree's moves for memories of resistive cells, which want majorities with just one complemented input. A Class settles graphs
+one after another and sums up their figures.
 
 Every call is one of the proved library's. A call that cannot be made raises: Refused, with the number of the refusal, where
 the library refuses it; TypeError or ValueError where an argument is not of the kind that the library takes. Either way
@@ -34,8 +35,10 @@ from pathlib import Path
 from typing import Iterable, Iterator, List, NamedTuple, Sequence, Tuple, Type, Union
 
 __all__ = [
-    "Graph", "Literals", "Majority", "Preview", "Refused", "Saving", "Settled", "Told", "load", "import_aiger", "field", "replay",
-    "NODE", "PAIR", "TREE", "SETTLE", "MANY", "MAJORITY", "FIND", "RESISTIVE", "MARK", "MOST_INPUTS", "MOST_NODES", "MOST_OUTPUTS",
+    "Class", "Figures", "Graph", "Literals", "Majority", "Preview", "Refused", "Saving", "Settled", "Told",
+    "load", "import_aiger", "field", "replay",
+    "NODE", "PAIR", "TREE", "SETTLE", "MANY", "MAJORITY", "FIND", "RESISTIVE",
+    "MARK", "MOST_INPUTS", "MOST_NODES", "MOST_OUTPUTS", "MOST_GRAPHS", "CLASS_WORDS",
 ]
 
 #: The third literal of an XOR node, and its third index.
@@ -46,11 +49,14 @@ NODE, PAIR, TREE, SETTLE, MANY, MAJORITY, FIND, RESISTIVE = range(8)
 MOST_INPUTS = 4096
 MOST_NODES = 100000
 MOST_OUTPUTS = 4096
+#: The most graphs of a class, and the words of its record.
+MOST_GRAPHS = 1000
+CLASS_WORDS = 86
 
 _WHY = {
     1: "the bytes end within a field",
     2: "a field has not the tag or the length that is due",
-    3: "there are too many inputs, nodes or outputs",
+    3: "there are too many inputs, nodes or outputs, or the record of a class takes no more",
     4: "a table or a slice of locks, inputs, results or moves is too short",
     5: "a literal names an index that is not allowed there",
     6: "there are bytes after the end field",
@@ -99,6 +105,20 @@ class Settled(NamedTuple):
     after: int
     own: int
     others: int
+
+
+class Figures(NamedTuple):
+    """What the record of a class tells of its graphs: how many there are, the sums of complemented edges before and after settling, of rounds,
+    and of cells before and after (13 an inverter, 5 a majority, 12 an XOR), by how much the complemented edges fell, and of how many."""
+
+    graphs: int
+    before: int
+    after: int
+    rounds: int
+    cells_before: int
+    cells_after: int
+    fall: int
+    total_before: int
 
 
 class Majority(enum.Enum):
@@ -182,6 +202,8 @@ _tree = _function("reducer_tree", _GRAPH + [_U32] + _WORDS + [ctypes.c_void_p])
 _preview = _function("reducer_preview", _GRAPH + [_U32] + _WORDS * 2 + [ctypes.c_void_p])
 _resistive = _function("reducer_resistive", _GRAPH + [_U32] + _WORDS + [ctypes.c_void_p])
 _settle = _function("reducer_settle", _GRAPH + _WORDS + [ctypes.c_void_p] * 2)
+_class = _function("reducer_class", _GRAPH + _WORDS * 2 + [ctypes.c_void_p] * 2)
+_class_figures = _function("reducer_class_figures", _WORDS + [_U32] + [ctypes.c_void_p] * 2)
 _many = _function("reducer_many", _GRAPH + _WORDS * 2 + [ctypes.c_void_p])
 _majority = _function("reducer_majority", _GRAPH + [_U32] * 4 + _WORDS + [ctypes.c_void_p])
 _find = _function("reducer_find", _GRAPH + _WORDS + [ctypes.c_void_p])
@@ -741,3 +763,40 @@ class Graph:
         room = 8 * lent[1]
         _call(_settle, *lent, _array(_U32, room), room, figures, savings)
         return Settled(*figures, *savings)
+
+
+class Class:
+    """The record of a class: up to MOST_GRAPHS graphs settled one after another.
+
+    `words` are CLASS_WORDS numbers of 64 bits, the record's own. They may be kept, and a class begun with them again; what no class comes
+    to is refused.
+    """
+
+    def __init__(self, words: Iterable[int] = (0,) * CLASS_WORDS) -> None:
+        given, count = _numbers(words, _U64, "words")
+        self._book = array("Q", given[:count])
+
+    @property
+    def words(self) -> List[int]:
+        """The words of the record."""
+        return list(self._book)
+
+    def enter(self, graph: Graph) -> Settled:
+        """Settles a graph and enters its figures. A refused graph is not entered."""
+        lent, figures, savings = graph._lent(), (_U32 * 3)(), (_I64 * 2)()
+        room = 8 * lent[1]
+        _call(_class, *lent, _array(_U32, room), room, self._book, figures, savings)
+        return Settled(*figures, *savings)
+
+    def _figures(self, latest: int) -> Figures:
+        figures, improvement = (_U64 * 6)(), (_I64 * 2)()
+        _call(_class_figures, self._book, latest, figures, improvement)
+        return Figures(*figures, *improvement)
+
+    def all(self) -> Figures:
+        """The figures of all graphs that were entered."""
+        return self._figures(0)
+
+    def latest(self) -> Figures:
+        """The figures of the latest 16 graphs, or of all while they are fewer."""
+        return self._figures(1)

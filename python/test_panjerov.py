@@ -993,6 +993,78 @@ class Resistive(unittest.TestCase):
         self.assertEqual(told, [(0, (-4, 0)), (7, (0, 0)), (0, (4, 0)), (0, (-4, 0))])
 
 
+def afresh(graphs: list) -> tuple:
+    """The figures of graphs, worked out from each of them settled by itself."""
+    sums = [len(graphs), 0, 0, 0, 0, 0]
+    for graph in graphs:
+        settled = copied(graph).settle()
+        cells = sum(12 if third == MARK else 5 for third in graph.nodes[2::3])
+        row = [settled.before, settled.after, settled.rounds, 13 * settled.before + cells, 13 * settled.after + cells]
+        sums[1:] = [old + new for old, new in zip(sums[1:], row)]
+    return (*sums, sums[1] - sums[2], sums[1])
+
+
+class Classes(unittest.TestCase):
+    """Figures for a class."""
+
+    def test_worked(self) -> None:
+        record, graph = panjerov.Class(), p1()
+        self.assertEqual((record.all(), record.latest()), ((0,) * 8, (0,) * 8))
+        self.assertEqual((record.enter(graph), graph), (p1().settle(), Graph(3, [2, 4, 6], [8])))
+        self.assertEqual(record.all(), (1, 4, 0, 2, 57, 5, 4, 4))
+        self.assertEqual(record.latest().cells_before, 57)
+
+    def test_always_afresh(self) -> None:
+        """After each graph, refused ones among them, and with the record put down and taken up again."""
+        generator, record, entered = random.Random(110), panjerov.Class(), []
+        refused = 0
+        while len(entered) < 60:
+            graph = random_graph(generator)
+            if generator.random() < 0.3 and graph.nodes:
+                graph.nodes[0] = 2 * (graph.inputs + 1)
+                words = record.words
+                with self.assertRaises(Refused) as caught:
+                    record.enter(graph)
+                self.assertEqual((caught.exception.number, record.words), (5, words))
+                refused += 1
+                continue
+            record = panjerov.Class(record.words)
+            entered.append(copied(graph))
+            record.enter(graph)
+            self.assertEqual((record.all(), record.latest()), (afresh(entered), afresh(entered[-16:])))
+        self.assertTrue(refused > 5)
+
+    def test_full(self) -> None:
+        record = panjerov.Class()
+        for _ in range(panjerov.MOST_GRAPHS):
+            record.enter(p1())
+        for graph in (p1(), Graph(3, [8, 7, 7], [])):
+            with self.assertRaises(Refused) as caught:
+                record.enter(graph)
+            self.assertEqual(caught.exception.number, 3)
+        self.assertEqual((record.all().graphs, record.latest()), (1000, afresh([p1()] * 16)))
+
+    def test_other_records(self) -> None:
+        """Words from anywhere are refused, or give what they hold."""
+        for number, words in [
+            (4, [0] * 85),
+            (4, []),
+            (3, [2**40]),
+            (3, [0] * 85 + [2**40]),
+            (3, [1001] + [0] * 85),
+            (3, [2**64 - 1] * 86),
+        ]:
+            record = panjerov.Class(words)
+            for call in (record.all, record.latest):
+                with self.assertRaises(Refused) as caught:
+                    call()
+                self.assertEqual(caught.exception.number, number, words[:1])
+        with self.assertRaises(ValueError):
+            panjerov.Class([2**64])
+        record = panjerov.Class([1000] + [2**40 - 1] * 85)
+        self.assertEqual((record.all()[:2], record.latest()[:2]), ((1000, 2**40 - 1), (16, 16 * (2**40 - 1))))
+
+
 class Packed(unittest.TestCase):
     """Tables as they are lent: indices, and complement bits in words of 64."""
 

@@ -12,7 +12,7 @@
 #![allow(clippy::too_many_arguments)]
 
 use crate::raw;
-use crate::{Majority, Refusal, ReplayRefusal, Saving, Settled, Size, MARK};
+use crate::{Figures, Majority, Refusal, ReplayRefusal, Saving, Settled, Size, MARK};
 
 /// The value where the number is 0, else its refusal.
 pub(crate) fn answer<T>(number: u32, value: T) -> Result<T, Refusal> {
@@ -525,6 +525,57 @@ pub fn settle(
     let [rounds, before, after] = figures;
     let Saving { own, others } = parted(savings);
     answer(number, Settled { rounds, before, after, own, others })
+}
+
+/// Settles as [`settle`] does, and enters the figures into the record of a class, [`crate::CLASS_WORDS`] words that are 0 before the first
+/// graph. A record that is full or holds what no class comes to is refused by 3 before all else. Scratch is [`crate::scratch_words`] long.
+pub fn class(
+    size: Size,
+    node_table: &[u32],
+    node_bits: &mut [u64],
+    output_table: &[u32],
+    output_bits: &mut [u64],
+    locks: &[u8],
+    scratch: &mut [u32],
+    book: &mut [u64],
+) -> Result<Settled, Refusal> {
+    let (mut figures, mut savings) = ([0u32; 3], [0i64; 2]);
+    let number = unsafe {
+        raw::reducer_class(
+            size.inputs,
+            size.nodes,
+            size.outputs,
+            node_table.as_ptr(),
+            node_table.len(),
+            node_bits.as_mut_ptr(),
+            node_bits.len(),
+            output_table.as_ptr(),
+            output_table.len(),
+            output_bits.as_mut_ptr(),
+            output_bits.len(),
+            locks.as_ptr(),
+            locks.len(),
+            scratch.as_mut_ptr(),
+            scratch.len(),
+            book.as_mut_ptr(),
+            book.len(),
+            &mut figures,
+            &mut savings,
+        )
+    };
+    let [rounds, before, after] = figures;
+    let Saving { own, others } = parted(savings);
+    answer(number, Settled { rounds, before, after, own, others })
+}
+
+/// What the record of a class tells, of all its graphs or of the latest 16.
+pub fn class_figures(book: &[u64], latest: bool) -> Result<Figures, Refusal> {
+    let (mut figures, mut improvement) = ([0u64; 6], [0i64; 2]);
+    let number =
+        unsafe { raw::reducer_class_figures(book.as_ptr(), book.len(), latest.into(), &mut figures, &mut improvement) };
+    let [graphs, before, after, rounds, cells_before, cells_after] = figures;
+    let [fall, total_before] = improvement;
+    answer(number, Figures { graphs, before, after, rounds, cells_before, cells_after, fall, total_before })
 }
 
 /// Many moves, all made or none: at each node of a list of rising indices the move at the same place. What they save; below 0 where

@@ -24,6 +24,8 @@
 //!
 //! [`Graph::resistive_call`] chooses a tree's moves for memories of resistive cells, which want majorities with just one complemented input.
 //!
+//! A [`Class`] settles graphs one after another and sums up their figures.
+//!
 //! A literal, as a file has it, is twice an index, and one more if it is complemented: [`Graph::new`] takes a graph so, and
 //! [`Graph::node`] and [`Graph::output`] give it so. Its tables are kept as they are lent, indices and complement bits apart.
 //!
@@ -43,6 +45,11 @@ pub const MOST_NODES: u32 = 100_000;
 /// The most outputs that a graph may have.
 pub const MOST_OUTPUTS: u32 = 4_096;
 
+/// The words of the record of a class.
+pub const CLASS_WORDS: usize = 86;
+/// The most graphs that a class may have.
+pub const MOST_GRAPHS: u64 = 1_000;
+
 /// Why a call is refused. A refused call has changed nothing that it was lent.
 #[derive(Clone, Copy, Debug, PartialEq, Eq, Hash)]
 #[repr(u32)]
@@ -51,9 +58,9 @@ pub enum Refusal {
     MissingBytes = 1,
     /// A tag or a length is not the one due.
     WrongField = 2,
-    /// There are too many inputs, nodes or outputs.
+    /// There are too many inputs, nodes or outputs, or the record of a class is full or holds what no class comes to.
     OverLimit = 3,
-    /// A lent table, its words of bits, slice of locks, input or result slice is too short, or there are fewer moves than nodes.
+    /// A lent table, its words of bits, slice of locks, input or result slice or record is too short, or there are fewer moves than nodes.
     ShortSlice = 4,
     /// A literal names an index that is not allowed there, or a bit is set at a mark or past the last literal in the word that it is in.
     BadLiteral = 5,
@@ -194,6 +201,73 @@ pub struct Settled {
     pub others: i64,
 }
 
+/// What the record of a class tells of its graphs: sums over all of them, or over the latest 16.
+#[derive(Clone, Copy, Debug, Default, PartialEq, Eq, Hash)]
+pub struct Figures {
+    /// How many graphs these are.
+    pub graphs: u64,
+    /// Their complemented edges before settling.
+    pub before: u64,
+    /// Their complemented edges after it.
+    pub after: u64,
+    /// The rounds made.
+    pub rounds: u64,
+    /// Their cells before, at 13 an inverter, 5 a majority and 12 an XOR.
+    pub cells_before: u64,
+    /// Their cells after.
+    pub cells_after: u64,
+    /// By how much the complemented edges fell.
+    pub fall: i64,
+    /// The complemented edges before, of which they fell.
+    pub total_before: i64,
+}
+
+/// The record of a class: up to [`MOST_GRAPHS`] graphs settled one after another.
+///
+/// The words are the record's own. They may be kept and taken up again; what no class comes to is refused.
+#[derive(Clone, Debug, PartialEq, Eq)]
+pub struct Class {
+    pub words: [u64; CLASS_WORDS],
+}
+
+impl Default for Class {
+    fn default() -> Class {
+        Class::new()
+    }
+}
+
+impl Class {
+    /// A class without graphs.
+    pub fn new() -> Class {
+        Class { words: [0; CLASS_WORDS] }
+    }
+
+    /// Settles a graph and enters its figures. A refused graph is not entered.
+    pub fn enter(&mut self, graph: &mut Graph) -> Result<Settled, Refusal> {
+        let mut scratch = graph.scratch();
+        lent::class(
+            graph.size,
+            &graph.node_table,
+            &mut graph.node_bits,
+            &graph.output_table,
+            &mut graph.output_bits,
+            &graph.locks,
+            &mut scratch,
+            &mut self.words,
+        )
+    }
+
+    /// The figures of all graphs that were entered.
+    pub fn all(&self) -> Result<Figures, Refusal> {
+        lent::class_figures(&self.words, false)
+    }
+
+    /// The figures of the latest 16 graphs, or of all while they are fewer.
+    pub fn latest(&self) -> Result<Figures, Refusal> {
+        lent::class_figures(&self.words, true)
+    }
+}
+
 /// What a majority call answers.
 #[derive(Clone, Copy, Debug, PartialEq, Eq, Hash)]
 pub enum Majority {
@@ -310,8 +384,8 @@ pub fn bit_words(literals: usize) -> usize {
     literals.div_ceil(64)
 }
 
-/// How many words of scratch the tree call, its preview, the resistive call, settling, the majority call and the finder need for so many
-/// nodes.
+/// How many words of scratch the tree call, its preview, the resistive call, settling, a class, the majority call and the finder need for
+/// so many nodes.
 pub fn scratch_words(nodes: u32) -> usize {
     8 * nodes as usize
 }

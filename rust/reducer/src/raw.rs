@@ -254,6 +254,36 @@ extern "C" {
         savings: *mut [i64; 2],
     ) -> u32;
 
+    pub fn reducer_class(
+        inputs: u32,
+        nodes: u32,
+        outputs: u32,
+        node_table: *const u32,
+        node_table_length: usize,
+        node_bits: *mut u64,
+        node_bits_length: usize,
+        output_table: *const u32,
+        output_table_length: usize,
+        output_bits: *mut u64,
+        output_bits_length: usize,
+        locks: *const u8,
+        locks_length: usize,
+        scratch: *mut u32,
+        scratch_length: usize,
+        book: *mut u64,
+        book_length: usize,
+        figures: *mut [u32; 3],
+        savings: *mut [i64; 2],
+    ) -> u32;
+
+    pub fn reducer_class_figures(
+        book: *const u64,
+        book_length: usize,
+        latest: u32,
+        figures: *mut [u64; 6],
+        improvement: *mut [i64; 2],
+    ) -> u32;
+
     pub fn reducer_many(
         inputs: u32,
         nodes: u32,

@@ -7,6 +7,8 @@ use std::path::{Path, PathBuf};
 use std::process::{Command, Output, Stdio};
 use std::time::{Duration, Instant};
 
+#[path = "program/classes.rs"]
+mod classes;
 #[path = "program/found.rs"]
 mod found;
 #[path = "program/locks.rs"]
@@ -425,6 +427,7 @@ fn usage() {
         &["apply", "--help"],
         &["picture", "--svg", "--help"],
         &["report", "--help"],
+        &["class", "--help"],
         &["help"],
         &["help", "picture"],
     ] {

@@ -19,6 +19,7 @@ Reduces inversions in majority and XOR graphs. The commands:
     apply      makes the moves that a list has, all of them or none
     picture    draws the graph, as DOT text for Graphviz, as SVG or as PNG
     report     settles the graph and gives a page with figures and pictures
+    class      settles many graphs and gives a sheet of their figures
 
 `panjerov help COMMAND`, or `panjerov COMMAND --help`, tells more of a command.
 ";
@@ -312,6 +313,40 @@ too large or Graphviz is not installed, the page and a line on standard error
 say why.
 ";
 
+const CLASS: &str = "\
+usage: panjerov class FILE... [--csv|--json|--html] [-o DIR]
+
+Settles graphs one after another, up to 1,000, and gives a sheet of figures: a
+line a file, then the sums over all and over the latest 16 (all, while fewer):
+
+    file      before  after  fall  rounds  cells  after
+    p1             4      0     4       2     57      5
+    p2             4      2     2       2     62     36
+    broken    refused 1: the bytes end within a field
+    all 2          8      2     6       4    119     41
+    latest 2       8      2     6       4    119     41
+    fell by 6 of 8, 75.0 %; refused 1
+
+These are complemented edges before and after and how far they fell, rounds, and
+cells before and after, at 13 an inverter, 5 a majority and 12 an XOR. A FILE
+that is a folder stands for all files in it and in its folders, by name and
+without hidden ones. A file is called by the end of its path that no other has.
+
+    --csv    the same with commas; the first column says file, refused, all or
+             latest, and the last one why a file is refused
+    --json   the same as one object
+    --html   a page with two bars a file, for before and after
+
+With -o each settled graph is written to the folder DIR, under the name that it
+has in the sheet and in the format that its file has. With --html the page is
+DIR/index.html then, and links to a report of each file (as `panjerov report`
+gives it), NAME.html; the sheet is given as text. No file that was handed in is
+replaced. Without -o nothing is written but the sheet.
+
+A file that cannot be read or is refused has its reason in its line, counts in
+no sum, and the others go on; the exit status is then 1.
+";
+
 const FILES: &str = "
 FILE is a tagged file or ASCII AIGER text, which is seen from its first bytes;
 without FILE, or where it is -, standard input is read. What is given goes to
@@ -342,6 +377,7 @@ pub fn of(command: Command) -> String {
         Command::Apply => APPLY,
         Command::Picture => PICTURE,
         Command::Report => REPORT,
+        Command::Class => CLASS,
     };
     format!("{own}{FILES}")
 }

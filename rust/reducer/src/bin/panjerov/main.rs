@@ -1,7 +1,10 @@
-//! The program `panjerov`: settles graphs, finds their hidden majorities, chooses moves for resistive memory, shows, draws and reports on
+//! The program `panjerov`: settles graphs, one or a class of them, finds their hidden majorities, chooses moves for resistive memory, shows, draws and reports on
 //! graphs, previews their trees, makes listed moves, locks nodes, and makes tagged files of AIGER texts and back.
 
 mod apply;
+mod class;
+mod class_page;
+mod class_sheet;
 mod drawing;
 mod faults;
 mod files;
@@ -102,22 +105,27 @@ fn given(asked: &Work, input: &Input, working: &Progress) -> Result<Given, Strin
         Command::Picture if asked.compare => drawing::compare(asked, input, (graph, got)),
         Command::Picture => drawing::draw(asked, input, &graph),
         Command::Report => report::of(input, &graph, asked.wanted),
+        Command::Class => unreachable!("a class has many files"),
     }
 }
 
-fn work(asked: &Work) -> Result<(), String> {
+/// Does what is asked for; the exit status.
+fn work(asked: &Work) -> Result<u8, String> {
+    if asked.command == Command::Class {
+        return class::work(asked).map(|all| u8::from(!all));
+    }
     let input = files::read(asked.input.as_deref())?;
     let working = Progress::of(format!("{} {}", asked.command.doing(), input.name));
     let Given { bytes, lines } = given(asked, &input, &working)?;
     files::write(asked.output.as_deref(), &bytes)?;
     drop(working);
     lines.iter().for_each(|line| say(line));
-    Ok(())
+    Ok(0)
 }
 
-fn run() -> Result<(), (u8, String)> {
+fn run() -> Result<u8, (u8, String)> {
     match words::asked(std::env::args_os().skip(1)).map_err(|why| (2, why))? {
-        Asked::Help(text) => files::write(None, text.as_bytes()),
+        Asked::Help(text) => files::write(None, text.as_bytes()).map(|()| 0),
         Asked::Work(asked) => work(&asked),
     }
     .map_err(|why| (1, why))
@@ -125,7 +133,7 @@ fn run() -> Result<(), (u8, String)> {
 
 fn main() -> ExitCode {
     match run() {
-        Ok(()) => ExitCode::SUCCESS,
+        Ok(status) => ExitCode::from(status),
         Err((status, why)) => {
             say(&format!("panjerov: {why}"));
             ExitCode::from(status)

@@ -19,9 +19,9 @@ use reducer::{Graph, Settled};
 const CELLS: [u64; 3] = [13, 5, 12];
 /// The most nodes that have a line each.
 const MOST_LINES: usize = 500;
-const MINUS: char = '\u{2212}';
+pub const MINUS: char = '\u{2212}';
 
-const STYLE: &str = include_str!("report.css");
+pub const STYLE: &str = include_str!("report.css");
 /// How to read the pictures.
 const LEGEND: &str = include_str!("legend.html");
 const ONE_MOVE: &str =
@@ -38,12 +38,12 @@ struct Report<'a> {
     moves: Vec<u8>,
 }
 
-fn escaped(text: &str) -> String {
+pub fn escaped(text: &str) -> String {
     text.replace('&', "&amp;").replace('<', "&lt;").replace('>', "&gt;").replace('"', "&quot;")
 }
 
 /// With a comma before each three digits.
-fn grouped(number: u64) -> String {
+pub fn grouped(number: u64) -> String {
     let digits = number.to_string();
     let threes = digits.as_bytes().rchunks(3).rev().map(String::from_utf8_lossy);
     threes.collect::<Vec<_>>().join(",")

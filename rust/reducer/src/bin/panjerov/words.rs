@@ -3,6 +3,7 @@
 use std::ffi::OsString;
 use std::path::PathBuf;
 
+use crate::class_sheet::SheetForm;
 use crate::formats::Format;
 use crate::graphviz::Form;
 use crate::help;
@@ -23,10 +24,11 @@ pub enum Command {
     Apply,
     Picture,
     Report,
+    Class,
 }
 
 impl Command {
-    const ALL: [Command; 12] = [
+    const ALL: [Command; 13] = [
         Command::Settle,
         Command::Find,
         Command::Resistive,
@@ -39,6 +41,7 @@ impl Command {
         Command::Apply,
         Command::Picture,
         Command::Report,
+        Command::Class,
     ];
 
     fn named(name: &str) -> Option<Command> {
@@ -59,6 +62,7 @@ impl Command {
             Command::Apply => "apply",
             Command::Picture => "picture",
             Command::Report => "report",
+            Command::Class => "class",
         }
     }
 
@@ -77,6 +81,7 @@ impl Command {
             Command::Apply => "making moves on",
             Command::Picture => "drawing",
             Command::Report => "reporting on",
+            Command::Class => "settling",
         }
     }
 
@@ -123,6 +128,10 @@ pub struct Work {
     pub compare: bool,
     /// The second of them; none is standard input.
     pub after: Option<PathBuf>,
+    /// The files and folders of a class; none among them is standard input.
+    pub files: Vec<Option<PathBuf>>,
+    /// The form of a class's sheet; none is plain text.
+    pub sheet: Option<SheetForm>,
 }
 
 impl Work {
@@ -142,6 +151,8 @@ impl Work {
             form: None,
             compare: false,
             after: None,
+            files: Vec::new(),
+            sheet: None,
         }
     }
 }
@@ -298,8 +309,23 @@ fn holds_locks(work: &Work) -> Result<(), String> {
     }
 }
 
+/// Puts the files and folders of a class, which are all words.
+fn put_files(work: &mut Work, words: Vec<OsString>) -> Result<(), String> {
+    if words.is_empty() {
+        return Err("FILE is missing: files of graphs, or folders of them".into());
+    }
+    work.files = words.into_iter().map(file).collect();
+    match work.files.iter().filter(|file| file.is_none()).count() {
+        0 | 1 => Ok(()),
+        _ => Err("only one FILE can be standard input".into()),
+    }
+}
+
 /// Puts the words that are no options: FILE, and after it NODES, MOVES or the ROOT of a preview; or BEFORE and AFTER.
 fn put_plain(work: &mut Work, plain: Vec<OsString>) -> Result<(), String> {
+    if work.command == Command::Class {
+        return put_files(work, plain);
+    }
     let mut plain = plain.into_iter();
     work.input = plain.next().and_then(file);
     if work.command.sets_locks() {
@@ -359,6 +385,9 @@ fn asked_of(command: Command, mut words: impl Iterator<Item = OsString>) -> Resu
             "--all" if command == Command::Resistive => work.all = true,
             "--moves" if command == Command::Preview => work.only_moves = true,
             "--find" if command == Command::Settle => work.find = true,
+            "--csv" if command == Command::Class => put(&mut work.sheet, SheetForm::Csv, "the form of the sheet")?,
+            "--json" if command == Command::Class => put(&mut work.sheet, SheetForm::Json, "the form of the sheet")?,
+            "--html" if command == Command::Class => put(&mut work.sheet, SheetForm::Html, "the form of the sheet")?,
             "--" => only_files = true,
             _ if matches!(command, Command::Picture | Command::Report) => {
                 put_drawing(&mut work, &text, || words.next())?
@@ -495,6 +524,21 @@ mod tests {
     }
 
     #[test]
+    fn a_class_of_files() {
+        let class = |files: &[Option<&str>], output: Option<&str>, sheet| {
+            let files = files.iter().map(|file| file.map(PathBuf::from)).collect();
+            Ok(Asked::Work(Work { files, output: output.map(PathBuf::from), sheet, ..Work::of(Command::Class) }))
+        };
+        assert_eq!(of(&["class", "a"]), class(&[Some("a")], None, None));
+        assert_eq!(
+            of(&["class", "a", "-", "7", "--csv"]),
+            class(&[Some("a"), None, Some("7")], None, Some(SheetForm::Csv))
+        );
+        assert_eq!(of(&["class", "--html", "a", "-o", "b"]), class(&[Some("a")], Some("b"), Some(SheetForm::Html)));
+        assert_eq!(of(&["class", "--json", "--", "-a"]), class(&[Some("-a")], None, Some(SheetForm::Json)));
+    }
+
+    #[test]
     fn what_is_compared() {
         let compared = |input: Option<&str>, after: Option<&str>| {
             let (input, after) = (input.map(PathBuf::from), after.map(PathBuf::from));
@@ -576,6 +620,13 @@ mod tests {
             &["apply", "a", "b", "--moves"],
             &["apply", "a", "b", "--to", "dot"],
             &["apply", "a", "b", "--root", "7"],
+            &["class"],
+            &["class", "-", "a", "-"],
+            &["class", "a", "--csv", "--json"],
+            &["class", "a", "--html", "--html"],
+            &["class", "a", "--to", "aiger"],
+            &["class", "a", "--svg"],
+            &["settle", "a", "--csv"],
         ] {
             assert!(of(words).is_err(), "{words:?}");
         }
