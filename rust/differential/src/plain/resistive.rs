@@ -1,8 +1,9 @@
 //! The call on a tree for resistive memory, over the tree call's state. Siblings meet in their reader, so that a cost is that of a node with its
 //! move and the best turns of what is free below it: its family.
 
+use super::bits::ones;
 use super::calls::Tables;
-use super::decide::flags;
+use super::decide::{flags, parted, Kind};
 use super::settle::State;
 use super::tree::check_call;
 use super::Number;
@@ -17,15 +18,6 @@ const WEIGHTS: [[u32; 4]; 2] = [[304_097, 1, 304_099, 304_100], [0, 1, 2, 3]];
 /// For each word of a node what it costs that it ends with bit 0 and with bit 1, the node's own move apart.
 type Ends = [[u32; 2]; 3];
 
-/// The costs of both turns where one alone is possible.
-fn only(turn: u32) -> [u32; 2] {
-    if turn == 0 {
-        [0, NEVER]
-    } else {
-        [NEVER, 0]
-    }
-}
-
 fn in_order([x, y]: [u32; 2], turned: u32) -> [u32; 2] {
     if turned == 0 {
         [x, y]
@@ -35,6 +27,9 @@ fn in_order([x, y]: [u32; 2], turned: u32) -> [u32; 2] {
 }
 
 /// The least of a node with this move and of all that is free below it: word by word from the last, by how many words before are complemented.
+///
+/// It is put in where it is called, so that the compiler knows the kind and the move there.
+#[inline(always)]
 fn family(xor: bool, ends: &Ends, number: u32) -> u32 {
     let (weights, turned) = (&WEIGHTS[xor as usize], flags(xor, number));
     let [first, second, third] = [0, 1, 2].map(|k| in_order(ends[k], turned[k]));
@@ -43,35 +38,44 @@ fn family(xor: bool, ends: &Ends, number: u32) -> u32 {
     (first[0] + middle[0]).min(first[1] + middle[1])
 }
 
-/// Two costs less the lesser: their difference, and in the lowest bit whether the first is the dearer.
-fn as_word([still, turned]: [u32; 2]) -> u32 {
-    if turned < still {
-        2 * (still - turned) + 1
-    } else {
-        2 * (turned - still)
-    }
+/// The first least of a majority's two moves, where the readers cost so much left and turned.
+fn first_of_majority(ends: &Ends, [still, turned]: [u32; 2]) -> u32 {
+    (family(false, ends, 1) + turned < family(false, ends, 0) + still) as u32
 }
 
-/// The two costs of such a word.
-fn costs_of(word: u32) -> [u32; 2] {
-    in_order([0, word >> 1], word & 1)
+/// The first least of an XOR's first so many moves, two or four: costs are small, and the number stands below them.
+fn first_of_xor(ends: &Ends, moves: u32, [still, turned]: [u32; 2]) -> u32 {
+    let of = |number: u32, readers: u32| 4 * (family(true, ends, number) + readers) + number;
+    let two = of(0, still).min(of(1, still));
+    let least = if moves == 2 { two } else { two.min(of(2, turned)).min(of(3, turned)) };
+    least % 4
+}
+
+/// Two costs less the lesser in one word: their difference, and in the lowest bit whether the first is the dearer.
+fn as_word([still, turned]: [u32; 2]) -> u32 {
+    2 * still.abs_diff(turned) + (turned < still) as u32
 }
 
 impl State<'_> {
-    /// What both turns of an index cost while node v is decided, v itself being still: below it there are costs, above it moves.
-    fn turn_costs(&self, index: u32, v: usize) -> [u32; 2] {
+    /// What both turns of an index cost while node v is decided, as one word: below it there are costs, above it moves, and v itself is still.
+    fn turns(&self, index: u32, v: usize) -> u32 {
         let u = self.node_of(index);
         match self.kept.get(u) {
-            Some(node) if node.place != MARK && u < v => costs_of(node.costs),
-            Some(node) if node.place != MARK && u > v => only(flags(self.is_xor(u), node.costs)[3]),
-            _ => only(0),
+            Some(node) if node.place != MARK && u < v => node.costs,
+            Some(node) if node.place != MARK && u > v => 2 * NEVER + flags(self.is_xor(u), node.costs)[3],
+            _ => 2 * NEVER,
         }
     }
 
     /// The ends of node w's words while v is decided. The mark has no bit and is never turned.
-    fn ends(&self, w: usize, v: usize) -> Ends {
-        let own = self.kept[w].own();
-        [0, 1, 2].map(|k| in_order(self.turn_costs(self.indices[w][k], v), own >> k & 1))
+    #[inline(always)]
+    fn ends(&self, xor: bool, w: usize, v: usize) -> Ends {
+        let (indices, own) = (self.indices[w], self.kept[w].own());
+        let end = |k: usize| {
+            let word = self.turns(indices[k], v) ^ (own >> k & 1);
+            in_order([0, word >> 1], word & 1)
+        };
+        [end(0), end(1), if xor { [0, NEVER] } else { end(2) }]
     }
 
     fn key(&self, v: usize) -> u32 {
@@ -79,12 +83,13 @@ impl State<'_> {
         if kind.locked {
             return 2 * NEVER;
         }
-        let ends = self.ends(v, v);
-        let of = |number: u32| family(kind.xor, &ends, number);
         if kind.xor {
+            let ends = self.ends(true, v, v);
+            let of = |number: u32| family(true, &ends, number);
             as_word([of(0).min(of(1)), of(2).min(of(3))])
         } else {
-            as_word([of(0), of(1)])
+            let ends = self.ends(false, v, v);
+            as_word([0, 1].map(|number| family(false, &ends, number)))
         }
     }
 
@@ -97,48 +102,61 @@ impl State<'_> {
         }
     }
 
-    /// The reader's family with v still, and turned: one of its words then ends otherwise.
-    fn beside(&self, v: usize) -> [u32; 2] {
-        let place = self.kept[v].place as usize;
-        let (reader, k) = (place / 3, place % 3);
-        let (xor, number) = (self.is_xor(reader), self.kept[reader].costs);
-        let mut ends = self.ends(reader, v);
+    /// The family of a reader of this kind with v still, and turned: its word k then ends otherwise.
+    #[inline(always)]
+    fn families(&self, xor: bool, reader: usize, k: usize, v: usize) -> [u32; 2] {
+        let (mut ends, number) = (self.ends(xor, reader, v), self.kept[reader].costs);
         let still = family(xor, &ends, number);
         ends[k].swap(0, 1);
         [still, family(xor, &ends, number)]
     }
 
-    /// The first least of so many moves of a node: its move takes the place of its costs.
-    fn choose(&mut self, v: usize, moves: u32, readers: [u32; 2]) {
-        let (xor, ends) = (self.is_xor(v), self.ends(v, v));
-        let cost = |number: u32| family(xor, &ends, number) + readers[flags(xor, number)[3] as usize];
-        let least = (1..moves).fold((cost(0), 0), |least, number| least.min((cost(number), number)));
-        self.kept[v].costs = least.1;
+    fn beside(&self, v: usize) -> [u32; 2] {
+        let place = self.kept[v].place as usize;
+        let (reader, k) = (place / 3, place % 3);
+        if self.is_xor(reader) {
+            self.families(true, reader, k, v)
+        } else {
+            self.families(false, reader, k, v)
+        }
     }
 
-    /// The root takes those of its moves that leave its readers, which come first.
+    /// The move of a node that is not locked.
+    fn choose(&self, v: usize) -> u32 {
+        let readers = self.beside(v);
+        if self.is_xor(v) {
+            first_of_xor(&self.ends(true, v, v), 4, readers)
+        } else {
+            first_of_majority(&self.ends(false, v, v), readers)
+        }
+    }
+
+    /// The root takes those of its moves that leave its readers: a majority's first, an XOR's first two.
+    fn choose_root(&self, root: usize) -> u32 {
+        match self.kind(root) {
+            Kind { xor: true, locked: false } => first_of_xor(&self.ends(true, root, root), 2, [0, 0]),
+            _ => 0,
+        }
+    }
+
+    /// By falling index; a node's move takes the place of its costs.
     fn decide_still(&mut self, root: usize) {
         self.store_keys(root);
-        let moves = |s: &Self, v: usize, all: [u32; 2]| match s.kind(v) {
-            kind if kind.locked => 1,
-            kind => all[kind.xor as usize],
-        };
-        self.choose(root, moves(self, root, [1, 2]), [0, 0]);
+        self.kept[root].costs = self.choose_root(root);
         let mut at = self.next(root, root);
         while let Some(v) = at {
-            let readers = self.beside(v);
-            self.choose(v, moves(self, v, [2, 4]), readers);
+            self.kept[v].costs = if self.kind(v).locked { 0 } else { self.choose(v) };
             at = self.next(root, v);
         }
     }
 }
 
-/// Refused as the tree call is.
+/// Refused as the tree call is. No moves are made in the state: C is counted once they are written, and other edges keep what they add.
 pub fn resistive_call(t: &mut Tables, root: u32, scratch: usize) -> Result<Saving, Number> {
     let v = check_call(&t.view(), root, scratch)?;
     let (mut s, node_bits, output_bits) = t.state();
     s.decide_still(v);
-    let saving = s.make_decided(v);
     s.write_decided(v, node_bits, output_bits);
-    Ok(saving)
+    let after = ones(node_bits) + ones(output_bits);
+    Ok(parted(i64::from(s.count) - i64::from(after), [0; 2]))
 }

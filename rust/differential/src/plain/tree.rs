@@ -49,7 +49,7 @@ impl State<'_> {
             self.make(v, number);
             at = self.next(root, v);
         }
-        parted(i64::from(before) - i64::from(self.count), [odd, self.kept[root].odd])
+        parted(before - self.count, [odd, self.kept[root].odd])
     }
 
     pub(super) fn write_decided(&self, root: usize, node_bits: &mut [u64], output_bits: &mut [u64]) {
