@@ -6,7 +6,6 @@ use mathlib.Core.List.{List}
 use mathlib.Core.Logic.{⊎-elim, _≢_}
 use Prim.Native.Nat.{ℕ, suc, _+_, _-_, _*_, _/_, _≤_, _<_, min}
 use native.Mathlib.Omega.{arith}
-use native.Mathlib.Nat.{eq-or-lt-of-le}
 use borrow.Author.Tests.{eq-eqb, ne-eqb, lt-ltb}
 use lib.Dec.{eqb}
 use Rattle.graph.specs.Admission.{Admitted}
@@ -31,11 +30,10 @@ use Rattle.resistive.specs.Resistive.{stillMoves, stillAt}
 use Rattle.resistive.proofs.Still.{still-root, still-other, stillAt-few}
 use Rattle.resistive.proofs.Deciding.{keys-best, reader-local}
 use Rattle.state.specs.State.{field}
-use Rattle.trees.specs.Costing.{CostsOnly}
 use Rattle.trees.specs.Deciding.{movesIn, ReaderDecided}
-use Rattle.trees.specs.Filling.{Stored}
 use Rattle.trees.proofs.DecidePass.{moves-at}
 use Rattle.trees.proofs.LinkSteps.{placed-root, placed-other, placed-low, other-if}
+use Rattle.trees.proofs.Passes.{FallenFrom, LooksUp}
 use Rattle.trees.proofs.Ready.{Ready, ready-costs, named-below, named-in}
 use Rattle.resistive_call.specs.Keys.{turnAt, wordKeys, scoreBy, readerBy, besideAt, movesHere, KeyedBelow, FamiliesLow, StillDecided}
 use Rattle.resistive_call.proofs.Families.{by-turn}
@@ -98,60 +96,50 @@ none-turn f = same (eqb f 0)
 abbrev scoreOf : Graph → List ℕ → ℕ → Choice → ℕ → ℕ → ℕ
 scoreOf h ls r m v k = below h (keyCost h ls) (keyTurns h ls) v k + readerFamily h (keyCost h ls) (keyTurns h ls) r m v (flag (isXor h v) k 3)
 
--- the tree's nodes from n on are decided, those below have their costs
-pub record ChoicesFrom (h : Graph) (ls sc₁ : List ℕ) (r n : ℕ) (sc : List ℕ) : Type 0 where
-  pub only : CostsOnly sc₁ sc
-  pub under : (v : ℕ) → v < n → field sc v 4 ≡ field sc₁ v 4
-  pub top : n ≤ r → FirstBelow (below h (keyCost h ls) (keyTurns h ls) r) (stillAt h ls (node h r) (node h r)) (field sc r 4)
-  pub rest : (v : ℕ) → n ≤ v → v < h .N → rootOf h (node h v) ≡ node h r → v ≢ r
-      → FirstBelow (scoreOf h ls (node h r) (movesIn (h .I) sc) v) (stillAt h ls (node h r) (node h v)) (field sc v 4)
+-- x is the first least move of node v, those above it being d's
+pub record ChoiceRight (h : Graph) (ls : List ℕ) (r : ℕ) (d : Choice) (v x : ℕ) : Type 0 where
+  pub top : v ≡ r → FirstBelow (below h (keyCost h ls) (keyTurns h ls) v) (stillAt h ls (node h r) (node h v)) x
+  pub rest : v ≢ r → FirstBelow (scoreOf h ls (node h r) d v) (stillAt h ls (node h r) (node h v)) x
 
 module _ (h : Graph) (ls sc₁ : List ℕ) (rd : Ready h sc₁) (r : ℕ) (rn : r < h .N) (rt : isRoot h (node h r) ≡ true) where
   adm : Admitted h
   adm = rd .admitted
 
-  pub choices-begin : ChoicesFrom h ls sc₁ r (suc r) sc₁
-  choices-begin =
+  pub choices-look : LooksUp h r (ChoiceRight h ls r)
+  choices-look d d′ v x b t same m =
       record {
-        only = record { same = refl; kept = λ j d. refl };
-        under = λ v l. refl;
-        top = λ l. absurd (omega arith);
-        rest = λ v l k t z. absurd (omega (arith, rootOf-above h adm (node h v)));
-      }
-
-  -- fewer nodes than n, none of the tree between
-  pub choices-down : (n n′ : ℕ) (sc : List ℕ) → n′ ≤ n → ((x : ℕ) → n′ ≤ x → x < n → rootOf h (node h x) ≢ node h r) → ChoicesFrom h ls sc₁ r n sc → ChoicesFrom h ls sc₁ r n′ sc
-  choices-down n n′ sc l free mf =
-      record {
-        only = mf .only;
-        under = λ v k. mf .under v (omega arith);
-        top = λ k. ⊎-elim (λ (a : r < n). absurd (free r k a (rootOf-root h adm (node h r) rt))) (λ (a : n ≤ r). mf .top a) (lt-or-le r n);
-        rest = λ v k b t z. ⊎-elim (λ (a : v < n). absurd (free v k a t)) (λ (a : n ≤ v). mf .rest v a b t z) (lt-or-le v n);
+        top = m .top;
+        rest = λ z.
+            let no = not-root h adm (node h r) (node h v) t (λ q. z (omega arith)) in
+            first-like (scoreOf h ls (node h r) d′ v) (scoreOf h ls (node h r) d v) (stillAt h ls (node h r) (node h v)) x
+            (λ k l. sym (ap (λ y. below h (keyCost h ls) (keyTurns h ls) v k + y) (reader-local h adm (keyCost h ls) (keyTurns h ls) (node h r) v b t no d d′ same (flag (isXor h v) k 3))))
+            (m .rest z);
       }
 
   -- a decided node has one of its moves
-  pub choices-fit : (n : ℕ) (sc : List ℕ) → ChoicesFrom h ls sc₁ r n sc → (v : ℕ) → n ≤ v → v < h .N → rootOf h (node h v) ≡ node h r → field sc v 4 < movesAt h ls (node h v)
+  pub choices-fit : (n : ℕ) (sc : List ℕ) → FallenFrom h (ChoiceRight h ls r) sc₁ r n sc → (v : ℕ) → n ≤ v → v < h .N → rootOf h (node h v) ≡ node h r → field sc v 4 < movesAt h ls (node h v)
   choices-fit n sc mf v k l t =
+      let m = mf .done v k l t in
       ⊎-elim
-      (λ (e : v ≡ r). rw e (omega (arith, mf .top (omega arith) .below, stillAt-few h ls (node h r) (node h r))))
-      (λ (e : v ≢ r). omega (arith, mf .rest v k l t e .below, stillAt-few h ls (node h r) (node h v)))
+      (λ (e : v ≡ r). omega (arith, m .top e .below, stillAt-few h ls (node h r) (node h v)))
+      (λ (e : v ≢ r). omega (arith, m .rest e .below, stillAt-few h ls (node h r) (node h v)))
       (eq-or-ne v r)
 
   -- all decided
-  pub choices-all : (sc : List ℕ) → ChoicesFrom h ls sc₁ r 0 sc → StillDecided h ls (node h r) sc
+  pub choices-all : (sc : List ℕ) → FallenFrom h (ChoiceRight h ls r) sc₁ r 0 sc → StillDecided h ls (node h r) sc
   choices-all sc mf =
       record {
         permitted = λ v l t. choices-fit 0 sc mf v (omega arith) l t;
         best =
             keys-best h ls (node h r) adm (record { after-inputs = omega arith; within = omega arith; root = rt }) (movesIn (h .I) sc)
             (record {
-              top = λ v e. let q : v ≡ r = omega arith in rw (q, moves-at h sc r) (mf .top (omega arith));
-              rest = λ v l t z. rw (moves-at h sc v) (mf .rest v (omega arith) l t (λ q. z (rw q)));
+              top = λ v e. let q : v ≡ r = omega arith in rw (q, moves-at h sc r) (mf .done r (omega arith) rn (rootOf-root h adm (node h r) rt) .top refl);
+              rest = λ v l t z. rw (moves-at h sc v) (mf .done v (omega arith) l t .rest (λ q. z (rw q)));
             });
       }
 
   -- node v of the tree, all above it decided
-  module _ (kd : KeyedBelow h ls sc₁ (node h r) r) (v : ℕ) (vr : v ≤ r) (here : rootOf h (node h v) ≡ node h r) (sc : List ℕ) (mf : ChoicesFrom h ls sc₁ r (suc v) sc) where
+  module _ (kd : KeyedBelow h ls sc₁ (node h r) r) (v : ℕ) (vr : v ≤ r) (here : rootOf h (node h v) ≡ node h r) (sc : List ℕ) (mf : FallenFrom h (ChoiceRight h ls r) sc₁ r (suc v) sc) where
     inside : v < h .N
     inside = omega arith
 
@@ -298,35 +286,5 @@ module _ (h : Graph) (ls sc₁ : List ℕ) (rd : Ready h sc₁) (r : ℕ) (rn : 
           ))
           (first-in _ _ _ k k n refl fb)
 
-      -- the move stored
-      module _ (sc′ : List ℕ) (st : Stored v 4 k sc sc′) where
-        field-old : (w : ℕ) → w ≢ v → field sc′ w 4 ≡ field sc w 4
-        field-old w d = st .old (8 * w + 4) (λ z. d (omega arith))
-
-        move-old : (w u : ℕ) → v ≤ w → node h w < u → movesIn (h .I) sc′ u ≡ movesIn (h .I) sc u
-        move-old w u l a = moves-as h sc′ u ∙ field-old (u - (h .I + 1)) (λ z. omega arith) ∙ sym (moves-as h sc u)
-
-        score-kept : (w : ℕ) → v ≤ w → w < h .N → rootOf h (node h w) ≡ node h r → w ≢ r → (j : ℕ)
-            → scoreOf h ls (node h r) (movesIn (h .I) sc′) w j ≡ scoreOf h ls (node h r) (movesIn (h .I) sc) w j
-        score-kept w l b t z j =
-            ap (λ x. below h (keyCost h ls) (keyTurns h ls) w j + x)
-            (reader-local h adm (keyCost h ls) (keyTurns h ls) (node h r) w b t (not-root h adm (node h r) (node h w) t (λ q. z (omega arith)))
-            (movesIn (h .I) sc′) (movesIn (h .I) sc) (λ u a. move-old w u l a) (flag (isXor h w) j 3))
-
-        pub choices-step : ChoicesFrom h ls sc₁ r v sc′
-        choices-step =
-            record {
-              only = record { same = st .same ∙ mf .only .same; kept = λ j d. st .old j (λ e. d (omega arith)) ∙ mf .only .kept j d };
-              under = λ w l. field-old w (λ z. omega arith) ∙ mf .under w (omega arith);
-              top = λ l.
-                  ⊎-elim
-                  (λ (e : v ≡ r). rw (← e, st .new) (rw (← e) at (found-root e)))
-                  (λ (e : v < r). rw (field-old r (λ z. omega arith)) (mf .top e))
-                  (eq-or-lt-of-le l);
-              rest = λ w l b t z.
-                  first-like _ _ _ _ (λ j q. score-kept w l b t z j)
-                  (⊎-elim
-                  (λ (e : v ≡ w). rw (← e, st .new) (found-other (λ q. z (sym e ∙ q))))
-                  (λ (e : v < w). rw (field-old w (λ q. omega arith)) (mf .rest w e b t z))
-                  (eq-or-lt-of-le l));
-            }
+      pub choice-right : ChoiceRight h ls r (movesIn (h .I) sc) v k
+      choice-right = record { top = found-root; rest = found-other }

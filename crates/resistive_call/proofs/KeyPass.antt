@@ -1,32 +1,29 @@
--- The costs of a tree by rising index: from one node of the tree to the next, what is stored is the costs by recursion. From the
--- laws on links and on a node's numbers.
+-- The costs of a tree by rising index: what is stored for a node, from what is stored below it, are its costs by recursion. From the laws
+-- of the pass and on a node's numbers.
 use mathlib.Core.Path.{_≡_, refl, sym, ap, _∙_}
 use mathlib.Core.Bool.{Bool, true, false, _&&_}
 use mathlib.Core.List.{List}
 use mathlib.Core.Logic.{⊎-elim, _≢_}
-use Prim.Native.Nat.{ℕ, zero, suc, _+_, _-_, _*_, _/_, _≤_, _<_, min}
+use Prim.Native.Nat.{ℕ, zero, suc, _+_, _-_, _*_, _/_, _<_, min}
 use native.Mathlib.Omega.{arith}
-use native.Mathlib.Nat.{eq-or-lt-of-le}
 use borrow.Author.Tests.{lt-ltb}
 use Rattle.graph.specs.Finite.{ifEqual, ifLess}
-use Rattle.graph.specs.Graph.{Graph, mark, node, word, isEdge, isXor}
-use Rattle.graph.proofs.Cases.{lt-or-le, eq-or-ne}
+use Rattle.graph.specs.Graph.{Graph, node, word, isEdge, isXor}
+use Rattle.graph.proofs.Cases.{eq-or-ne}
 use Rattle.graph.proofs.Tests.{less, equal, unequal}
 use Rattle.moves.specs.Cost.{inner}
 use Rattle.moves.specs.Rows.{arity, movesAt}
-use Rattle.moves.specs.Tree.{isRoot, rootOf}
-use Rattle.moves.proofs.Count.{clash}
+use Rattle.moves.specs.Tree.{isRoot}
 use Rattle.moves.proofs.Moves.{moves-of, moves-all}
-use Rattle.moves.proofs.Readers.{rootOf-above, not-root}
 use Rattle.resistive.specs.Family.{below, familyBy, packed, stored, turnsOf, turnLeast, earlier, keyCost, keyTurns, keyStored}
 use Rattle.resistive.proofs.Costs.{baseKey, costs-are, key-one, turns-all, turns-one}
 use Rattle.resistive.proofs.Numbers.{packed-zero, packed-one}
 use Rattle.resistive.proofs.Step.{family-same}
-use Rattle.state.specs.State.{field, Neighbours}
-use Rattle.trees.specs.Costing.{CostsOnly}
+use Rattle.state.specs.State.{field}
 use Rattle.trees.specs.Filling.{Stored}
-use Rattle.trees.proofs.Ready.{Ready, ready-costs, named-below, named-in}
-use Rattle.resistive_call.specs.Keys.{wordKeys, Low, turnBy, keyBy, KeyedBelow}
+use Rattle.trees.proofs.Passes.{RisenTo, risen-inside, risen-ready, risen-step}
+use Rattle.trees.proofs.Ready.{Ready, named-below, named-in}
+use Rattle.resistive_call.specs.Keys.{wordKeys, Low, turnBy, keyBy}
 use Rattle.resistive_call.proofs.Words.{earlier-is, words-low, family-now}
 
 -- the least by turn of a free node
@@ -46,12 +43,9 @@ two-words zero a b l f p q = rw p (packed-zero a b)
 two-words (suc zero) a b l f p q = rw q (packed-one a b)
 two-words (suc (suc t)) a b l f p q = absurd (omega arith)
 
--- at node v of the tree of r, those below it are done
-pub record KeysTo (h : Graph) (ls sc₀ sc : List ℕ) (r v : ℕ) : Type 0 where
-  pub within : v ≤ r
-  pub here : rootOf h (node h v) ≡ node h r
-  pub only : CostsOnly sc₀ sc
-  pub keyed : KeyedBelow h ls sc (node h r) v
+-- what is stored for node v are its costs
+abbrev pub KeyRight : Graph → List ℕ → ℕ → ℕ → Type 0
+KeyRight h ls v x = (t : ℕ) → t < 2 → stored x t ≡ keyStored h ls (node h v) t
 
 -- a node v whose named non-roots are stored
 module _ (h : Graph) (ls sc : List ℕ) (rd : Ready h sc) (v : ℕ) (vn : v < h .N)
@@ -114,31 +108,12 @@ module _ (h : Graph) (ls sc : List ℕ) (rd : Ready h sc) (v : ℕ) (vn : v < h 
       (eq-or-ne n 1)
 
 module _ (h : Graph) (ls sc₀ : List ℕ) (rd : Ready h sc₀) (r : ℕ) (rn : r < h .N) (rt : isRoot h (node h r) ≡ true) where
-  pub keys-begin : (v : ℕ) → v ≡ field sc₀ r 7 → KeysTo h ls sc₀ sc₀ r v
-  keys-begin v e =
-      let l = rd .linked .lowest r rn rt in
-      record {
-        within = rw e (l .0);
-        here = rw e (l .1);
-        only = record { same = refl; kept = λ j d. refl };
-        keyed = λ x s a b t. absurd (rd .linked .no-lowest r rn rt x (rw e at a) t);
-      }
-
-  module _ (sc : List ℕ) (v : ℕ) (ct : KeysTo h ls sc₀ sc r v) (vr : v ≢ r) where
+  module _ (sc : List ℕ) (v : ℕ) (ct : RisenTo h (KeyRight h ls) sc₀ sc r v) (vr : v ≢ r) where
     inside : v < h .N
-    inside = omega (arith, ct .within)
-
-    no-root : isRoot h (node h v) ≡ false
-    no-root = not-root h (rd .admitted) (node h r) (node h v) (ct .here) (λ z. vr (omega arith))
-
-    up : field sc₀ v 6 ≢ mark
-    up e = clash (rd .linked .no-higher v inside e) no-root
-
-    next : Neighbours h v (field sc₀ v 6)
-    next = rd .linked .higher v inside up
+    inside = risen-inside h (KeyRight h ls) sc₀ rd r rn rt sc v ct vr
 
     ready : Ready h sc
-    ready = ready-costs h sc₀ sc (ct .only) h rd
+    ready = risen-ready h (KeyRight h ls) sc₀ rd r rn rt sc v ct vr
 
     costed : (i t : ℕ) → i < 3 → t < 2 → isEdge h (3 * v + i) ≡ true → inner h (word h (3 * v + i) / 2) ≡ true → word h (3 * v + i) / 2 < node h v
         → stored (field sc (word h (3 * v + i) / 2 - (h .I + 1)) 4) t ≡ keyStored h ls (word h (3 * v + i) / 2) t
@@ -146,39 +121,11 @@ module _ (h : Graph) (ls sc₀ : List ℕ) (rd : Ready h sc₀) (r : ℕ) (rn : 
         let u : ℕ = word h (3 * v + i) / 2 in
         let b = named-in h (rd .admitted) v i inside l e y in
         let q : node h (u - (h .I + 1)) ≡ u = omega arith in
-        (rw q at (ct .keyed (u - (h .I + 1)) t (omega arith) k (rw q (b .1 ∙ ct .here))))
+        (rw q at (ct .done (u - (h .I + 1)) (omega arith) (rw q (b .1 ∙ ct .here)) t k))
 
     pub pass-low : (s : ℕ) → Low (wordKeys h sc v s v)
     pass-low = own-low h ls sc ready v inside costed
 
-    module _ (sc′ : List ℕ) (x : ℕ) (st : Stored v 4 x sc sc′) (ex : x ≡ keyBy (isXor h v) (movesAt h ls (node h v)) (wordKeys h sc v 0 v)) where
-      old-key : (w t : ℕ) → w ≢ v → stored (field sc′ w 4) t ≡ stored (field sc w 4) t
-      old-key w t d = rw (st .old (8 * w + 4) (λ z. d (omega arith)))
-
-      new-key : (t : ℕ) → t < 2 → stored (field sc′ v 4) t ≡ keyStored h ls (node h v) t
-      new-key t l = rw (st .new, ex) (key-stored h ls sc ready v inside costed t l)
-
-      only-after : CostsOnly sc₀ sc′
-      only-after = record { same = st .same ∙ ct .only .same; kept = λ j d. st .old j (λ e. d (omega arith)) ∙ ct .only .kept j d }
-
-      pub keys-step : (w : ℕ) → w ≡ field sc′ v 6 → KeysTo h ls sc₀ sc′ r w × (v < w)
-      keys-step w e =
-          let q : w ≡ field sc₀ v 6 = e ∙ only-after .kept (8 * v + 6) (λ z. omega arith) in
-          let n : Neighbours h v w = rw q next in
-          let t : rootOf h (node h w) ≡ node h r = n .same ∙ ct .here in (
-            record {
-              within = omega (arith, rootOf-above h (rd .admitted) (node h w));
-              here = t;
-              only = only-after;
-              keyed = λ y s a b c.
-                  ⊎-elim
-                  (λ (k : y < v). old-key y s (λ z. omega arith) ∙ ct .keyed y s k b c)
-                  (λ (k : v ≤ y).
-                  ⊎-elim
-                  (λ (i : v ≡ y). rw (← i) (new-key s b))
-                  (λ (i : v < y). absurd (n .between y i a (c ∙ sym (ct .here))))
-                  (eq-or-lt-of-le k))
-                  (lt-or-le y v);
-            },
-            n .rising,
-          )
+    pub keys-step : (sc′ : List ℕ) (x : ℕ) → Stored v 4 x sc sc′ → x ≡ keyBy (isXor h v) (movesAt h ls (node h v)) (wordKeys h sc v 0 v) → (w : ℕ) → w ≡ field sc′ v 6
+        → RisenTo h (KeyRight h ls) sc₀ sc′ r w × (v < w)
+    keys-step sc′ x st e = risen-step h (KeyRight h ls) sc₀ rd r rn rt sc v ct vr sc′ x st (λ t l. rw e (key-stored h ls sc ready v inside costed t l))

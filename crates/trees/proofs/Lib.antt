@@ -6,8 +6,9 @@ pub mod CostTable
 pub mod TreeNumbers
 pub mod EdgeCosts
 pub mod Ready
-pub mod CostPass
 pub mod Falling
+pub mod Passes
+pub mod CostPass
 pub mod Shown
 pub mod DecidePass
 pub mod Decided

@@ -9,9 +9,10 @@ use Rattle.moves.specs.Rows.{movesAt}
 use Rattle.moves.specs.Tree.{isRoot}
 use Rattle.state.specs.State.{field, Ordered}
 use Rattle.trees.specs.Filling.{Stored}
+use Rattle.trees.proofs.Passes.{RisenTo, risen-begin}
 use Rattle.trees.proofs.Ready.{ordered-itself, ordered-costs}
 use Rattle.resistive_call.specs.Keys.{wordKeys, keyBy, KeyedBelow, CostsLow}
-use Rattle.resistive_call.proofs.KeyPass.{KeysTo, keys-begin, keys-step, pass-low}
+use Rattle.resistive_call.proofs.KeyPass.{KeyRight, keys-step, pass-low}
 use native.Mathlib.Omega.{arith}
 use borrow.Author.Needs.{needs}
 use Rattle.graph.specs.Literals.{graphIn}
@@ -19,21 +20,21 @@ use Rattle.resistive_call.proofs.keys.fill_keys.Statement.{statement}
 use Rattle.resistive_call.proofs.keys.fill_keys.Tie as tie
 
 module _ (g : Graph) (ls sc₀ : List ℕ) (o : Ordered g sc₀) (r : ℕ) (h : r < g .N) (t : isRoot g (node g r) ≡ true) where
-  begin : (v : ℕ) → v ≡ field sc₀ r 7 → KeysTo g ls sc₀ sc₀ r v
-  begin = keys-begin g ls sc₀ (ordered-itself g sc₀ o) r h t
+  begin : (v : ℕ) → v ≡ field sc₀ r 7 → RisenTo g (KeyRight g ls) sc₀ sc₀ r v
+  begin = risen-begin g (KeyRight g ls) sc₀ (ordered-itself g sc₀ o) r h t
 
-  low : (sc : List ℕ) (v : ℕ) → KeysTo g ls sc₀ sc r v → v ≢ r → CostsLow g sc v v
+  low : (sc : List ℕ) (v : ℕ) → RisenTo g (KeyRight g ls) sc₀ sc r v → v ≢ r → CostsLow g sc v v
   low = pass-low g ls sc₀ (ordered-itself g sc₀ o) r h t
 
-  again : (sc : List ℕ) (v : ℕ) → KeysTo g ls sc₀ sc r v → v ≢ r → (sc′ : List ℕ) (x : ℕ) → Stored v 4 x sc sc′ → x ≡ keyBy (isXor g v) (movesAt g ls (node g v)) (wordKeys g sc v 0 v)
-      → (w : ℕ) → w ≡ field sc′ v 6 → KeysTo g ls sc₀ sc′ r w × (v < w)
+  again : (sc : List ℕ) (v : ℕ) → RisenTo g (KeyRight g ls) sc₀ sc r v → v ≢ r → (sc′ : List ℕ) (x : ℕ) → Stored v 4 x sc sc′ → x ≡ keyBy (isXor g v) (movesAt g ls (node g v)) (wordKeys g sc v 0 v)
+      → (w : ℕ) → w ≡ field sc′ v 6 → RisenTo g (KeyRight g ls) sc₀ sc′ r w × (v < w)
   again = keys-step g ls sc₀ (ordered-itself g sc₀ o) r h t
 
-  last : (sc : List ℕ) (v : ℕ) → KeysTo g ls sc₀ sc r v → v ≡ r → KeyedBelow g ls sc (node g r) r
-  last sc v iv e = rw e at (iv .keyed)
+  last : (sc : List ℕ) (v : ℕ) → RisenTo g (KeyRight g ls) sc₀ sc r v → v ≡ r → KeyedBelow g ls sc (node g r) r
+  last sc v iv e w s l k t = iv .done w (rw e l) t s k
 
 abbrev Inv-loop : tie.InvT-loop
-Inv-loop inputs nodes outputs node-table node-bits output-table output-bits locks root scratch₀ v₀ scratch v = KeysTo (graphIn inputs nodes outputs node-table node-bits output-table output-bits) locks scratch₀ scratch root v
+Inv-loop inputs nodes outputs node-table node-bits output-table output-bits locks root scratch₀ v₀ scratch v = RisenTo (graphIn inputs nodes outputs node-table node-bits output-table output-bits) (KeyRight (graphIn inputs nodes outputs node-table node-bits output-table output-bits) locks) scratch₀ scratch root v
 
 abbrev μ-loop : tie.MeasureT-loop
 μ-loop inputs nodes outputs node-table node-bits output-table output-bits locks root scratch₀ v₀ scratch v = root - v

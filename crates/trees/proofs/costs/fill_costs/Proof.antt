@@ -14,7 +14,8 @@ use Rattle.state.proofs.Stands.{stands-alike}
 use Rattle.trees.specs.Filling.{Stored}
 use Rattle.trees.specs.Costing.{innerAt, costAt, CostedBelow}
 use Rattle.trees.proofs.Ready.{ordered-ready, ordered-costs, stands-costs, stands-I, stands-N}
-use Rattle.trees.proofs.CostPass.{CostsTo, costs-begin, costs-step}
+use Rattle.trees.proofs.CostPass.{CostRight, costed-below, costs-step}
+use Rattle.trees.proofs.Passes.{RisenTo, risen-begin}
 use native.Mathlib.Omega.{arith}
 use borrow.Author.Needs.{needs}
 use Rattle.graph.specs.Literals.{literals}
@@ -22,14 +23,14 @@ use Rattle.trees.proofs.costs.fill_costs.Statement.{statement}
 use Rattle.trees.proofs.costs.fill_costs.Tie as tie
 
 abbrev Inv : Graph → List ℕ → ℕ → List ℕ → List ℕ → ℕ → Type 0
-Inv g ls r sc₀ sc v = CostsTo (stands g sc₀) ls sc₀ sc r v
+Inv g ls r sc₀ sc v = RisenTo (stands g sc₀) (CostRight (stands g sc₀) ls) sc₀ sc r v
 
 module _ (g : Graph) (ls sc₀ : List ℕ) (o : Ordered g sc₀) (r : ℕ) (h : r < g .N) (t : isRoot g (node g r) ≡ true) where
   root-now : isRoot (stands g sc₀) (node (stands g sc₀) r) ≡ true
   root-now = rw (alike-isRoot g (stands g sc₀) (stands-alike g sc₀ (o .admitted)) (node (stands g sc₀) r), stands-I g sc₀) t
 
   begin : (v : ℕ) → v ≡ field sc₀ r 7 → Inv g ls r sc₀ sc₀ v
-  begin = costs-begin (stands g sc₀) ls sc₀ (ordered-ready g sc₀ o) r (rw (stands-N g sc₀) h) root-now
+  begin = risen-begin (stands g sc₀) (CostRight (stands g sc₀) ls) sc₀ (ordered-ready g sc₀ o) r (rw (stands-N g sc₀) h) root-now
 
   again : (sc : List ℕ) (v : ℕ) → Inv g ls r sc₀ sc v → v ≢ r → (sc′ : List ℕ) (x : ℕ) → Stored v 4 x sc sc′
       → x % 2 ≡ bitCost (stands g sc) ls (innerAt (g .I) sc) (costAt (g .I) sc) v 0 → x / 2 % 2 ≡ bitCost (stands g sc) ls (innerAt (g .I) sc) (costAt (g .I) sc) v 1
@@ -41,7 +42,7 @@ module _ (g : Graph) (ls sc₀ : List ℕ) (o : Ordered g sc₀) (r : ℕ) (h : 
 
   last : (sc : List ℕ) (v : ℕ) → Inv g ls r sc₀ sc v → v ≡ r → CostedBelow (stands g sc₀) ls sc (node g r) r
   unfolding stands turnedBy
-  last sc v iv e = rw e at (iv .costed)
+  last sc v iv e = rw e at (costed-below (stands g sc₀) ls sc r v (iv .done))
 
 abbrev Inv-loop : tie.InvT-loop
 Inv-loop inputs nodes outputs node-table node-bits output-table output-bits locks root scratch₀ v₀ scratch v = Inv (graphOf inputs nodes outputs (literals node-table node-bits) (literals output-table output-bits)) locks root scratch₀ scratch v

@@ -11,7 +11,6 @@ use Rattle.moves.specs.Rows.{movesAt}
 use Rattle.moves.specs.Tree.{isRoot, rootOf}
 use Rattle.moves.specs.Cost.{wordCosts}
 use Rattle.moves.specs.Decide.{costWith}
-use Rattle.moves.proofs.Readers.{rootOf-root}
 use Rattle.state.specs.State.{field, stands, Ordered}
 use Rattle.state.proofs.Alike.{alike-isRoot}
 use Rattle.state.proofs.Stands.{stands-alike}
@@ -19,17 +18,17 @@ use Rattle.trees.specs.Filling.{Stored}
 use Rattle.trees.specs.Costing.{innerAt, costAt, CostedBelow, CostsOnly}
 use Rattle.trees.specs.Deciding.{oddAt, ReaderDecided, TreeDecided}
 use Rattle.trees.proofs.Ready.{Ready, ordered-ready, ordered-costs}
-use Rattle.trees.proofs.Falling.{boundOf, bound-mark, bound-node, next-lower}
-use Rattle.trees.proofs.DecidePass.{MovesFrom, moves-begin, moves-down, moves-all, moves-step, reader-decided}
+use Rattle.trees.proofs.Falling.{boundOf}
+use Rattle.trees.proofs.DecidePass.{MoveRight, moves-look, moves-all, move-right, reader-decided}
+use Rattle.trees.proofs.Passes.{FallenFrom, FallenTo, fallen-begin, fallen-low, fallen-here, fallen-passed, fallen-step, fallen-all}
 use native.Mathlib.Omega.{arith}
 use borrow.Author.Needs.{needs}
 use Rattle.graph.specs.Literals.{literals}
 use Rattle.trees.proofs.deciding.fill_moves.Statement.{statement}
 use Rattle.trees.proofs.deciding.fill_moves.Tie as tie
 
-record Inv (g : Graph) (ls sc₁ : List ℕ) (r : ℕ) (sc : List ℕ) (v : ℕ) : Type 0 where
-  mf : MovesFrom (stands g sc₁) ls sc₁ r (boundOf v) sc
-  here : v ≢ mark → (v ≤ r) × (rootOf (stands g sc₁) (node (stands g sc₁) v) ≡ node (stands g sc₁) r)
+abbrev Inv : Graph → List ℕ → List ℕ → ℕ → List ℕ → ℕ → Type 0
+Inv g ls sc₁ r sc v = FallenTo (stands g sc₁) (MoveRight (stands g sc₁) ls r) sc₁ r v sc
 
 module _ (g : Graph) (ls sc₁ : List ℕ) (o : Ordered g sc₁) (r : ℕ) (h : r < g .N) (t : isRoot g (node g r) ≡ true) where
   abbrev k : Graph
@@ -47,22 +46,17 @@ module _ (g : Graph) (ls sc₁ : List ℕ) (o : Ordered g sc₁) (r : ℕ) (h : 
   within = h
 
   begin : (v : ℕ) → v ≡ r → Inv g ls sc₁ r sc₁ v
-  begin v e =
-      let d : v ≢ mark = λ z. omega (arith, o .admitted .few-nodes) in
-      record {
-        mf = rw (bound-node v d, e) (moves-begin k ls sc₁ ready r within root-now);
-        here = λ z. rw e (omega arith, rootOf-root k (ready .admitted) (node k r) root-now);
-      }
+  begin = fallen-begin k (MoveRight k ls r) sc₁ ready r within root-now
 
   module _ (cd : CostedBelow k ls sc₁ (node g r) r) (sc : List ℕ) (v : ℕ) (iv : Inv g ls sc₁ r sc v) (d : v ≢ mark) (w : ℕ) (e : w ≡ v) where
     low : w ≤ r
-    low = rw e (iv .here d .0)
+    low = fallen-low k (MoveRight k ls r) sc₁ ready r within root-now sc v iv d w e
 
     in-tree : rootOf k (node k w) ≡ node k r
-    in-tree = rw e (iv .here d .1)
+    in-tree = fallen-here k (MoveRight k ls r) sc₁ ready r within root-now sc v iv d w e
 
-    passed : MovesFrom k ls sc₁ r (suc w) sc
-    passed = rw (e, ← bound-node v d) (iv .mf)
+    passed : FallenFrom k (MoveRight k ls r) sc₁ r (suc w) sc
+    passed = fallen-passed k (MoveRight k ls r) sc₁ ready r within root-now sc v iv d w e
 
     decided-above : ReaderDecided g sc w
     unfolding stands turnedBy
@@ -71,21 +65,14 @@ module _ (g : Graph) (ls sc₁ : List ℕ) (o : Ordered g sc₁) (r : ℕ) (h : 
     again : (m x : ℕ) (sc′ : List ℕ) → FirstBelow (costWith (isXor g w) (wordCosts (stands g sc) (innerAt (g .I) sc) (costAt (g .I) sc) w) (field sc w 0) (oddAt g sc w)) (movesAt g ls (node g w)) m
         → Stored w 4 m sc sc′ → x ≡ field sc′ w 5 → Inv g ls sc₁ r sc′ x × (boundOf x < boundOf v)
     unfolding stands turnedBy
-    again m x sc′ fb st q =
-        let ms = moves-step k ls sc₁ ready r within root-now g o refl cd w low in-tree sc passed m (g .I) (isXor g w) (movesAt g ls (node g w)) refl refl refl fb sc′ st in
-        let b : w < k .N = omega (arith, low, within) in
-        let n = next-lower k sc₁ ready r w x b in-tree (q ∙ ms .only .kept _ (λ z. omega arith)) in (
-          record {
-            mf = moves-down k ls sc₁ ready r within root-now w (boundOf x) sc′ (n .bound) (n .free) ms;
-            here = λ z. (omega (arith, n .lower z, low), n .here z);
-          },
-          omega (arith, n .bound, bound-node v d),
-        )
+    again m x sc′ fb st =
+        fallen-step k (MoveRight k ls r) sc₁ ready r within root-now sc v iv d w e (moves-look k ls sc₁ ready r within root-now) m sc′ st
+        (move-right k ls sc₁ ready r within root-now g o refl cd w low in-tree sc passed m (g .I) (isXor g w) (movesAt g ls (node g w)) refl refl refl fb) x
 
   last : (sc : List ℕ) (v : ℕ) → Inv g ls sc₁ r sc v → v ≡ mark → TreeDecided k ls (node g r) sc × CostsOnly sc₁ sc
   unfolding stands turnedBy
   last sc v iv e =
-      let mf : MovesFrom k ls sc₁ r 0 sc = rw (bound-mark v e) at (iv .mf) in
+      let mf = fallen-all k (MoveRight k ls r) sc₁ ready r within root-now sc v iv e in
       (moves-all k ls sc₁ ready r within root-now sc mf, mf .only)
 
 abbrev Inv-loop : tie.InvT-loop
@@ -104,13 +91,13 @@ decide-at-requires : tie.Need-decide-at-requires Inv-loop μ-loop
 decide-at-requires c κs =
     let p = c .before .before .before .before .before .before .before .before .before .before .before .pre in
     let iv = c .before .before .before .loop .inv in
-    (ordered-costs _ _ _ (iv .mf .only) (p .0), omega (arith, iv .here (λ e. omega arith) .0, c .before .wide .ensures, p .1), decided-above _ _ _ (p .0) _ (p .1) (p .2) (p .3) _ _ iv (λ e. omega arith) _ (c .before .wide .ensures), p .4)
+    (ordered-costs _ _ _ (iv .from .only) (p .0), omega (arith, iv .here (λ e. omega arith) .0, c .before .wide .ensures, p .1), decided-above _ _ _ (p .0) _ (p .1) (p .2) (p .3) _ _ iv (λ e. omega arith) _ (c .before .wide .ensures), p .4)
 
 store-requires : tie.Need-store-requires Inv-loop μ-loop
-store-requires c κs = omega (arith, c .before .before .before .before .before .loop .inv .here (λ e. omega arith) .0, c .before .before .before .before .before .loop .inv .mf .only .same, c .before .before .before .wide .ensures, c .before .before .before .before .before .before .before .before .before .before .before .before .before .pre .1, c .before .before .before .before .before .before .before .before .before .before .before .before .before .pre .0 .long, c .before .before .before .before .before .before .before .before .before .before .before .before .before .pre .0 .admitted .few-nodes)
+store-requires c κs = omega (arith, c .before .before .before .before .before .loop .inv .here (λ e. omega arith) .0, c .before .before .before .before .before .loop .inv .from .only .same, c .before .before .before .wide .ensures, c .before .before .before .before .before .before .before .before .before .before .before .before .before .pre .1, c .before .before .before .before .before .before .before .before .before .before .before .before .before .pre .0 .long, c .before .before .before .before .before .before .before .before .before .before .before .before .before .pre .0 .admitted .few-nodes)
 
 read-requires : tie.Need-read-requires Inv-loop μ-loop
-read-requires c κs = omega (arith, c .before .before .before .before .before .before .before .before .before .loop .inv .here (λ e. omega arith) .0, c .before .before .before .before .before .before .before .before .before .loop .inv .mf .only .same, c .before .before .before .store .ensures .same, c .before .before .before .before .before .before .before .wide .ensures, c .before .before .before .before .before .before .before .before .before .before .before .before .before .before .before .before .before .pre .1, c .before .before .before .before .before .before .before .before .before .before .before .before .before .before .before .before .before .pre .0 .long, c .before .before .before .before .before .before .before .before .before .before .before .before .before .before .before .before .before .pre .0 .admitted .few-nodes)
+read-requires c κs = omega (arith, c .before .before .before .before .before .before .before .before .before .loop .inv .here (λ e. omega arith) .0, c .before .before .before .before .before .before .before .before .before .loop .inv .from .only .same, c .before .before .before .store .ensures .same, c .before .before .before .before .before .before .before .wide .ensures, c .before .before .before .before .before .before .before .before .before .before .before .before .before .before .before .before .before .pre .1, c .before .before .before .before .before .before .before .before .before .before .before .before .before .before .before .before .before .pre .0 .long, c .before .before .before .before .before .before .before .before .before .before .before .before .before .before .before .before .before .pre .0 .admitted .few-nodes)
 
 loop-less : tie.Need-loop-less Inv-loop μ-loop
 loop-less c =
@@ -123,7 +110,7 @@ loop-again c =
     again _ _ _ (p .0) _ (p .1) (p .2) (p .3) _ _ (c .before .before .before .before .before .before .before .before .before .before .loop .inv) (λ e. omega arith) _ (c .before .before .before .before .before .before .before .before .wide .ensures) _ _ _ (c .before .before .before .before .before .before .decide-at .ensures) (c .before .before .before .before .store .ensures) (c .read .ensures) .0
 
 same-length : tie.Need-same-length Inv-loop μ-loop
-same-length c = c .before .loop .inv .mf .only .same
+same-length c = c .before .loop .inv .from .only .same
 
 returns : tie.Need-returns Inv-loop μ-loop
 returns c = let p = c .before .before .before .before .before .before .before .before .before .pre in last _ _ _ (p .0) _ (p .1) (p .2) _ _ (c .before .loop .inv) (omega arith)
