@@ -81,7 +81,7 @@ fn literals_in_their_tables() {
 #[test]
 fn literals_given_back() {
     for nodes in [0, 1, 21, 22, 42, 43, 64, 100] {
-        let words: Vec<u32> = (0..3 * nodes).map(|at| at * 0x9E37_79B9 % (MARK - 2)).collect();
+        let words: Vec<u32> = (0..3 * nodes).map(|at: u32| at.wrapping_mul(0x9E37_79B9) % (MARK - 2)).collect();
         let g = graph(9, &words, &words);
         assert_eq!((g.node_literals(), g.output_literals()), (Ok(words.clone()), Ok(words)));
         assert_eq!((g.node_bits.len(), g.output_bits.len()), (bit_words(3 * nodes as usize), g.node_bits.len()));
