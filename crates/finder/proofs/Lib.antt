@@ -10,11 +10,11 @@ pub mod Near
 pub mod Signatures
 pub mod Fitting
 pub mod Trials
-pub mod Unfit
 pub mod Barring
 pub mod Plain
 pub mod Opens
 pub mod Meets
+pub mod Unfit
 pub mod Below
 pub mod Beside
 pub mod Whole

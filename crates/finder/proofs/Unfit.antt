@@ -2,7 +2,8 @@
 -- does. From the laws on votes and on trials.
 use mathlib.Core.Path.{_≡_, refl, sym, ap, _∙_}
 use mathlib.Core.Bool.{Bool, true, false}
-use mathlib.Core.List.{List}
+use mathlib.Core.Logic.{⊎-elim}
+use mathlib.Core.List.{List, []}
 use Prim.Native.Nat.{ℕ, zero, suc, _+_, _-_, _<_}
 use native.Mathlib.Omega.{arith}
 use lib.ListN.{getD, take}
@@ -10,14 +11,16 @@ use Rattle.graph.specs.Admission.{Admitted}
 use Rattle.graph.specs.Graph.{Graph, node}
 use Rattle.hidden.specs.Truth.{Triple, triple, leak, truth}
 use Rattle.hidden.specs.Majority.{isMajority}
-use Rattle.hidden.specs.Find.{firstMade}
-use Rattle.hidden.specs.Inner.{Rising, left₂, left₃}
-use Rattle.hidden.proofs.Order.{passed-over}
+use Rattle.hidden.specs.Find.{triples, firstMade}
+use Rattle.hidden.specs.Inner.{Rising, left₁, left₂, left₃}
+use Rattle.hidden.proofs.Order.{left-all, passed-over}
 use Rattle.majority_call.specs.Valuing.{Facts, Framed}
 use Rattle.finder.specs.Signs.{Signed, signOf, Votes}
 use Rattle.finder.specs.Trying.{Ready, SignsRead, Tried, Sought}
+use Rattle.finder.specs.Meeting.{threeOf, Lacks, Missed, Unmet, NoneAt, WaysKnown}
 use Rattle.finder.proofs.Fitting.{could-passed}
-use Rattle.finder.proofs.Trials.{third-step, thirds-end, tried-other, no-leak}
+use Rattle.finder.proofs.Meets.{missed-leaks}
+use Rattle.finder.proofs.Trials.{third-step, thirds-end, second-step, seconds-next, seconds-begin, seconds-end, firsts-next, firsts-end, tried-other, no-leak}
 
 untouched : (v : ℕ) (sc : List ℕ) → Framed v sc sc
 untouched v sc = record { same = refl; above = λ j h. refl; first = λ w. refl; last = λ w f h k. refl }
@@ -61,9 +64,45 @@ module _ (g : Graph) (v m : ℕ) (list sc : List ℕ) (ready : Ready g v m list 
         facts = ready .facts;
       }
 
+-- all of a list
+module _ (g : Graph) (v m : ℕ) (list sc : List ℕ) (ready : Ready g v m list sc)
+    (none : (a b c : ℕ) → a < b → b < c → c < m → isMajority (truth g (triple (getD list a 0) (getD list b 0) (getD list c 0)) (node g v)) ≡ false) where
+  seconds-left : (a n b : ℕ) → b + n ≡ m → a < b → firstMade g (node g v) (left₂ (take m list) a b) ≡ firstMade g (node g v) (left₁ (take m list) (suc a))
+  seconds-left a zero b q l = ap (firstMade g (node g v)) (seconds-end m list (ready .listed) a b (omega arith))
+  seconds-left a (suc n) b q l =
+      ap (firstMade g (node g v)) (second-step m list (ready .listed) a b (omega arith))
+      ∙ none-left g v m list sc ready a b l (omega arith) (λ c. none a b c l) (m - suc b) (suc b) (omega arith) (omega arith)
+      ∙ ap (firstMade g (node g v)) (seconds-next m list (ready .listed) a b)
+      ∙ seconds-left a n (b + 1) (omega arith) (omega arith)
+
+  firsts-left : (n a : ℕ) → a + n ≡ m → firstMade g (node g v) (left₁ (take m list) a) ≡ firstMade g (node g v) []
+  firsts-left zero a q = ap (firstMade g (node g v)) (firsts-end m list (ready .listed) a (omega arith))
+  firsts-left (suc n) a q =
+      ap (firstMade g (node g v)) (seconds-begin m list (ready .listed) a (omega arith))
+      ∙ seconds-left a n (a + 1) (omega arith) (omega arith)
+      ∙ ap (firstMade g (node g v)) (firsts-next m list (ready .listed) a)
+      ∙ firsts-left n (a + 1) (omega arith)
+
+  pub none-sought : (t : Triple) → Sought g v (triples (take m list)) [] 256 t sc sc
+  none-sought t =
+      record {
+        gives = λ z. absurd (omega arith);
+        found = λ z. absurd (omega arith);
+        left = λ z. sym (ap (firstMade g (node g v)) (left-all (take m list)) ∙ firsts-left m 0 (omega arith));
+        framed = untouched v sc;
+        facts = ready .facts;
+      }
+
 -- a triple that gives none
 pub none-tried : (g : Graph) (v : ℕ) (sc : List ℕ) → Facts g sc → (t : Triple) → isMajority (truth g t (node g v)) ≡ false → Tried g t v 256 sc sc
 none-tried g v sc facts t e = tried-other g t v (truth g t (node g v)) sc sc refl (untouched v sc) facts e
 
 pub leak-passed : (g : Graph) (t : Triple) (u : ℕ) → truth g t u ≡ leak → isMajority (truth g t u) ≡ false
 leak-passed g t u e = ap isMajority e ∙ no-leak
+
+-- three that are not all allowed, or that miss a way
+pub unmet-passed : (g : Graph) (v m : ℕ) (list : List ℕ) (allowed n : ℕ) (ws : List ℕ) → WaysKnown g v m list allowed n ws → (a b c : ℕ) → a < b → b < c → c < m → Unmet allowed n ws a b c → NoneAt g v list a b c
+unmet-passed g v m list allowed n ws w a b c h k q u =
+    ⊎-elim (λ (z : Lacks allowed a b c). w .allows a b c h k q z)
+    (λ (z : Missed n ws a b c). leak-passed g (threeOf list a b c) (node g v) (missed-leaks g list m n (node g v) ws (w .bars) a b c h k q z))
+    u

@@ -31,6 +31,10 @@ pub record Apart (m mask a b c : ℕ) : Type 0 where
   pub two : bit b mask ≡ 0
   pub three : bit c mask ≡ 0
 
+-- the first m of a list rise
+abbrev pub Rises : ℕ → List ℕ → Type 0
+Rises m l = (j k : ℕ) → j < k → k < m → getD l j 0 < getD l k 0
+
 -- the word has every place at which the index u stands
 abbrev pub Places : List ℕ → ℕ → ℕ → ℕ → Type 0
 Places l m u mask = (c : ℕ) → c < m → getD l c 0 ≡ u → bit c mask ≡ 1
@@ -73,17 +77,40 @@ Ends i l sc u = ((0 < u) × (u ≤ i)) ⊎ ((u < getD l 0 0) × Open i sc u)
 abbrev pub Tells : Graph → List ℕ → Type 0
 Tells g sc = (w : ℕ) → w < g .N → 1 < field sc w 0 → NodeNames g w (field sc w 0 / 2)
 
--- what following ways needs: m indices that rise to below node v, and true facts in scratch
-pub record Followed (g : Graph) (v m : ℕ) (list sc : List ℕ) : Type 0 where
+-- m indices that rise to below node v
+pub record Listed (g : Graph) (v m : ℕ) (list : List ℕ) : Type 0 where
   pub admitted : Admitted g
-  pub room : 8 * g .N ≤ length sc
   pub within : v < g .N
-  pub facts : Facts g sc
-  pub tells : Tells g sc
   pub some : 0 < length list
   pub few : m ≤ 39
   pub listed : m ≤ length list
   pub rising : Between 0 (node g v) (take m list)
+
+-- what following ways needs besides: true facts in scratch
+pub record Followed (g : Graph) (v m : ℕ) (list sc : List ℕ) : Type 0 where
+  pub near : Listed g v m list
+  pub room : 8 * g .N ≤ length sc
+  pub facts : Facts g sc
+  pub tells : Tells g sc
+
+-- a way down from node v has come to index x, by the places that the word has
+pub record Comes (g : Graph) (v m : ℕ) (list : List ℕ) (x mask : ℕ) : Type 0 where
+  pub some : 0 < x
+  pub below : x < node g (g .N)
+  pub leads : Leads g list m mask (node g v) x
+
+-- so many ways: where each has come to, and by which places
+pub record Come (g : Graph) (v m : ℕ) (list : List ℕ) (n : ℕ) (heads met : List ℕ) : Type 0 where
+  pub listed : n ≤ length heads
+  pub words : n ≤ length met
+  pub each : (k : ℕ) → k < n → Comes g v m list (getD heads k 0) (getD met k 0)
+
+-- one is put behind the first n, or there is none
+pub record Put (n x mask r : ℕ) (heads heads′ met met′ : List ℕ) : Type 0 where
+  pub same : length heads′ ≡ length heads
+  pub same-words : length met′ ≡ length met
+  pub kept : (k : ℕ) → k < n → (getD heads′ k 0 ≡ getD heads k 0) × (getD met′ k 0 ≡ getD met k 0)
+  pub many : ((r ≡ n) × (x ≡ 0)) ⊎ ((r ≡ n + 1) × (0 < x) × (getD heads′ n 0 ≡ x) × (getD met′ n 0 ≡ mask))
 
 -- the word mask is put behind the first n, or it has every place
 pub record Added (n mask r : ℕ) (ws ws′ : List ℕ) : Type 0 where
@@ -95,6 +122,14 @@ pub record Added (n mask r : ℕ) (ws ws′ : List ℕ) : Type 0 where
 -- the word lacks one of three places
 abbrev pub Lacks : ℕ → ℕ → ℕ → ℕ → Type 0
 Lacks w a b c = (bit a w ≡ 0) ⊎ ((bit b w ≡ 0) ⊎ (bit c w ≡ 0))
+
+-- three places are not all allowed, or one of the first n words has none of them
+abbrev pub Unmet : ℕ → ℕ → List ℕ → ℕ → ℕ → ℕ → Type 0
+Unmet allowed n ws a b c = Lacks allowed a b c ⊎ Missed n ws a b c
+
+-- the word has at least r of three places, unless they are unmet
+abbrev pub AtLeast : ℕ → ℕ → ℕ → ℕ → List ℕ → Type 0
+AtLeast r w allowed n ws = (a b c : ℕ) → Unmet allowed n ws a b c ⊎ (r ≤ bit a w + bit b w + bit c w)
 
 -- the three at places a, b and c give no majority at node v
 abbrev pub NoneAt : Graph → ℕ → List ℕ → ℕ → ℕ → ℕ → Type 0

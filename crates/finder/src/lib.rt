@@ -13,6 +13,7 @@ mod compacting;
 mod down;
 mod dropping;
 mod faults;
+mod following;
 mod living;
 mod masks;
 mod nearness;

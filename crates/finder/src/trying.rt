@@ -16,8 +16,9 @@ ghost use Rattle.finder.specs.Signs.{Signed};
 ghost use Rattle.finder.specs.Meeting.{Tells, ThirdsMet, WaysKnown};
 ghost use Rattle.finder.specs.Trying.{Ready, SignsRead, Tried, Sought};
 use crate::barred::nothing_to_find;
+use crate::following::gather_ways;
 use crate::masks::allowed_places;
-use crate::masks::gather_ways;
+use crate::masks::spread;
 use crate::masks::thirds;
 use crate::nearness::reach_three;
 use crate::signs::could_be;
@@ -400,6 +401,7 @@ pub fn try_near(
     let mut list = [0u32; 39];
     let u = inputs + 1 + v;
     let m = reach_three(inputs, nodes, node_table, node_bits, &mut list, 0, u);
+    let allowed = allowed_places(inputs, nodes, node_table, node_bits, &list, m, w);
     let mut ways = [0u64; 27];
     let n = gather_ways(
         inputs,
@@ -410,9 +412,17 @@ pub fn try_near(
         &list,
         m,
         w,
+        allowed,
         &mut ways,
     );
-    let allowed = allowed_places(inputs, nodes, node_table, node_bits, &list, m, w);
+    if spread(&ways, n, allowed) {
+        return Trial {
+            byte: NONE,
+            one: 0,
+            two: 0,
+            three: 0,
+        };
+    }
     try_triples(
         inputs,
         nodes,

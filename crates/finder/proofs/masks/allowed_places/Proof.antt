@@ -7,7 +7,7 @@ use Rattle.graph.specs.Literals.{literals}
 use Rattle.graph.proofs.Words.{is-word}
 use Rattle.evaluation.specs.Inner.{nodesOf}
 use Rattle.finder.proofs.Barring.{second-named-in, third-named-in}
-use Rattle.finder.proofs.Meets.{allows-all, allows-but}
+use Rattle.finder.proofs.Meets.{allows-all, allows-but, listed-rise}
 use borrow.Author.Needs.{needs}
 use Rattle.finder.proofs.masks.allowed_places.Statement.{statement}
 use Rattle.finder.proofs.masks.allowed_places.Tie as tie
@@ -18,13 +18,19 @@ graph s = nodesOf (s .args .inputs) (s .args .nodes) (literals (s .args .node-ta
 is-mark-at-requires : tie.Need-is-mark-at-requires
 is-mark-at-requires c κs =
     let s = c .before .before .before in
-    (omega (arith, s .pre .1, s .pre .0 .held-nodes), is-word (graph s) (s .pre .0) (3 * s .args .v + 2) (omega (arith, s .pre .1)))
+    (omega (arith, s .pre .within, s .pre .admitted .held-nodes), is-word (graph s) (s .pre .admitted) (3 * s .args .v + 2) (omega (arith, s .pre .within)))
 
 returns : tie.Need-returns
-returns c = let s = c .before .before .before .before .before in allows-all (graph s) (s .args .v) (s .args .m) (s .args .list .now) (s .pre .2)
+returns c = let s = c .before .before .before .before .before in allows-all (graph s) (s .args .v) (s .args .m) (s .args .list .now) (s .pre .few)
 
 returns-2 : tie.Need-returns-2
-returns-2 c = let s = c .before .before .before .before .before .before .before in allows-all (graph s) (s .args .v) (s .args .m) (s .args .list .now) (s .pre .2)
+returns-2 c = let s = c .before .before .before .before .before .before .before in allows-all (graph s) (s .args .v) (s .args .m) (s .args .list .now) (s .pre .few)
+
+place-of-requires : tie.Need-place-of-requires
+place-of-requires c κs = let s = c .before .before .before .before .before .before .before .before in (s .pre .few, s .pre .listed, listed-rise (graph s) (s .args .v) (s .args .m) (s .args .list .now) (s .pre))
+
+place-of-requires-2 : tie.Need-place-of-requires-2
+place-of-requires-2 c κs = let s = c .before .before .before .before .before .before .before .before .before .before in (s .pre .few, s .pre .listed, listed-rise (graph s) (s .args .v) (s .args .m) (s .args .list .now) (s .pre))
 
 returns-3 : tie.Need-returns-3
 returns-3 c =
@@ -35,9 +41,9 @@ returns-3 c =
     let k = sym (c .before .before .before .before .before .before .before .is-mark-at .ensures) ∙ c .before .before .before .before .before .before .if1 .left in
     let s = c .before .before .before .before .before .before .before .before .before .before .before in
     let a = s .args in
-    allows-but (graph s) (a .v) (a .m) (a .list .now) (s .pre .2) (s .pre .3) (s .pre .4) (y .result) (z .result) (c .before .before .place-of .result) (c .place-of2 .result) (c .before .before .place-of .ensures) (c .place-of2 .ensures)
-    (second-named-in (graph s) (s .pre .0) (a .v) (s .pre .1) k (x .result) (x .ensures) (omega (arith, o .left)) (y .result) (y .ensures))
-    (third-named-in (graph s) (s .pre .0) (a .v) (s .pre .1) k (x .result) (x .ensures) (omega (arith, o .left)) (z .result) (z .ensures))
+    allows-but (graph s) (a .v) (a .m) (a .list .now) (s .pre) (y .result) (z .result) (c .before .before .place-of .result) (c .place-of2 .result) (c .before .before .place-of .ensures) (c .place-of2 .ensures)
+    (second-named-in (graph s) (s .pre .admitted) (a .v) (s .pre .within) k (x .result) (x .ensures) (omega (arith, o .left)) (y .result) (y .ensures))
+    (third-named-in (graph s) (s .pre .admitted) (a .v) (s .pre .within) k (x .result) (x .ensures) (omega (arith, o .left)) (z .result) (z .ensures))
 
 pub allowed-places-spec : {M : Type 1} → statement M
 allowed-places-spec =
@@ -51,8 +57,8 @@ allowed-places-spec =
     returns-2
     (λ c. search needs)
     (λ c κs. search needs)
-    (λ c κs. search needs)
+    place-of-requires
     (λ c. search needs)
     (λ c κs. search needs)
-    (λ c κs. search needs)
+    place-of-requires-2
     returns-3)

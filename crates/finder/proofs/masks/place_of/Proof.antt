@@ -1,34 +1,40 @@
--- `place_of` meets its contract: every place that has been looked at and has the index is there.
+-- `place_of` meets its contract: of the indices that have been looked at so many are below the one sought. From the laws on ways.
 use mathlib.Core.Path.{_≡_}
-use mathlib.Core.Logic.{⊎-elim}
-use Prim.Native.Nat.{ℕ, _+_, _-_, _*_, _≤_, _<_}
-use native.Mathlib.Nat.{eq-or-lt-of-le}
+use Prim.Native.Nat.{ℕ, _+_, _-_, _≤_, _<_}
 use native.Mathlib.Omega.{arith}
-use borrow.Author.Tests.{eq-eqb, eqb-true}
-use lib.ListN.{length, getD}
-use Rattle.graph.specs.Literals.{bit}
-use Rattle.evaluation.proofs.Bits.{bit-zero}
+use Rattle.finder.proofs.Meets.{Before, before-next, before-all, before-some}
 use borrow.Author.Needs.{needs}
 use Rattle.finder.proofs.masks.place_of.Statement.{statement}
 use Rattle.finder.proofs.masks.place_of.Tie as tie
 
 abbrev Inv-loop : tie.InvT-loop
-Inv-loop list m index mask₀ c₀ mask c = (c ≤ m) × ((k : ℕ) → k < c → getD list k 0 ≡ index → bit k mask ≡ 1) × ((k : ℕ) → bit k mask ≡ 1 → getD list k 0 ≡ index)
+Inv-loop list m index below₀ c₀ below c = (c ≤ m) × Before list index below c
 
 abbrev μ-loop : tie.MeasureT-loop
-μ-loop list m index mask₀ c₀ mask c = m - c
-
-shared-slice-read : tie.Need-shared-slice-read-with-place Inv-loop μ-loop
-shared-slice-read c = omega (arith, c .before .loop-test .taken, c .before .before .before .before .pre .1)
+μ-loop list m index below₀ c₀ below c = m - c
 
 loop-again : tie.Need-loop-again Inv-loop μ-loop
 loop-again c =
-    let p = c .with-place in
-    let l = c .before .before .before .loop in (
-      omega (arith, c .before .before .loop-test .taken),
-      λ k h e. ⊎-elim (λ (q : k ≡ l .c). rw q (p .ensures .1 (eq-eqb _ _ (rw q at e)))) (λ (q : k < l .c). p .ensures .0 k (l .inv .1 k q e)) (eq-or-lt-of-le (omega arith)),
-      λ k e. ⊎-elim (λ (q : bit k (l .mask) ≡ 1). l .inv .2 k q) (λ q. rw (q .0) (eqb-true _ _ (q .1))) (p .ensures .2 k e),
-    )
+    let t = c .before .before .loop-test .taken in
+    let l = c .before .before .before .loop in
+    let s = c .before .before .before .before .before in
+    (omega (arith, t), before-next (s .args .m) (s .args .list .now) (s .pre .2) (s .args .index) (l .below) (l .c) (c .counted .result) t (l .inv .1) (c .counted .ensures))
+
+returns : tie.Need-returns Inv-loop μ-loop
+returns c =
+    let l = c .before .before .loop in
+    let s = c .before .before .before .before in
+    before-all (s .args .m) (s .args .list .now) (s .pre .2) (s .args .index) (l .below) (l .c) (c .if1 .taken) (l .inv .1)
+
+low : (a b m : ℕ) → a ≤ b → b ≤ m → (a ≡ m → ⊥) → a < m
+low a b m h k n = omega arith
+
+returns-2 : tie.Need-returns-2 Inv-loop μ-loop
+returns-2 c =
+    let l = c .before .before .before .before .loop in
+    let s = c .before .before .before .before .before .before in
+    before-some (s .args .m) (s .args .list .now) (s .pre .2) (s .args .index) (l .below) (l .c) (omega (arith, c .before .before .before .loop-test .left))
+    (low _ _ _ (l .inv .1 .few) (l .inv .0) (c .before .before .if1 .left)) (l .inv .1) (c .place .result) (c .place .ensures)
 
 pub place-of-spec : {M : Type 1} → statement M
 place-of-spec =
@@ -36,11 +42,15 @@ place-of-spec =
     (tie.spec
     Inv-loop
     μ-loop
-    (λ c. (omega arith, λ k h e. absurd (omega arith), λ k e. absurd (omega (arith, bit-zero k))))
+    (λ c. (omega arith, record { few = omega arith; lower = λ k h. absurd (omega arith); higher = λ k h q. absurd (omega arith) }))
     (λ c. omega (arith, c .loop-test .taken, c .before .before .before .pre .0))
-    shared-slice-read
-    (λ c κs. omega (arith, c .before .loop-test .taken, c .before .before .before .before .pre .0))
+    (λ c. omega (arith, c .before .loop-test .taken, c .before .before .before .before .pre .1))
+    (λ c κs. omega (arith, c .before .before .loop .inv .1 .few, c .before .before .loop .inv .0, c .before .before .before .before .pre .0))
     (λ c. omega (arith, c .before .before .loop-test .taken, c .before .before .before .before .before .pre .0))
     (λ c. omega arith)
     loop-again
-    (λ c. record { all = λ k h e. c .before .loop .inv .1 k (omega (arith, c .loop-test .left)) e; only = λ k h e. c .before .loop .inv .2 k e }))
+    returns
+    (λ c. omega (arith, c .before .before .loop .inv .1 .few, c .before .before .loop .inv .0, c .before .before .before .before .pre .0))
+    (λ c. let l = c .before .before .before .loop in omega (arith, low _ _ _ (l .inv .1 .few) (l .inv .0) (c .before .if1 .left), c .before .before .before .before .before .pre .1))
+    (λ c κs. let l = c .before .before .before .loop in omega (arith, l .inv .1 .few, l .inv .0, c .before .before .before .before .before .pre .0))
+    returns-2)

@@ -1,18 +1,18 @@
 -- `thirds` meets its contract: of the words that have been looked at, one misses the places a, b and c wherever c is not left. From the laws on ways.
 use mathlib.Core.Path.{_≡_}
-use mathlib.Core.Logic.{⊎-elim, _⊎_, inl, inr}
+use mathlib.Core.Logic.{⊎-elim, inl, inr}
 use Prim.Native.Nat.{ℕ, _+_, _-_, _*_, _/_, _%_, _^_, _≤_, _<_}
 use native.Mathlib.Omega.{arith}
 use lib.ListN.{length, getD}
 use Rattle.graph.specs.Literals.{bit}
-use Rattle.finder.specs.Meeting.{Lacks, Missed}
-use Rattle.finder.proofs.Meets.{missed-more, missed-here}
+use Rattle.finder.specs.Meeting.{Unmet}
+use Rattle.finder.proofs.Meets.{unmet-up, missed-here}
 use borrow.Author.Needs.{needs}
 use Rattle.finder.proofs.masks.thirds.Statement.{statement}
 use Rattle.finder.proofs.masks.thirds.Tie as tie
 
 abbrev Inv-loop : tie.InvT-loop
-Inv-loop ways n allowed a b met₀ k₀ met k = (k ≤ n) × ((c : ℕ) → bit c met ≡ 0 → Lacks allowed a b c ⊎ Missed k ways a b c)
+Inv-loop ways n allowed a b met₀ k₀ met k = (k ≤ n) × ((c : ℕ) → bit c met ≡ 0 → Unmet allowed k ways a b c)
 
 abbrev μ-loop : tie.MeasureT-loop
 μ-loop ways n allowed a b met₀ k₀ met k = n - k
@@ -31,8 +31,7 @@ loop-again c =
       omega (arith, c .before .before .loop-test .taken),
       λ j e.
           ⊎-elim
-          (λ (q : bit j (l .met) ≡ 0).
-          ⊎-elim (λ (z : Lacks (a .allowed) (a .a) (a .b) j). inl z) (λ (z : Missed (l .k) (a .ways .now) (a .a) (a .b) j). inr (missed-more (l .k) (a .ways .now) (a .a) (a .b) j z)) (l .inv .1 j q))
+          (λ (q : bit j (l .met) ≡ 0). unmet-up (a .allowed) (l .k) (l .k + 1) (a .ways .now) (a .a) (a .b) j (omega arith) (l .inv .1 j q))
           (λ q. inr (missed-here (l .k) (a .ways .now) (a .a) (a .b) j q))
           (c .narrowed .ensures j e),
     )

@@ -13,6 +13,7 @@ use Rattle.finder.specs.Meeting.{Followed}
 use Rattle.finder.specs.Nearness.{Grown}
 use Rattle.finder.proofs.Barring.{barred-sought}
 use Rattle.finder.proofs.Trials.{near-ready, sought-near}
+use Rattle.finder.proofs.Unfit.{none-sought, unmet-passed}
 use borrow.Author.Needs.{needs}
 use Rattle.finder.proofs.trying.try_near.Statement.{statement}
 use Rattle.finder.proofs.trying.try_near.Tie as tie
@@ -35,41 +36,61 @@ followed : (s : tie.Start) (w : ℕ) → w ≡ s .args .v → (r : ℕ) (xs xs�
     → Followed (graph s) w r xs′ (s .args .scratch .now)
 followed s w e r xs xs′ a n =
     let k = near-ready (graph s) (s .args .v) w r xs xs′ e a (s .args .scratch .now) (s .pre .0) (s .pre .1) (s .pre .2) (s .pre .3) (s .pre .4) n in
-    record { admitted = k .admitted; room = k .room; within = k .within; facts = k .facts; tells = s .pre .5; some = omega (arith, n, a .same); few = omega (arith, a .few); listed = k .listed; rising = k .rising }
-
-gather-ways-requires : tie.Need-gather-ways-requires
-gather-ways-requires c κs =
-    let o = c .before .before .before .before .reach-three in
-    let w = c .before .before .before .before .before .before .before .before .wide in
-    let s = c .before .before .before .before .before .before .before .before .before .before .before .before in
-    (followed s (w .result) (w .ensures) (o .result) _ _ (o .ensures) refl, omega arith)
+    record {
+      near = record { admitted = k .admitted; within = k .within; some = omega (arith, n, a .same); few = omega (arith, a .few); listed = k .listed; rising = k .rising };
+      room = k .room;
+      facts = k .facts;
+      tells = s .pre .5;
+    }
 
 allowed-requires : tie.Need-allowed-places-requires
 allowed-requires c κs =
-    let o = c .before .before .before .before .before .before .before .reach-three in
-    let w = c .before .before .before .before .before .before .before .before .before .before .before .wide in
-    let s = c .before .before .before .before .before .before .before .before .before .before .before .before .before .before .before in
-    let f = followed s (w .result) (w .ensures) (o .result) _ _ (o .ensures) refl in
-    (f .admitted, f .within, f .few, f .listed, f .rising)
+    let o = c .before .before .reach-three in
+    let w = c .before .before .before .before .before .before .wide in
+    followed (c .before .before .before .before .before .before .before .before .before .before) (w .result) (w .ensures) (o .result) _ _ (o .ensures) refl .near
 
-try-triples-requires : tie.Need-try-triples-requires
-try-triples-requires c κs =
-    let d = c .before .before .before .allowed-places in
-    let y = c .before .before .before .before .before .before .gather-ways in
+gather-ways-requires : tie.Need-gather-ways-requires
+gather-ways-requires c κs =
+    let o = c .before .before .before .before .before .before .reach-three in
+    let w = c .before .before .before .before .before .before .before .before .before .before .wide in
+    (followed (c .before .before .before .before .before .before .before .before .before .before .before .before .before .before) (w .result) (w .ensures) (o .result) _ _ (o .ensures) refl, omega arith)
+
+spread-requires : tie.Need-spread-requires
+spread-requires c κs = let y = c .before .before .gather-ways in omega (arith, y .ensures .1, y .ensures .2)
+
+returns-2 : tie.Need-returns-2
+returns-2 c =
+    let t = c .before .spread in
+    let y = c .before .before .before .before .gather-ways in
+    let d = c .before .before .before .before .before .before .before .before .allowed-places in
     let o = c .before .before .before .before .before .before .before .before .before .before .before .reach-three in
     let w = c .before .before .before .before .before .before .before .before .before .before .before .before .before .before .before .wide in
     let s = c .before .before .before .before .before .before .before .before .before .before .before .before .before .before .before .before .before .before .before in
+    let a = s .args in
+    let l = o .last .1 .1 .1 .1 .0 in
+    sought-near (graph s) (a .v) (w .result) (o .result) _ l (w .ensures) (o .ensures) 256 _ (a .scratch .now) _
+    (none-sought (graph s) (w .result) (o .result) l (a .scratch .now)
+    (near-ready (graph s) (a .v) (w .result) (o .result) _ l (w .ensures) (o .ensures) (a .scratch .now) (s .pre .0) (s .pre .1) (s .pre .2) (s .pre .3) (s .pre .4) refl)
+    (λ i j k p q r. unmet-passed (graph s) (w .result) (o .result) l (d .result) (y .result) _ (record { few = omega (arith, o .ensures .few); listed = omega (arith, y .ensures .1, y .ensures .2); allows = d .ensures; bars = y .ensures .0 }) i j k p q r (t .ensures (c .if2 .taken) i j k)) _)
+
+try-triples-requires : tie.Need-try-triples-requires
+try-triples-requires c κs =
+    let y = c .before .before .before .before .before .before .before .gather-ways in
+    let d = c .before .before .before .before .before .before .before .before .before .before .before .allowed-places in
+    let o = c .before .before .before .before .before .before .before .before .before .before .before .before .before .before .reach-three in
+    let w = c .before .before .before .before .before .before .before .before .before .before .before .before .before .before .before .before .before .before .wide in
+    let s = c .before .before .before .before .before .before .before .before .before .before .before .before .before .before .before .before .before .before .before .before .before .before in
     let a = s .args in (
       near-ready (graph s) (a .v) (w .result) (o .result) _ (o .last .1 .1 .1 .1 .0) (w .ensures) (o .ensures) (a .scratch .now) (s .pre .0) (s .pre .1) (s .pre .2) (s .pre .3) (s .pre .4) refl,
       record { few = omega (arith, o .ensures .few); listed = omega (arith, y .ensures .1, y .ensures .2); allows = d .ensures; bars = y .ensures .0 },
     )
 
-returns-2 : tie.Need-returns-2
-returns-2 c =
+returns-3 : tie.Need-returns-3
+returns-3 c =
     let t = c .before .before .try-triples in
-    let o = c .before .before .before .before .before .before .before .before .before .before .before .before .before .before .reach-three in
-    let w = c .before .before .before .before .before .before .before .before .before .before .before .before .before .before .before .before .before .before .wide in
-    let s = c .before .before .before .before .before .before .before .before .before .before .before .before .before .before .before .before .before .before .before .before .before .before in
+    let o = c .before .before .before .before .before .before .before .before .before .before .before .before .before .before .before .before .before .reach-three in
+    let w = c .before .before .before .before .before .before .before .before .before .before .before .before .before .before .before .before .before .before .before .before .before .wide in
+    let s = c .before .before .before .before .before .before .before .before .before .before .before .before .before .before .before .before .before .before .before .before .before .before .before .before .before in
     let a = s .args in
     sought-near (graph s) (a .v) (w .result) (o .result) _ (o .last .1 .1 .1 .1 .0) (w .ensures) (o .ensures) (t .result .byte) _ (a .scratch .now) _ (t .ensures)
 
@@ -85,12 +106,16 @@ try-near-spec =
     (λ c. search needs)
     (λ c κs. search needs)
     (λ c. search needs)
+    allowed-requires
+    (λ c. search needs)
     (λ c. search needs)
     gather-ways-requires
     (λ c. search needs)
-    allowed-requires
+    spread-requires
+    (λ c. search needs)
+    returns-2
     (λ c. search needs)
     (λ c. search needs)
     try-triples-requires
     (λ c. search needs)
-    returns-2)
+    returns-3)

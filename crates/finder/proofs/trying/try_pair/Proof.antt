@@ -1,14 +1,13 @@
 -- `try_pair` meets its contract. From the laws on ways and on trials.
 use mathlib.Core.Path.{_≡_}
-use mathlib.Core.Logic.{⊎-elim, _⊎_}
 use Prim.Native.Nat.{ℕ, _+_, _*_, _≤_, _<_}
 use native.Mathlib.Omega.{arith}
-use Rattle.graph.specs.Graph.{Graph, node}
+use Rattle.graph.specs.Graph.{Graph}
 use Rattle.graph.specs.Literals.{bit, literals}
 use Rattle.evaluation.specs.Inner.{nodesOf}
-use Rattle.finder.specs.Meeting.{Lacks, Missed, ThirdsMet}
-use Rattle.finder.proofs.Meets.{missed-leaks, none-above}
-use Rattle.finder.proofs.Unfit.{unmet-sought, leak-passed}
+use Rattle.finder.specs.Meeting.{Unmet, ThirdsMet}
+use Rattle.finder.proofs.Meets.{none-above}
+use Rattle.finder.proofs.Unfit.{unmet-sought, unmet-passed}
 use borrow.Author.Needs.{needs}
 use Rattle.finder.proofs.trying.try_pair.Statement.{statement}
 use Rattle.finder.proofs.trying.try_pair.Tie as tie
@@ -17,15 +16,9 @@ abbrev graph : tie.Start → Graph
 graph s = nodesOf (s .args .inputs) (s .args .nodes) (literals (s .args .node-table .now) (s .args .node-bits .now))
 
 -- what the ways leave of thirds
-met-by : (s : tie.Start) (r : ℕ) → ((c : ℕ) → bit c r ≡ 0 → Lacks (s .args .allowed) (s .args .a) (s .args .b) c ⊎ Missed (s .args .n) (s .args .ways .now) (s .args .a) (s .args .b) c)
+met-by : (s : tie.Start) (r : ℕ) → ((c : ℕ) → bit c r ≡ 0 → Unmet (s .args .allowed) (s .args .n) (s .args .ways .now) (s .args .a) (s .args .b) c)
     → ThirdsMet (graph s) (s .args .v) (s .args .m) (s .args .list .now) (s .args .a) (s .args .b) r
-met-by s r f c h k e =
-    let w = s .pre .3 in
-    let a = s .args in
-    ⊎-elim (λ (z : Lacks (a .allowed) (a .a) (a .b) c). w .allows (a .a) (a .b) c (s .pre .1) h k z)
-    (λ (z : Missed (a .n) (a .ways .now) (a .a) (a .b) c).
-    leak-passed (graph s) _ (node (graph s) (a .v)) (missed-leaks (graph s) (a .list .now) (a .m) (a .n) (node (graph s) (a .v)) (a .ways .now) (w .bars) (a .a) (a .b) c (s .pre .1) h k z))
-    (f c e)
+met-by s r f c h k e = let a = s .args in unmet-passed (graph s) (a .v) (a .m) (a .list .now) (a .allowed) (a .n) (a .ways .now) (s .pre .3) (a .a) (a .b) c (s .pre .1) h k (f c e)
 
 returns : tie.Need-returns
 returns c =

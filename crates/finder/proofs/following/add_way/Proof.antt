@@ -6,8 +6,8 @@ use lib.ListN.{length, getD, set, length-set}
 use lib.Seq.{getD-set-same, getD-set-other}
 use Rattle.finder.specs.Meeting.{Added}
 use borrow.Author.Needs.{needs}
-use Rattle.finder.proofs.masks.add_way.Statement.{statement}
-use Rattle.finder.proofs.masks.add_way.Tie as tie
+use Rattle.finder.proofs.following.add_way.Statement.{statement}
+use Rattle.finder.proofs.following.add_way.Tie as tie
 
 returns-2 : tie.Need-returns-2
 returns-2 c =

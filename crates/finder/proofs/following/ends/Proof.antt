@@ -4,8 +4,8 @@ use mathlib.Core.Bool.{true≢false}
 use mathlib.Core.Logic.{inl, inr}
 use Prim.Native.Nat.{ℕ, _+_, _*_, _≤_, _<_}
 use borrow.Author.Needs.{needs}
-use Rattle.finder.proofs.masks.ends.Statement.{statement}
-use Rattle.finder.proofs.masks.ends.Tie as tie
+use Rattle.finder.proofs.following.ends.Statement.{statement}
+use Rattle.finder.proofs.following.ends.Tie as tie
 
 returns : tie.Need-returns
 returns c = λ e. inl (c .before .before .before .pre .1, c .if1 .taken)

@@ -9,8 +9,8 @@ use Rattle.graph.proofs.Words.{is-word}
 use Rattle.evaluation.specs.Inner.{nodesOf}
 use Rattle.finder.proofs.Meets.{named-or}
 use borrow.Author.Needs.{needs}
-use Rattle.finder.proofs.masks.named_at.Statement.{statement}
-use Rattle.finder.proofs.masks.named_at.Tie as tie
+use Rattle.finder.proofs.following.named_at.Statement.{statement}
+use Rattle.finder.proofs.following.named_at.Tie as tie
 
 abbrev graph : tie.Start → Graph
 graph s = nodesOf (s .args .inputs) (s .args .nodes) (literals (s .args .node-table .now) (s .args .node-bits .now))
