@@ -32,8 +32,8 @@ use Rattle.finder.specs.Passing.{Clean, Becomes, Changed, Stepped}
 use Rattle.finder.specs.Living.{NodeNames}
 use Rattle.finder.specs.Signs.{Signed, SignSet}
 use Rattle.finder.specs.Meeting.{Tells}
-use Rattle.finder.specs.Ways.{Open, Lowered}
-use Rattle.finder.proofs.Opens.{lowered-clean}
+use Rattle.finder.specs.Ways.{Open, Led}
+use Rattle.finder.proofs.Opens.{led-clean}
 use Rattle.finder.proofs.Signatures.{signed-made, signed-framed, signed-kept}
 
 made-other : (g : Graph) (t : Triple) (u j : ℕ) → j / 3 ≢ u - (g .I + 1) → word (made g t u) j ≡ word g j
@@ -220,12 +220,12 @@ unfolding isLocked
 free-here g ls v w r p e q a b = let z : getD ls v 0 ≢ 1 = rw e at q in rw (ne-eqb (getD ls v 0) 1 z) (ap (isPlain g) (sym e) ∙ sym a ∙ b)
 
 -- with its way down
-pub stepped : (g : Graph) (ls : List ℕ) (v : ℕ) (ns sc sc′ : List ℕ) → v < g .N → Changed g ls v ns sc → Lowered (nodesOf (g .I) (g .N) ns) v sc sc′ → Stepped g ls v ns sc′
+pub stepped : (g : Graph) (ls : List ℕ) (v : ℕ) (ns sc sc′ : List ℕ) → v < g .N → Changed g ls v ns sc → Led (nodesOf (g .I) (g .N) ns) v sc sc′ → Stepped g ls v ns sc′
 stepped g ls v ns sc sc′ h c l =
     record {
       table = c .table;
-      clean = lowered-clean (nodesOf (g .I) (g .N) ns) (c .admitted) v h sc sc′ (c .clean) l;
-      signed = signed-kept (nodesOf (g .I) (g .N) ns) (v + 1) v 0 _ sc sc′ (omega arith) (l .stored) (c .signed);
+      clean = led-clean (nodesOf (g .I) (g .N) ns) (c .admitted) v h sc sc′ (c .clean) l;
+      signed = signed-kept (nodesOf (g .I) (g .N) ns) (v + 1) v 6 _ (l .between) sc′ (omega arith) (l .counted) (signed-kept (nodesOf (g .I) (g .N) ns) (v + 1) v 0 _ sc (l .between) (omega arith) (l .stored) (c .signed));
     }
 
 -- the pass, node by node

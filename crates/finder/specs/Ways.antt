@@ -20,13 +20,16 @@ abbrev pub Chosen : ℕ → List ℕ → ℕ → ℕ → ℕ → Type 0
 Chosen i sc was u r = (r ≡ was) ⊎ ((r ≡ u) × Open i sc u)
 
 -- r is an open index that a word of node v names, or 0
-pub record Lowest (g : Graph) (sc : List ℕ) (v r : ℕ) : Type 0 where
+pub record Leading (g : Graph) (sc : List ℕ) (v r : ℕ) : Type 0 where
   pub below : r < node g v
   pub names : r ≢ 0 → NodeNames g v r
   pub opens : r ≢ 0 → Open (g .I) sc r
 
--- which is stored
-pub record Lowered (g : Graph) (v : ℕ) (sc sc′ : List ℕ) : Type 0 where
+-- which is stored, and field 6 besides, of which nothing is said
+pub record Led (g : Graph) (v : ℕ) (sc sc′ : List ℕ) : Type 0 where
   pub low : ℕ
-  pub lowest : Lowest g sc v low
-  pub stored : Stored v 0 (2 * low) sc sc′
+  pub leading : Leading g sc v low
+  pub words : ℕ
+  pub between : List ℕ
+  pub stored : Stored v 0 (2 * low) sc between
+  pub counted : Stored v 6 words between sc′

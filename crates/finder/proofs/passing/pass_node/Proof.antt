@@ -7,7 +7,7 @@ use Rattle.graph.specs.Graph.{Graph}
 use Rattle.graph.specs.Literals.{literals}
 use Rattle.evaluation.specs.Inner.{nodesOf}
 use Rattle.finder.specs.Signs.{SignSet}
-use Rattle.finder.specs.Ways.{Lowered}
+use Rattle.finder.specs.Ways.{Led}
 use Rattle.finder.proofs.Below.{signed-clean, stepped}
 use borrow.Author.Needs.{needs}
 use Rattle.finder.proofs.passing.pass_node.Statement.{statement}
@@ -38,7 +38,7 @@ returns c =
     let o = c .before .before .before .before .before .before .before .before .before .before .before .before .change-node in
     let s = c .before .before .before .before .before .before .before .before .before .before .before .before .before .before .before .before .before .before .before .before .before .before .before .before .before .before .before in
     let a = s .args in
-    let l : Lowered _ (a .v) _ _ = rw (c .before .before .before .before .before .before .before .before .before .before .before .before .before .before .before .before .before .before .before .before .before .before .wide .ensures) at (c .before .before .set-down .ensures) in
+    let l : Led _ (a .v) _ _ = rw (c .before .before .before .before .before .before .before .before .before .before .before .before .before .before .before .before .before .before .before .before .before .before .wide .ensures) at (c .before .before .set-down .ensures) in
     stepped (graph s) (a .locks .now) (a .v) _ _ _ (s .pre .1) (o .ensures) l
 
 pub pass-node-spec : {M : Type 1} → statement M
