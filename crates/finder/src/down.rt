@@ -42,16 +42,14 @@ pub fn words_from(inputs: u32, scratch: &[u32], index: u32) -> u32
 }
 
 // One more; past a million it would not matter.
-fn more(words: u32) -> u32
-{
+fn more(words: u32) -> u32 {
     if words < 1000000 {
         return words + 1;
     }
     words
 }
 
-fn at_most(most: u32, words: u32) -> u32
-{
+fn at_most(most: u32, words: u32) -> u32 {
     if words < most {
         return words;
     }

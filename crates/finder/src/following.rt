@@ -10,6 +10,7 @@ ghost use Rattle.graph.specs.Literals.{literals};
 ghost use Rattle.evaluation.specs.Inner.{nodesOf};
 ghost use Rattle.finder.specs.Meeting.{Bars, AllBar, NamesOr, Ends, Listed, Followed, Comes, Come, Put, Added};
 use crate::down::is_open;
+use crate::down::words_from;
 use crate::masks::ALL;
 use crate::masks::place_of;
 use crate::masks::spread;
@@ -58,6 +59,16 @@ fn ends(inputs: u32, scratch: &[u32], list: &[u32], index: u32) -> bool
     false
 }
 
+// Whether a way would be given up: where an input is near it must be followed to its end.
+fn is_far(inputs: u32, scratch: &[u32], list: &[u32], index: u32) -> bool
+    requires { ⌜ (inputs ≤ 4096) × (0 < index) × (index ≤ inputs + 100000) × (8 * (index - inputs) ≤ length (now scratch)) × (0 < length (now list)) ⌝ }
+{
+    if inputs < list[0] {
+        return false;
+    }
+    FAR < words_from(inputs, scratch, index)
+}
+
 // The way that has come to an index by the places of a mask, and on from there as each node tells.
 fn follow(
     inputs: u32,
@@ -77,6 +88,9 @@ fn follow(
         let g = nodesOf inputs nodes (literals (now («node_table» .entry)) (now («node_bits» .entry))) in
         ⌜ Bars g (now (list .entry)) m r (node g v) ⌝ }
 {
+    if is_far(inputs, scratch, list, from) {
+        return ALL;
+    }
     let mut x = from;
     let mut mask = by;
     let mut far: u32 = 0;
