@@ -30,15 +30,15 @@ use Rattle.finder.proofs.Named.{first-named, second-named, third-named}
 
 -- an input is one of the triple's variables, or misses it
 module _ (t : Triple) (i x : ℕ) where
-  free-one : i ≡ t .one → free t i x ≡ variable 0
+  pub free-one : i ≡ t .one → free t i x ≡ variable 0
   unfolding free variable ifEqual
   free-one e = rw (eq-eqb i (t .one) e)
 
-  free-two : i ≢ t .one → i ≡ t .two → free t i x ≡ variable 1
+  pub free-two : i ≢ t .one → i ≡ t .two → free t i x ≡ variable 1
   unfolding free variable ifEqual
   free-two n e = rw (ne-eqb i (t .one) n, eq-eqb i (t .two) e)
 
-  free-three : i ≢ t .one → i ≢ t .two → i ≡ t .three → free t i x ≡ variable 2
+  pub free-three : i ≢ t .one → i ≢ t .two → i ≡ t .three → free t i x ≡ variable 2
   unfolding free variable ifEqual
   free-three n m e = rw (ne-eqb i (t .one) n, ne-eqb i (t .two) m, eq-eqb i (t .three) e)
 
@@ -106,7 +106,7 @@ module _ (g : Graph) (adm : Admitted g) (v : ℕ) (within : v < g .N) (plain : e
 abbrev pub In : Triple → ℕ → Type 0
 In t i = (i ≡ t .one) ⊎ ((i ≡ t .two) ⊎ (i ≡ t .three))
 
-at-index : (g : Graph) (t : Triple) (i : ℕ) → 0 < i → i < node g (g .N) → (x : ℕ) × (truth g t i ≡ free t i x)
+pub at-index : (g : Graph) (t : Triple) (i : ℕ) → 0 < i → i < node g (g .N) → (x : ℕ) × (truth g t i ≡ free t i x)
 at-index g t i p h =
     ⊎-elim
     (λ (q : g .I < i).

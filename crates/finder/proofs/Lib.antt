@@ -11,6 +11,7 @@ pub mod Signatures
 pub mod Fitting
 pub mod Trials
 pub mod Barring
+pub mod Turning
 pub mod Plain
 pub mod Opens
 pub mod Meets

@@ -335,10 +335,7 @@ allows-all g v m l h a b c p q k s =
     ⊎-elim (λ (e : bit b 18446744073709551615 ≡ 0). absurd (omega (arith, bit-ones b (omega arith)))) (λ (e : bit c 18446744073709551615 ≡ 0). absurd (omega (arith, bit-ones c (omega arith)))) r)
     s
 
-taken-out : (k x y : ℕ) → k < 64 → bit k (bitXor 18446744073709551615 (bitOr x y)) ≡ 0 → (bit k x ≡ 1) ⊎ (bit k y ≡ 1)
-taken-out k x y h e = or-either k x y (omega (arith, bit-xor k 18446744073709551615 (bitOr x y), bit-ones k h, bit-le k (bitOr x y)))
-
--- but for those of two indices that are in no triple with a majority
+-- but for those of indices that are in no triple with a majority
 module _ (g : Graph) (v m : ℕ) (l : List ℕ) (f : Listed g v m l) where
   pub rises : (a b c : ℕ) → a < b → b < c → c < m → Rising (threeOf l a b c) (node g v)
   rises a b c h k w =
@@ -349,15 +346,22 @@ module _ (g : Graph) (v m : ℕ) (l : List ℕ) (f : Listed g v m l) where
         below = listed-low g v m l f c w .1;
       }
 
-  module _ (i j x y : ℕ) (p : PlacesOf l m i x) (q : PlacesOf l m j y)
-      (none-i : (t : Triple) → Rising t (node g v) → In t i → isMajority (truth g t (node g v)) ≡ false)
-      (none-j : (t : Triple) → Rising t (node g v) → In t j → isMajority (truth g t (node g v)) ≡ false) where
-    pub allows-but : Allows g v m l (bitXor 18446744073709551615 (bitOr x y))
-    allows-but a b c h k w s =
-        let t = threeOf l a b c in
-        let r = rises a b c h k w in
-        let at : (d : ℕ) → d < m → bit d (bitXor 18446744073709551615 (bitOr x y)) ≡ 0 → ((u : ℕ) → u ≡ getD l d 0 → In t u) → isMajority (truth g t (node g v)) ≡ false =
-        λ d z e n. ⊎-elim (λ (o : bit d x ≡ 1). none-i t r (n i (sym (p .only d z o)))) (λ (o : bit d y ≡ 1). none-j t r (n j (sym (q .only d z o)))) (taken-out d x y (omega (arith, z, f .few)) e) in
-        ⊎-elim (λ e. at a (omega arith) e (λ u z. inl z))
-        (λ z. ⊎-elim (λ e. at b (omega arith) e (λ u z. inr (inl z))) (λ e. at c w e (λ u z. inr (inr z))) z)
-        s
+  abbrev pub NoneHas : ℕ → Type 0
+  NoneHas u = (t : Triple) → Rising t (node g v) → In t u → isMajority (truth g t (node g v)) ≡ false
+
+  allows-without : (w : ℕ) → ((d : ℕ) → d < m → bit d w ≡ 1 → NoneHas (getD l d 0)) → Allows g v m l (bitXor 18446744073709551615 w)
+  allows-without w n a b c h k q s =
+      let r = rises a b c h k q in
+      ⊎-elim (λ e. n a (omega arith) (out a (omega arith) e) (threeOf l a b c) r (inl refl))
+      (λ z. ⊎-elim (λ e. n b (omega arith) (out b (omega arith) e) (threeOf l a b c) r (inr (inl refl))) (λ e. n c q (out c q e) (threeOf l a b c) r (inr (inr refl))) z)
+      s
+    where
+      out : (d : ℕ) → d < m → bit d (bitXor 18446744073709551615 w) ≡ 0 → bit d w ≡ 1
+      out d z e = omega (arith, bit-xor d 18446744073709551615 w, bit-ones d (omega (arith, z, f .few)), bit-le d w)
+
+  pub allows-one : (i x : ℕ) → PlacesOf l m i x → NoneHas i → Allows g v m l (bitXor 18446744073709551615 x)
+  allows-one i x p n = allows-without x (λ d z e. rw (p .only d z e) n)
+
+  pub allows-two : (i j x y : ℕ) → PlacesOf l m i x → PlacesOf l m j y → NoneHas i → NoneHas j → Allows g v m l (bitXor 18446744073709551615 (bitOr x y))
+  allows-two i j x y p q n o =
+      allows-without (bitOr x y) (λ d z e. ⊎-elim (λ (k : bit d x ≡ 1). rw (p .only d z k) n) (λ (k : bit d y ≡ 1). rw (q .only d z k) o) (or-either d x y e))

@@ -123,6 +123,10 @@ pub record Added (n mask r : ℕ) (ws ws′ : List ℕ) : Type 0 where
 abbrev pub Lacks : ℕ → ℕ → ℕ → ℕ → Type 0
 Lacks w a b c = (bit a w ≡ 0) ⊎ ((bit b w ≡ 0) ⊎ (bit c w ≡ 0))
 
+-- r is the higher of two indices, 0 where they are the same
+abbrev pub Higher : ℕ → ℕ → ℕ → Type 0
+Higher x y r = (r ≡ 0) ⊎ (((r ≡ y) × (x < y)) ⊎ ((r ≡ x) × (y < x)))
+
 -- three places are not all allowed, or one of the first n words has none of them
 abbrev pub Unmet : ℕ → ℕ → List ℕ → ℕ → ℕ → ℕ → Type 0
 Unmet allowed n ws a b c = Lacks allowed a b c ⊎ Missed n ws a b c

@@ -8,7 +8,7 @@ ghost use lib.ListN.{length};
 ghost use Rattle.graph.specs.Graph.{node};
 ghost use Rattle.graph.specs.Literals.{bit, literals};
 ghost use Rattle.evaluation.specs.Inner.{nodesOf};
-ghost use Rattle.finder.specs.Meeting.{Rises, PlacesOf, Allows, Unmet, Listed};
+ghost use Rattle.finder.specs.Meeting.{Rises, PlacesOf, Allows, Higher, Unmet, Listed};
 use graph::table::index_at;
 use graph::table::is_mark_at;
 
@@ -49,7 +49,21 @@ pub fn place_of(list: &[u32], m: usize, index: u32) -> u64
     place(below, list[below] == index)
 }
 
-// The places that three indices of a majority at node v may have: none of what an AND names, as its value is constant over one of that index's values.
+// The higher of two indices, 0 where they are the same.
+fn higher(x: u32, y: u32) -> u32
+    ensures { λ r. ⌜ Higher x y r ⌝ }
+{
+    if x < y {
+        return y;
+    }
+    if y < x {
+        return x;
+    }
+    0
+}
+
+// The places that three indices of a majority at node v may have: none of what an AND names, as its value is constant over one of that index's values, and not that of the
+// higher index that an XOR names, as its value turns with it.
 pub fn allowed_places(
     inputs: u32,
     nodes: u32,
@@ -66,15 +80,17 @@ pub fn allowed_places(
         ⌜ Allows g v m (now (list .entry)) r ⌝ }
 {
     let at = 3 * v;
+    let i = index_at(node_table, node_bits, at);
+    let j = index_at(node_table, node_bits, at + 1);
     if is_mark_at(node_table, node_bits, at + 2) {
+        return ALL ^ place_of(list, m, higher(i, j));
+    }
+    if i != 0 {
         return ALL;
     }
-    if index_at(node_table, node_bits, at) != 0 {
-        return ALL;
-    }
-    let x = place_of(list, m, index_at(node_table, node_bits, at + 1));
-    let y = place_of(list, m, index_at(node_table, node_bits, at + 2));
-    ALL ^ (x | y)
+    let y = place_of(list, m, j);
+    let z = place_of(list, m, index_at(node_table, node_bits, at + 2));
+    ALL ^ (y | z)
 }
 
 // Without the places that a way does not meet, where it misses those at a and b.
