@@ -3,16 +3,15 @@ use mathlib.Core.Path.{_≡_, refl, sym, ap, _∙_}
 use mathlib.Core.Bool.{Bool, true, false, true≢false}
 use mathlib.Core.Logic.{⊎-elim, _≢_, _⊎_, inl, inr}
 use mathlib.Core.List.{List, []}
-use Prim.Native.Nat.{ℕ, suc, _+_, _-_, _*_, _/_, _%_, _^_, _≤_, _<_}
+use Prim.Native.Nat.{ℕ, _+_, _-_, _*_, _/_, _%_, _^_, _≤_, _<_}
 use native.Mathlib.Nat.{div-eq-of-lt, eq-or-lt-of-le}
 use native.Mathlib.Omega.{arith}
 use borrow.Author.Tests.{eq-eqb, eqb-true, eqb-false, ltb-true, ltb-false}
 use mir.Val.{boolByte}
 use lib.Bits.{bitAnd, bitOr, bitXor}
 use lib.Dec.{eqb, ltb}
-use lib.ListN.{length, getD, take}
+use lib.ListN.{length, getD}
 use lib.Pow.{pow-lt, shl-exact, shr-shr}
-use lib.Seq.{getD-take, length-take-le}
 use Rattle.graph.specs.Admission.{Admitted}
 use Rattle.graph.specs.Finite.{ifEqual}
 use Rattle.graph.specs.Graph.{Graph, mark, node, word, isEdge}
@@ -28,15 +27,14 @@ use Rattle.state.specs.State.{field}
 use Rattle.hidden.specs.Truth.{Triple, leak, truth}
 use Rattle.hidden.specs.Ways.{Misses}
 use Rattle.hidden.specs.Majority.{isMajority}
-use Rattle.hidden.specs.Inner.{Rising, Between}
+use Rattle.hidden.specs.Inner.{Rising}
 use Rattle.hidden.proofs.Ways.{way-leaks, reader-leaks}
-use Rattle.majority_call.specs.Valuing.{Facts}
 use Rattle.finder.specs.Living.{NodeNames}
 use Rattle.finder.specs.Ways.{Open}
-use Rattle.finder.specs.Meeting.{threeOf, Apart, Rises, Places, PlacesOf, Lacks, Unmet, AtLeast, Allows, Bars, Leads, AllBar, Missed, NamesOr, Ends, Tells, Listed, Followed, Comes, Come, Put, Added}
+use Rattle.finder.specs.Meeting.{threeOf, Apart, Rises, Places, PlacesOf, Lacks, Unmet, AtLeast, Allows, Bars, AllBar, Missed, NamesOr, Ends, Tells, Listed, Followed, Comes, Come, Put, Added}
 use Rattle.finder.proofs.Barring.{In}
 use Rattle.finder.proofs.Named.{word-named}
-use Rattle.finder.proofs.Near.{between-at, between-rise}
+use Rattle.finder.proofs.Near.{place-low, places-rise, three-rise}
 use Rattle.finder.proofs.Opens.{open-leaks, names-reads}
 
 -- a bit of a joined word
@@ -128,14 +126,11 @@ bars-all g l m u h a b c t = absurd (omega (arith, t .three, bit-ones c (omega (
 
 -- what stands in the list
 module _ (g : Graph) (v m : ℕ) (list : List ℕ) (f : Listed g v m list) where
-  long : length (take m list) ≡ m
-  long = length-take-le m list (f .listed)
-
-  listed-low : (k : ℕ) → k < m → (0 < getD list k 0) × (getD list k 0 < node g v)
-  listed-low k h = rw (← getD-take m list k 0 h) (between-at 0 (node g v) (take m list) k (f .rising) (omega (arith, long)))
+  listed-low : (k : ℕ) → k < m → getD list k 0 < node g v
+  listed-low k h = place-low (node g v) m list (f .listed) (f .rising) k h .1
 
   pub listed-rise : Rises m list
-  listed-rise j k d h = rw (← getD-take m list j 0 (omega arith), ← getD-take m list k 0 h) (between-rise 0 (node g v) (take m list) j k (f .rising) d (omega (arith, long)))
+  listed-rise = places-rise (node g v) m list (f .listed) (f .rising)
 
   first-low : (k : ℕ) → k < m → getD list 0 0 ≤ getD list k 0
   first-low k h =
@@ -337,21 +332,12 @@ allows-all g v m l h a b c p q k s =
 
 -- but for those of indices that are in no triple with a majority
 module _ (g : Graph) (v m : ℕ) (l : List ℕ) (f : Listed g v m l) where
-  pub rises : (a b c : ℕ) → a < b → b < c → c < m → Rising (threeOf l a b c) (node g v)
-  rises a b c h k w =
-      record {
-        positive = listed-low g v m l f a (omega arith) .0;
-        second = listed-rise g v m l f a b h (omega arith);
-        third = listed-rise g v m l f b c k w;
-        below = listed-low g v m l f c w .1;
-      }
-
   abbrev pub NoneHas : ℕ → Type 0
   NoneHas u = (t : Triple) → Rising t (node g v) → In t u → isMajority (truth g t (node g v)) ≡ false
 
   allows-without : (w : ℕ) → ((d : ℕ) → d < m → bit d w ≡ 1 → NoneHas (getD l d 0)) → Allows g v m l (bitXor 18446744073709551615 w)
   allows-without w n a b c h k q s =
-      let r = rises a b c h k q in
+      let r = three-rise (node g v) m l (f .listed) (f .rising) a b c h k q in
       ⊎-elim (λ e. n a (omega arith) (out a (omega arith) e) (threeOf l a b c) r (inl refl))
       (λ z. ⊎-elim (λ e. n b (omega arith) (out b (omega arith) e) (threeOf l a b c) r (inr (inl refl))) (λ e. n c q (out c q e) (threeOf l a b c) r (inr (inr refl))) z)
       s

@@ -8,10 +8,12 @@ use native.Mathlib.Omega.{arith}
 use borrow.Author.Tests.{ne-eqb}
 use lib.Dec.{eqb}
 use lib.ListN.{length, getD, take}
+use lib.Seq.{getD-take, length-take-le}
 use Rattle.graph.specs.Graph.{Graph}
 use Rattle.graph.proofs.Cases.{true-or-false, lt-or-le}
 use Rattle.hidden.specs.Find.{reaches, nearBelow, near}
-use Rattle.hidden.specs.Inner.{Between, has}
+use Rattle.hidden.specs.Truth.{triple}
+use Rattle.hidden.specs.Inner.{Between, Rising, has}
 use Rattle.hidden.proofs.Pass.{near-between}
 use Rattle.hidden.proofs.Near.{near-has, has-low, rising-only}
 use Rattle.finder.specs.Nearness.{Grown}
@@ -51,3 +53,17 @@ between-rise lo hi (x ∷ xs) zero zero b d h = absurd (omega arith)
 between-rise lo hi (x ∷ xs) zero (suc k) b d h = between-at x hi xs k (b .2) (omega arith) .0
 between-rise lo hi (x ∷ xs) (suc j) zero b d h = absurd (omega arith)
 between-rise lo hi (x ∷ xs) (suc j) (suc k) b d h = between-rise x hi xs j k (b .2) (omega arith) (omega arith)
+
+-- in the first m places of a slice, and the three at three of them
+module _ (u m : ℕ) (l : List ℕ) (long : m ≤ length l) (rising : Between 0 u (take m l)) where
+  len : length (take m l) ≡ m
+  len = length-take-le m l long
+
+  pub place-low : (k : ℕ) → k < m → (0 < getD l k 0) × (getD l k 0 < u)
+  place-low k h = rw (← getD-take m l k 0 h) (between-at 0 u (take m l) k rising (omega (arith, len)))
+
+  pub places-rise : (j k : ℕ) → j < k → k < m → getD l j 0 < getD l k 0
+  places-rise j k d h = rw (← getD-take m l j 0 (omega arith), ← getD-take m l k 0 h) (between-rise 0 u (take m l) j k rising d (omega (arith, len)))
+
+  pub three-rise : (a b c : ℕ) → a < b → b < c → c < m → Rising (triple (getD l a 0) (getD l b 0) (getD l c 0)) u
+  three-rise a b c h k q = record { positive = place-low a (omega arith) .0; second = places-rise a b h (omega arith); third = places-rise b c k q; below = place-low c q .1 }

@@ -19,7 +19,7 @@ use Rattle.majority_call.specs.Valuing.{Facts, Framed}
 use Rattle.finder.specs.Nearness.{Grown}
 use Rattle.finder.specs.Signs.{Signed}
 use Rattle.finder.specs.Trying.{Ready, SignsRead, Tried, Gives, Sought}
-use Rattle.finder.proofs.Near.{near-is, between-at, between-rise}
+use Rattle.finder.proofs.Near.{near-is, place-low}
 use Rattle.finder.proofs.Signatures.{sign-framed, sign-room, signed-framed}
 
 -- one triple
@@ -152,23 +152,11 @@ module _ (m : ℕ) (list : List ℕ) (long : m ≤ length list) where
   pub firsts-end : (a : ℕ) → a ≡ m → left₁ (take m list) a ≡ []
   firsts-end a e = ap (left₁ (take m list)) (e ∙ sym len) ∙ left-none (take m list)
 
-pub triple-rising : (g : Graph) (v m : ℕ) (list sc : List ℕ) → Ready g v m list sc → (a b c : ℕ) → a < b → b < c → c < m → Rising (triple (getD list a 0) (getD list b 0) (getD list c 0)) (node g v)
-triple-rising g v m list sc r a b c h k l =
-    let n = length-take-le m list (r .listed) in
-    rw (← getD-take m list a 0 (omega arith), ← getD-take m list b 0 (omega arith), ← getD-take m list c 0 l) (record {
-      positive = between-at 0 (node g v) (take m list) a (r .rising) (omega (arith, n)) .0;
-      second = between-rise 0 (node g v) (take m list) a b (r .rising) h (omega (arith, n));
-      third = between-rise 0 (node g v) (take m list) b c (r .rising) k (omega (arith, n));
-      below = between-at 0 (node g v) (take m list) c (r .rising) (omega (arith, n)) .1;
-    })
-
 -- each has a signature
 pub listed-room : (g : Graph) (v m : ℕ) (list sc : List ℕ) → Ready g v m list sc → (a : ℕ) → a < m
     → (g .I ≤ 4096) × (getD list a 0 ≤ g .I + 100000) × (8 * (getD list a 0 - g .I) ≤ length sc)
 listed-room g v m list sc r a h =
-    let n = length-take-le m list (r .listed) in
-    let k = between-at 0 (node g v) (take m list) a (r .rising) (omega (arith, n)) .1 in
-    sign-room g (r .admitted) v (r .within) (getD list a 0) (length sc) (r .room) (rw (← getD-take m list a 0 h) (omega (arith, k)))
+    sign-room g (r .admitted) v (r .within) (getD list a 0) (length sc) (r .room) (omega (arith, place-low (node g v) m list (r .listed) (r .rising) a h .1))
 
 -- the list of what is near
 module _ (g : Graph) (v w r : ℕ) (xs xs′ : List ℕ) (e : w ≡ v) (a : Grown 39 (node g v) (reaches g 3 (node g v)) 0 r xs xs′) where

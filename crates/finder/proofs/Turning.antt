@@ -5,7 +5,6 @@ use mathlib.Core.Bool.{Bool, true, false, true≢false, not, _&&_, _||_}
 use mathlib.Core.Logic.{⊎-elim, _≢_, _⊎_, inl, inr}
 use mathlib.Core.List.{List, map}
 use Prim.Native.Nat.{ℕ, zero, suc, _+_, _-_, _*_, _/_, _%_, _^_, _≤_, _<_}
-use native.Mathlib.Nat.{eq-or-lt-of-le}
 use native.Mathlib.Omega.{arith}
 use borrow.Author.Tests.{ne-eqb, ltb-true}
 use lib.Bits.{bitXor}
@@ -17,11 +16,9 @@ use Rattle.graph.specs.Graph.{Graph, mark, node, word, isEdge, isXor}
 use Rattle.graph.specs.Inner.{Names}
 use Rattle.graph.specs.Literals.{bit}
 use Rattle.graph.specs.Value.{literalValue, exclusive, nodeValue}
-use Rattle.graph.proofs.Bits.{bit-le}
 use Rattle.graph.proofs.Cases.{eq-or-ne, lt-or-le, true-or-false}
 use Rattle.graph.proofs.Edge.{edge-early, third-majority}
 use Rattle.graph.proofs.Fixed.{node-bit}
-use Rattle.evaluation.specs.Word.{gather}
 use Rattle.evaluation.proofs.Bits.{bit-zero}
 use Rattle.evaluation.proofs.Gather.{gather-lt, bit-gather}
 use Rattle.moves.proofs.Flags.{all, all-at}
@@ -29,7 +26,6 @@ use Rattle.hidden.specs.Truth.{Triple, leak, free, leaks, nodeByte, over, truth
 use Rattle.hidden.specs.Class.{classes}
 use Rattle.hidden.specs.Majority.{isMajority}
 use Rattle.hidden.specs.Inner.{Rising}
-use Rattle.hidden.specs.Ways.{Misses}
 use Rattle.hidden.proofs.Bools.{T-true, true-both}
 use Rattle.hidden.proofs.Bytes.{free-apart}
 use Rattle.hidden.proofs.Over.{getD-bits, truth-at, truth-zero, truth-input, truth-node}

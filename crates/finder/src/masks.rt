@@ -8,7 +8,7 @@ ghost use lib.ListN.{length};
 ghost use Rattle.graph.specs.Graph.{node};
 ghost use Rattle.graph.specs.Literals.{bit, literals};
 ghost use Rattle.evaluation.specs.Inner.{nodesOf};
-ghost use Rattle.finder.specs.Meeting.{Rises, PlacesOf, Allows, Higher, Unmet, Listed};
+ghost use Rattle.finder.specs.Meeting.{Rises, PlacesOf, Lacks, Allows, Higher, Unmet, Listed};
 use graph::table::index_at;
 use graph::table::is_mark_at;
 
@@ -91,6 +91,22 @@ pub fn allowed_places(
     let y = place_of(list, m, j);
     let z = place_of(list, m, index_at(node_table, node_bits, at + 2));
     ALL ^ (y | z)
+}
+
+// Whether so few indices are near that three cannot all be allowed.
+pub fn too_few(m: usize, allowed: u64) -> bool
+    ensures { λ r. ⌜ (r ≡ true → (a b c : ℕ) → a < b → b < c → c < m → Lacks allowed a b c) ⌝ }
+{
+    if 3 < m {
+        return false;
+    }
+    if allowed % 2 == 0 {
+        return true;
+    }
+    if (allowed >> 1) % 2 == 0 {
+        return true;
+    }
+    (allowed >> 2) % 2 == 0
 }
 
 // Without the places that a way does not meet, where it misses those at a and b.

@@ -20,6 +20,7 @@ use crate::following::gather_ways;
 use crate::masks::allowed_places;
 use crate::masks::spread;
 use crate::masks::thirds;
+use crate::masks::too_few;
 use crate::nearness::reach_three;
 use crate::signs::could_be;
 use crate::signs::sign_of;
@@ -402,6 +403,14 @@ pub fn try_near(
     let u = inputs + 1 + v;
     let m = reach_three(inputs, nodes, node_table, node_bits, &mut list, 0, u);
     let allowed = allowed_places(inputs, nodes, node_table, node_bits, &list, m, w);
+    if too_few(m, allowed) {
+        return Trial {
+            byte: NONE,
+            one: 0,
+            two: 0,
+            three: 0,
+        };
+    }
     let mut ways = [0u64; 27];
     let n = gather_ways(
         inputs,

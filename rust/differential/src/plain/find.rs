@@ -42,11 +42,13 @@ impl Finder<'_> {
 
     /// The triples with these two lowest, up to one that is made.
     fn try_thirds(&mut self, v: usize, two: [u32; 2], list: &[u32], thirds: u64) -> bool {
-        for (c, &three) in list.iter().enumerate() {
-            let t = [two[0], two[1], three];
-            if thirds >> c & 1 == 1 && self.could_be(v, t) && self.try_triple(v, t) {
+        let mut left = thirds;
+        while left != 0 {
+            let t = [two[0], two[1], list[left.trailing_zeros() as usize]];
+            if self.could_be(v, t) && self.try_triple(v, t) {
                 return true;
             }
+            left &= left - 1;
         }
         false
     }
@@ -57,12 +59,20 @@ impl Finder<'_> {
             return;
         }
         let near = self.near(v);
-        let list = near.list();
-        let (ways, allowed) = (self.ways(&near, v), self.allowed(&near, v));
-        for a in 0..list.len() {
-            for b in a + 1..list.len() {
-                let thirds = ways.thirds(allowed, a, b) >> b >> 1;
-                if thirds != 0 && self.try_thirds(v, [list[a], list[b]], &list[b + 1..], thirds) {
+        let (list, allowed) = (near.list(), self.allowed(&near, v));
+        if list.len() <= 3 && allowed & 7 != 7 {
+            return;
+        }
+        let ways = self.ways(&near, v, allowed);
+        if ways.spread(allowed) {
+            return;
+        }
+        let is_allowed = |at: &usize| allowed >> at & 1 == 1;
+        for a in (0..list.len()).filter(is_allowed) {
+            for b in (a + 1..list.len()).filter(is_allowed) {
+                let above = (1 << list.len()) - (2 << b);
+                let thirds = ways.thirds(allowed & above, 1 << a | 1 << b);
+                if self.try_thirds(v, [list[a], list[b]], list, thirds) {
                     return;
                 }
             }

@@ -49,12 +49,16 @@ pub type Triple = [u32; 3];
 /// A value that a way down to an input misses the triple on, and one that is not known yet.
 pub(super) const LEAK: u32 = 256;
 const UNKNOWN: u32 = 511;
+/// Words to an input that are no longer told apart.
+const MANY: u32 = 8;
 
 /// What is known of a node. It stays true while higher nodes are made, so that nothing is ever undone.
 #[derive(Clone, Copy, Default)]
 pub(super) struct Kept {
-    /// Twice the lowest index that it names from which a way leads to an input, 0 where there is none.
+    /// Twice an index that it names from which a way leads to an input, 0 where there is none.
     pub down: u32,
+    /// How many words that way has.
+    words: u32,
     /// Which node waits for its value.
     waiting: u32,
     /// A triple, none where its first is 0, and the node's value over it.
@@ -165,14 +169,25 @@ impl Finder<'_> {
         true
     }
 
-    fn is_open(&self, index: u32) -> bool {
+    pub fn is_open(&self, index: u32) -> bool {
         index != 0 && index != MARK && (index <= self.inputs || self.kept[self.place(index)].down > 1)
     }
 
-    /// What lies below a node, whose words below have been looked at.
+    /// How many words lead from an index to an input by the ways that are told.
+    pub fn words_from(&self, index: u32) -> u32 {
+        if index <= self.inputs {
+            0
+        } else {
+            self.kept[self.place(index)].words
+        }
+    }
+
+    /// What lies below a node, whose words below have been looked at: the way with the fewest words, and where many have many, by the lowest index.
     pub fn set_down(&mut self, v: usize) {
-        let lowest = self.words(v).into_iter().filter(|&index| self.is_open(index)).min();
-        self.kept[v].down = 2 * lowest.unwrap_or(0);
+        let open = self.words(v).into_iter().filter(|&index| self.is_open(index));
+        let nearest = open.min_by_key(|&index| (self.words_from(index).min(MANY), index)).unwrap_or(0);
+        self.kept[v].words = self.words_from(nearest) + 1;
+        self.kept[v].down = 2 * nearest;
     }
 }
 

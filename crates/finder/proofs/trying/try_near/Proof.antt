@@ -49,48 +49,62 @@ allowed-requires c κs =
     let w = c .before .before .before .before .before .before .wide in
     followed (c .before .before .before .before .before .before .before .before .before .before) (w .result) (w .ensures) (o .result) _ _ (o .ensures) refl .near
 
-gather-ways-requires : tie.Need-gather-ways-requires
-gather-ways-requires c κs =
-    let o = c .before .before .before .before .before .before .reach-three in
-    let w = c .before .before .before .before .before .before .before .before .before .before .wide in
-    (followed (c .before .before .before .before .before .before .before .before .before .before .before .before .before .before) (w .result) (w .ensures) (o .result) _ _ (o .ensures) refl, omega arith)
-
-spread-requires : tie.Need-spread-requires
-spread-requires c κs = let y = c .before .before .gather-ways in omega (arith, y .ensures .1, y .ensures .2)
-
 returns-2 : tie.Need-returns-2
 returns-2 c =
-    let t = c .before .spread in
-    let y = c .before .before .before .before .gather-ways in
-    let d = c .before .before .before .before .before .before .before .before .allowed-places in
-    let o = c .before .before .before .before .before .before .before .before .before .before .before .reach-three in
-    let w = c .before .before .before .before .before .before .before .before .before .before .before .before .before .before .before .wide in
-    let s = c .before .before .before .before .before .before .before .before .before .before .before .before .before .before .before .before .before .before .before in
+    let q = c .before .too-few in
+    let d = c .before .before .allowed-places in
+    let o = c .before .before .before .before .before .reach-three in
+    let w = c .before .before .before .before .before .before .before .before .before .wide in
+    let s = c .before .before .before .before .before .before .before .before .before .before .before .before .before in
     let a = s .args in
     let l = o .last .1 .1 .1 .1 .0 in
     sought-near (graph s) (a .v) (w .result) (o .result) _ l (w .ensures) (o .ensures) 256 _ (a .scratch .now) _
     (none-sought (graph s) (w .result) (o .result) l (a .scratch .now)
     (near-ready (graph s) (a .v) (w .result) (o .result) _ l (w .ensures) (o .ensures) (a .scratch .now) (s .pre .0) (s .pre .1) (s .pre .2) (s .pre .3) (s .pre .4) refl)
-    (λ i j k p q r. unmet-passed (graph s) (w .result) (o .result) l (d .result) (y .result) _ (record { few = omega (arith, o .ensures .few); listed = omega (arith, y .ensures .1, y .ensures .2); allows = d .ensures; bars = y .ensures .0 }) i j k p q r (t .ensures (c .if2 .taken) i j k)) _)
+    (λ i j k h p r. d .ensures i j k h p r (q .ensures (c .if2 .taken) i j k h p r)) _)
+
+gather-ways-requires : tie.Need-gather-ways-requires
+gather-ways-requires c κs =
+    let o = c .before .before .before .before .before .before .before .before .reach-three in
+    let w = c .before .before .before .before .before .before .before .before .before .before .before .before .wide in
+    (followed (c .before .before .before .before .before .before .before .before .before .before .before .before .before .before .before .before) (w .result) (w .ensures) (o .result) _ _ (o .ensures) refl, omega arith)
+
+spread-requires : tie.Need-spread-requires
+spread-requires c κs = let y = c .before .before .gather-ways in omega (arith, y .ensures .1, y .ensures .2)
+
+returns-3 : tie.Need-returns-3
+returns-3 c =
+    let t = c .before .spread in
+    let y = c .before .before .before .before .gather-ways in
+    let d = c .before .before .before .before .before .before .before .before .before .before .allowed-places in
+    let o = c .before .before .before .before .before .before .before .before .before .before .before .before .before .reach-three in
+    let w = c .before .before .before .before .before .before .before .before .before .before .before .before .before .before .before .before .before .wide in
+    let s = c .before .before .before .before .before .before .before .before .before .before .before .before .before .before .before .before .before .before .before .before .before in
+    let a = s .args in
+    let l = o .last .1 .1 .1 .1 .0 in
+    sought-near (graph s) (a .v) (w .result) (o .result) _ l (w .ensures) (o .ensures) 256 _ (a .scratch .now) _
+    (none-sought (graph s) (w .result) (o .result) l (a .scratch .now)
+    (near-ready (graph s) (a .v) (w .result) (o .result) _ l (w .ensures) (o .ensures) (a .scratch .now) (s .pre .0) (s .pre .1) (s .pre .2) (s .pre .3) (s .pre .4) refl)
+    (λ i j k h p r. unmet-passed (graph s) (w .result) (o .result) l (d .result) (y .result) _ (record { few = omega (arith, o .ensures .few); listed = omega (arith, y .ensures .1, y .ensures .2); allows = d .ensures; bars = y .ensures .0 }) i j k h p r (t .ensures (c .if3 .taken) i j k)) _)
 
 try-triples-requires : tie.Need-try-triples-requires
 try-triples-requires c κs =
     let y = c .before .before .before .before .before .before .before .gather-ways in
-    let d = c .before .before .before .before .before .before .before .before .before .before .before .allowed-places in
-    let o = c .before .before .before .before .before .before .before .before .before .before .before .before .before .before .reach-three in
-    let w = c .before .before .before .before .before .before .before .before .before .before .before .before .before .before .before .before .before .before .wide in
-    let s = c .before .before .before .before .before .before .before .before .before .before .before .before .before .before .before .before .before .before .before .before .before .before in
+    let d = c .before .before .before .before .before .before .before .before .before .before .before .before .before .allowed-places in
+    let o = c .before .before .before .before .before .before .before .before .before .before .before .before .before .before .before .before .reach-three in
+    let w = c .before .before .before .before .before .before .before .before .before .before .before .before .before .before .before .before .before .before .before .before .wide in
+    let s = c .before .before .before .before .before .before .before .before .before .before .before .before .before .before .before .before .before .before .before .before .before .before .before .before in
     let a = s .args in (
       near-ready (graph s) (a .v) (w .result) (o .result) _ (o .last .1 .1 .1 .1 .0) (w .ensures) (o .ensures) (a .scratch .now) (s .pre .0) (s .pre .1) (s .pre .2) (s .pre .3) (s .pre .4) refl,
       record { few = omega (arith, o .ensures .few); listed = omega (arith, y .ensures .1, y .ensures .2); allows = d .ensures; bars = y .ensures .0 },
     )
 
-returns-3 : tie.Need-returns-3
-returns-3 c =
+returns-4 : tie.Need-returns-4
+returns-4 c =
     let t = c .before .before .try-triples in
-    let o = c .before .before .before .before .before .before .before .before .before .before .before .before .before .before .before .before .before .reach-three in
-    let w = c .before .before .before .before .before .before .before .before .before .before .before .before .before .before .before .before .before .before .before .before .before .wide in
-    let s = c .before .before .before .before .before .before .before .before .before .before .before .before .before .before .before .before .before .before .before .before .before .before .before .before .before in
+    let o = c .before .before .before .before .before .before .before .before .before .before .before .before .before .before .before .before .before .before .before .reach-three in
+    let w = c .before .before .before .before .before .before .before .before .before .before .before .before .before .before .before .before .before .before .before .before .before .before .before .wide in
+    let s = c .before .before .before .before .before .before .before .before .before .before .before .before .before .before .before .before .before .before .before .before .before .before .before .before .before .before .before in
     let a = s .args in
     sought-near (graph s) (a .v) (w .result) (o .result) _ (o .last .1 .1 .1 .1 .0) (w .ensures) (o .ensures) (t .result .byte) _ (a .scratch .now) _ (t .ensures)
 
@@ -107,15 +121,17 @@ try-near-spec =
     (λ c κs. search needs)
     (λ c. search needs)
     allowed-requires
+    (λ c κs. search needs)
+    returns-2
     (λ c. search needs)
     (λ c. search needs)
     gather-ways-requires
     (λ c. search needs)
     spread-requires
     (λ c. search needs)
-    returns-2
+    returns-3
     (λ c. search needs)
     (λ c. search needs)
     try-triples-requires
     (λ c. search needs)
-    returns-3)
+    returns-4)

@@ -4,13 +4,14 @@ use mathlib.Core.List.{List}
 use Prim.Native.Nat.{ℕ, suc, _+_, _-_, _*_, _≤_, _<_}
 use native.Mathlib.Omega.{arith}
 use lib.ListN.{length, getD, take}
-use Rattle.graph.specs.Graph.{Graph}
+use Rattle.graph.specs.Graph.{Graph, node}
 use Rattle.graph.specs.Literals.{literals}
 use Rattle.evaluation.specs.Inner.{nodesOf}
 use Rattle.hidden.specs.Truth.{Triple, triple}
 use Rattle.hidden.specs.Inner.{left₂, left₃}
 use Rattle.finder.proofs.Signatures.{sign-here}
-use Rattle.finder.proofs.Trials.{Going, going-none, going-ready, going-read, tried-on, tried-found, going-end, third-step, thirds-begin, thirds-end, triple-rising, listed-room}
+use Rattle.finder.proofs.Near.{three-rise}
+use Rattle.finder.proofs.Trials.{Going, going-none, going-ready, going-read, tried-on, tried-found, going-end, third-step, thirds-begin, thirds-end, listed-room}
 use borrow.Author.Needs.{needs}
 use Rattle.finder.proofs.trying.try_thirds.Statement.{statement}
 use Rattle.finder.proofs.trying.try_thirds.Tie as tie
@@ -84,7 +85,7 @@ tried-requires c κs =
       r .room,
       r .within,
       r .facts,
-      triple-rising (graph s) (a .v) (a .m) (a .list .now) (l .scratch) r (a .a) (a .b) (l .c) (s .pre .1) (l .inv .0) (c .before .before .loop-test .taken),
+      three-rise (node (graph s) (a .v)) (a .m) (a .list .now) (r .listed) (r .rising) (a .a) (a .b) (l .c) (s .pre .1) (l .inv .0) (c .before .before .loop-test .taken),
       going-read (graph s) (a .v) (left₃ (near s) (a .a) (a .b) (suc (a .b))) (a .scratch .now) (left₃ (near s) (a .a) (a .b) (l .c)) (l .scratch) (l .inv .2) _ _ (w .result) (x .result) (y .result)
           (record { signed = s .pre .0 .signed; here = w .ensures ∙ sign-here (graph s) (a .v) (a .scratch .now); first = x .ensures; second = y .ensures }),
       omega (arith, s .pre .3, c .before .before .loop-test .taken),
@@ -104,7 +105,7 @@ returns c =
     let x : Triple = triple (getD (a .list .now) (a .a) 0) (getD (a .list .now) (a .b) 0) (getD (a .list .now) (l .c) 0) in
     tried-found (graph s) (a .v) (left₃ (near s) (a .a) (a .b) (suc (a .b))) (a .scratch .now) (left₃ (near s) (a .a) (a .b) (l .c)) (l .scratch) (l .inv .2) x (left₃ (near s) (a .a) (a .b) (l .c + 1)) (o .result) _
     (third-step (a .m) (a .list .now) (s .pre .0 .listed) (a .a) (a .b) (l .c) (s .pre .1) (l .inv .0) t) (o .ensures) (left₂ (near s) (a .a) (suc (a .b)))
-    (triple-rising (graph s) (a .v) (a .m) (a .list .now) (a .scratch .now) (s .pre .0) (a .a) (a .b) (l .c) (s .pre .1) (l .inv .0) t)
+    (three-rise (node (graph s) (a .v)) (a .m) (a .list .now) (s .pre .0 .listed) (s .pre .0 .rising) (a .a) (a .b) (l .c) (s .pre .1) (l .inv .0) t)
     (c .if1 .taken)
 
 loop-again : tie.Need-loop-again Inv-loop μ-loop
