@@ -152,10 +152,12 @@ impl Finder<'_> {
     /// The ways at places from up to n one word further, put behind these. How many there are then.
     fn further(&self, near: &Near, heads: &mut [Head], from: usize, n: usize) -> usize {
         let mut to = n;
-        for place in 3 * from..3 * n {
-            if let Some(head) = self.step(near, heads[place / 3], place % 3) {
-                heads[to] = head;
-                to += 1;
+        for at in from..n {
+            for word in 0..3 {
+                if let Some(head) = self.step(near, heads[at], word) {
+                    heads[to] = head;
+                    to += 1;
+                }
             }
         }
         to
