@@ -39,8 +39,7 @@ impl Near {
 
     /// The bit of an index in masks of the list.
     fn bit(&self, index: u32) -> u64 {
-        let at = self.list().iter().filter(|&&near| near < index).count();
-        u64::from(self.list().get(at) == Some(&index)) << at
+        self.list().binary_search(&index).map_or(0, |at| 1 << at)
     }
 }
 
@@ -153,11 +152,15 @@ impl Finder<'_> {
     fn further(&self, near: &Near, heads: &mut [Head], from: usize, n: usize) -> usize {
         let mut to = n;
         for at in from..n {
-            for word in 0..3 {
-                if let Some(head) = self.step(near, heads[at], word) {
-                    heads[to] = head;
-                    to += 1;
-                }
+            let head = heads[at];
+            if head.index <= self.inputs {
+                heads[to] = head;
+                to += 1;
+                continue;
+            }
+            for index in self.named(self.place(head.index)).filter(|&index| index != 0) {
+                heads[to] = Head { index, mask: head.mask | near.bit(index) };
+                to += 1;
             }
         }
         to
