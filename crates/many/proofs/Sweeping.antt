@@ -64,7 +64,7 @@ to-sparing g m j =
     }
 
 -- a choice looks at the nodes alone
-bare-seen : (i n o : ℕ) (ns os : List ℕ) (m : Choice) (u : ℕ) → seen (bare i n ns) m u ≡ seen (graphOf i n o ns os) m u
+pub bare-seen : (i n o : ℕ) (ns os : List ℕ) (m : Choice) (u : ℕ) → seen (bare i n ns) m u ≡ seen (graphOf i n o ns os) m u
 unfolding seen isXor
 bare-seen i n o ns os m u = refl
 
@@ -81,7 +81,7 @@ no-strays : (l : List ℕ) → strays 0 l ≡ 0
 unfolding strays sum
 no-strays l = refl
 
-bare-admitted : (i n o : ℕ) (ns os : List ℕ) → Admitted (graphOf i n o ns os) → Admitted (bare i n ns)
+pub bare-admitted : (i n o : ℕ) (ns os : List ℕ) → Admitted (graphOf i n o ns os) → Admitted (bare i n ns)
 unfolding isEdge
 bare-admitted i n o ns os a =
     record {

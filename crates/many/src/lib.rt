@@ -6,7 +6,7 @@ ghost use Rattle.moves.specs.Call.{gainAnswer};
 ghost use Rattle.many.specs.Many.{manyCall};
 
 mod faults;
-mod making;
+pub mod making;
 mod walk;
 
 use moves::Gain;

@@ -32,7 +32,7 @@ fn row_of(xor: bool, m: u32) -> u32
 }
 
 // Turns bit u t times.
-fn note(seen: &mut [u64], u: usize, t: u32)
+pub fn note(seen: &mut [u64], u: usize, t: u32)
     requires { ⌜ u < 64 * length (now seen) ⌝ }
     ensures { λ _. ⌜ ((w : ℕ) → bitAt (now (seen .exit)) w ≡ (bitAt (now (seen .entry)) w + only u t w) % 2) ⌝ }
 {
@@ -41,7 +41,7 @@ fn note(seen: &mut [u64], u: usize, t: u32)
 }
 
 // How often the word at place j is turned, by its own node's move, which turns it f times, and by that of the index that it names.
-fn turns_at(table: &[u32], bits: &[u64], seen: &[u64], j: usize, f: u32) -> u32
+pub fn turns_at(table: &[u32], bits: &[u64], seen: &[u64], j: usize, f: u32) -> u32
     requires { let l = literals (now table) (now bits) in
         ⌜ (f ≤ 1) × (j < held l) × (index (getD l j 0) < 104128) × (length (now seen) ≡ 1627) ⌝ }
     ensures { λ r.
