@@ -73,13 +73,13 @@ module _ (g : Graph) (ns os : List ℕ) (a : Alike g ns os) (w x : ℕ → ℕ) 
   abbrev led : ℕ
   led = ledTo g h (leading g h)
 
-  abbrev reached : Compared
+  abbrev pub reached : Compared
   reached = compared (accepted (0 ∷ 0 ∷ [])) (tab (length bs) (λ j. ifLess j (g .N) (getD (leading g h) j 0) (getD bs j 0)))
 
-  abbrev left : Compared
+  abbrev pub left : Compared
   left = ifLess led (places g) (compared (placeTold g 4 led) bs) reached
 
-  past-wires : wordsCompared g h bs ≡ left
+  pub past-wires : wordsCompared g h bs ≡ left
   unfolding wordsCompared
   past-wires = sym (no-less (wiredTo g h) (places g) (compared (placeTold g 2 (wiredTo g h)) bs) left (omega (arith, a .wired)) refl)
 

@@ -162,17 +162,17 @@ module _ (g : Graph) (ns os : List ℕ) (a : Alike g ns os) (w x : ℕ → ℕ) 
   abbrev numbers : List ℕ
   numbers = map (kindMoves g) (everyNode g)
 
-  abbrev chosen : List ℕ → Choice
+  abbrev pub chosen : List ℕ → Choice
   chosen ms = put none (everyNode g) ms
 
   module _ (ms : List ℕ) (f : Fits numbers ms) where
-    list-at : (v : ℕ) → v < g .N → chosen ms (node g v) ≡ getD ms v 0
+    pub list-at : (v : ℕ) → v < g .N → chosen ms (node g v) ≡ getD ms v 0
     list-at v l = node-put g ms (omega (arith, fit-length (kindMoves g) (everyNode g) ms f, every-length g)) v l
 
-    list-permitted : Permitted g (chosen ms)
+    pub list-permitted : Permitted g (chosen ms)
     list-permitted v l = rw (list-at v l, ← every-at g v l) (fit-at (kindMoves g) (everyNode g) ms f v (omega (arith, every-length g)))
 
-  led-is : (ms : List ℕ) → ledTo g h ms ≡ passing (places g) (agrees (chosen ms))
+  pub led-is : (ms : List ℕ) → ledTo g h ms ≡ passing (places g) (agrees (chosen ms))
   unfolding ledTo moved
   led-is ms = refl
 
@@ -190,21 +190,24 @@ module _ (g : Graph) (ns os : List ℕ) (a : Alike g ns os) (w x : ℕ → ℕ) 
       let i : v < g .N = omega (arith, every-length g) in
       rw (told-at-list v i, every-at g v i) (told-permitted g w adm v i))
 
-  as-told : (p : ℕ) → p < places g → agrees (chosen tells-all) p ≡ agrees t p
-  as-told p l =
-      let e : (v : ℕ) → v < g .N → chosen tells-all (node g v) ≡ t (node g v) = λ v i. list-at tells-all told-list-fits v i ∙ told-at-list v i in
+  -- choices with the same moves at all nodes agree alike
+  pub same-agrees : (m n : Choice) → ((v : ℕ) → v < g .N → m (node g v) ≡ n (node g v)) → (p : ℕ) → p < places g → agrees m p ≡ agrees n p
+  same-agrees m n e p l =
       ⊎-elim
-      (λ (c : p < 3 * g .N). low (chosen tells-all) p c ∙ all-fits-same g w adm (chosen tells-all) t e p c ∙ sym (low t p c))
+      (λ (c : p < 3 * g .N). low m p c ∙ all-fits-same g w adm m n e p c ∙ sym (low n p c))
       (λ (c : 3 * g .N ≤ p).
       let j : ℕ = p - 3 * g .N in
       let q : 3 * g .N + j ≡ p = omega arith in
-      rw q at (high (chosen tells-all) j (omega arith) ∙ all-outs-same g w adm x (chosen tells-all) t e j (omega arith) ∙ sym (high t j (omega arith))))
+      rw q at (high m j (omega arith) ∙ all-outs-same g w adm x m n e j (omega arith) ∙ sym (high n j (omega arith))))
       (lt-or-le p (3 * g .N))
+
+  as-told : (p : ℕ) → p < places g → agrees (chosen tells-all) p ≡ agrees t p
+  as-told = same-agrees (chosen tells-all) t (λ v i. list-at tells-all told-list-fits v i ∙ told-at-list v i)
 
   abbrev pub far : ℕ
   far = passing (places g) (agrees t)
 
-  best-fits : Fits numbers (leading g h)
+  pub best-fits : Fits numbers (leading g h)
   unfolding leading
   best-fits = best-is (λ ms. places g - ledTo g h ms) numbers tells-all told-list-fits .fits
 

@@ -6,3 +6,5 @@ pub mod Leading
 pub mod Noting
 pub mod Explained
 pub mod Calling
+pub mod Tells
+pub mod Promises

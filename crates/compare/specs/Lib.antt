@@ -1,2 +1,4 @@
 pub mod Compare
 pub mod Telling
+pub mod All
+pub mod Promises
