@@ -9,6 +9,7 @@ ghost use Rattle.moves.specs.Call.{savingAnswer, gainAnswer};
 ghost use Rattle.settling.specs.Settle.{settledAnswer};
 ghost use Rattle.hidden.specs.Call.{majorityAnswer, foundAnswer};
 ghost use Rattle.class_figures.specs.Call.{figuresAnswer};
+ghost use Rattle.compare.specs.Compare.{comparisonAnswer};
 ghost use Rattle.answers.specs.Told.{told, toldOne, toldSigned, toldGain};
 
 // The payload of a field starts after the 3 bytes of its head.
@@ -236,5 +237,24 @@ pub fn improvement_told(answer: class_figures::ClassFigures, before: [i64; 2]) -
             ..
         } => [fall, total_before],
         class_figures::ClassFigures::Refused(_) => before,
+    }
+}
+
+pub fn comparison_number(answer: compare::Comparison) -> u32
+    ensures { λ r. ⌜ r ≡ comparisonAnswer answer .number ⌝ }
+{
+    match answer {
+        compare::Comparison::Told(_, _) => 0,
+        compare::Comparison::Refused(refusal) => graph::faults::number_of(refusal),
+    }
+}
+
+// How two graphs differ, and where.
+pub fn comparison_told(answer: compare::Comparison, before: [u32; 2]) -> [u32; 2]
+    ensures { λ r. ⌜ r ≡ told (comparisonAnswer answer) before ⌝ }
+{
+    match answer {
+        compare::Comparison::Told(how, place) => [how, place],
+        compare::Comparison::Refused(_) => before,
     }
 }
