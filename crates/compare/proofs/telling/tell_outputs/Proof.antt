@@ -27,6 +27,9 @@ Inv-loop outputs output-table output-bits second-output-bits seen end j₀ j = (
 abbrev μ-loop : tie.MeasureT-loop
 μ-loop outputs output-table output-bits second-output-bits seen end j₀ j = outputs - j
 
+loop-holds : tie.Need-loop-holds Inv-loop μ-loop
+loop-holds c = (omega arith, λ i h. absurd (omega arith))
+
 own-turn-requires : tie.Need-own-turn-requires Inv-loop μ-loop
 own-turn-requires c κs =
     let j = c .before .loop .j in
@@ -63,7 +66,7 @@ tell-outputs-spec =
     (tie.spec
     Inv-loop
     μ-loop
-    (λ c. (omega arith, λ i h. absurd (omega arith)))
+    loop-holds
     own-turn-requires
     returns
     (λ c. omega arith)
