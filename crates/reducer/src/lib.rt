@@ -19,6 +19,7 @@ ghost use Rattle.preview.specs.Preview.{previewAnswer, previewBytes};
 ghost use Rattle.resistive.specs.Resistive.{resistiveCall};
 ghost use Rattle.many.specs.Many.{manyCall};
 ghost use Rattle.rounds.specs.Settle.{settleCall};
+ghost use Rattle.compare.specs.Compare.{compareCall};
 ghost use Rattle.hidden.specs.Truth.{triple};
 ghost use Rattle.hidden.specs.Call.{nodesAfter, majorityCall, findCall};
 ghost use Rattle.class_figures.specs.Call.{classCall, figuresCall};
@@ -770,4 +771,57 @@ pub extern "C" fn reducer_replay(
     );
     *numbers = replay::told::replayed_told(answer, *numbers);
     replay::told::replayed_number(answer)
+}
+
+// How a second graph differs from the first: the moves that lead to it, a byte a node, or what no moves explain. `difference` is 0 and 0 for
+// the moves; 1 and 0, 1 or 2 where I, N or O differs; else what stands at a place differs, which is told after it: 2 for the index in the node
+// table, 3 in the output table, 4 and 5 for the complement bit there.
+#[no_mangle]
+pub extern "C" fn reducer_compare(
+    inputs: u32,
+    nodes: u32,
+    outputs: u32,
+    node_table: &[u32],
+    node_bits: &[u64],
+    output_table: &[u32],
+    output_bits: &[u64],
+    locks: &[u8],
+    second_inputs: u32,
+    second_nodes: u32,
+    second_outputs: u32,
+    second_node_table: &[u32],
+    second_node_bits: &[u64],
+    second_output_table: &[u32],
+    second_output_bits: &[u64],
+    second_locks: &[u8],
+    moves: &mut [u8],
+    difference: &mut [u32; 2],
+) -> u32
+    ensures { λ r.
+        let g = graphBefore inputs nodes outputs «node_table» «node_bits» «output_table» «output_bits» in
+        let h = graphBefore «second_inputs» «second_nodes» «second_outputs» «second_node_table» «second_node_bits» «second_output_table» «second_output_bits» in
+        let o = compareCall g (before locks) h (before «second_locks») (before moves) in
+        ⌜ (r ≡ o .answer .number) × (after moves ≡ o .moves) × (after difference ≡ told (o .answer) (before difference)) ⌝ }
+{
+    let answer = compare::compare(
+        inputs,
+        nodes,
+        outputs,
+        node_table,
+        node_bits,
+        output_table,
+        output_bits,
+        locks,
+        second_inputs,
+        second_nodes,
+        second_outputs,
+        second_node_table,
+        second_node_bits,
+        second_output_table,
+        second_output_bits,
+        second_locks,
+        moves,
+    );
+    *difference = answers::told::comparison_told(answer, *difference);
+    answers::told::comparison_number(answer)
 }
