@@ -8,6 +8,7 @@ pub mod aiger;
 pub mod buried;
 pub mod calls;
 pub mod class;
+pub mod compare;
 pub mod entries;
 pub mod evaluation;
 pub mod fast;
@@ -32,6 +33,8 @@ pub mod vectors;
 mod aiger_tests;
 #[cfg(test)]
 mod class_tests;
+#[cfg(test)]
+mod compare_tests;
 #[cfg(test)]
 mod entry_tests;
 #[cfg(test)]
