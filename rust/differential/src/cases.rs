@@ -168,7 +168,7 @@ fn without_output(g: &Graph, output: usize) -> Graph {
 }
 
 /// Smaller graphs, with the index that is no more, if one is.
-fn smaller_graphs(g: &Graph) -> Vec<(Graph, Option<u32>)> {
+pub fn smaller_graphs(g: &Graph) -> Vec<(Graph, Option<u32>)> {
     let mut all = Vec::new();
     for v in (0..g.nodes).rev() {
         all.push((without_node(g, v), Some(g.inputs + 1 + v)));

@@ -48,4 +48,29 @@ macro_rules! filling {
     }};
 }
 
-pub(crate) use {filling, on_graph};
+/// A call on two graphs, with these arguments behind them.
+macro_rules! on_graphs {
+    ($name:ident, $g:expr, $h:expr $(, $more:expr)*) => {{
+        let h = $h;
+        on_graph!(
+            $name,
+            $g,
+            h.inputs,
+            h.nodes,
+            h.outputs,
+            h.node_table.as_mut_ptr(),
+            h.node_table.len(),
+            h.node_bits.as_mut_ptr(),
+            h.node_bits.len(),
+            h.output_table.as_mut_ptr(),
+            h.output_table.len(),
+            h.output_bits.as_mut_ptr(),
+            h.output_bits.len(),
+            h.locks.as_mut_ptr(),
+            h.locks.len()
+            $(, $more)*
+        )
+    }};
+}
+
+pub(crate) use {filling, on_graph, on_graphs};

@@ -8,6 +8,8 @@ pub mod call_faults;
 pub mod cases;
 pub mod class;
 pub mod class_faults;
+pub mod compare;
+pub mod compare_faults;
 pub mod exports;
 pub mod extremes;
 pub mod faults;

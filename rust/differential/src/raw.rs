@@ -11,7 +11,7 @@ use reference::packed::{Lengths, Packed};
 use reference::replay::Words;
 use reference::settling::Settled;
 
-use crate::interface::{filling, on_graph};
+use crate::interface::{filling, on_graph, on_graphs};
 use crate::savings;
 
 const CANARY: u32 = 0xa5a5_a5a5;
@@ -293,6 +293,25 @@ pub fn many(g: &mut Packed, list: &[u32], moves: &[u8]) -> Answered<i64> {
     };
     let number = turn(g, call)?;
     answered(number, saving, SIGNED_CANARY)
+}
+
+/// The same to a call that only reads two graphs.
+fn read_two(g: &Packed, h: &Packed, call: impl FnOnce(&mut Packed, &mut Packed) -> u32) -> Result<u32, String> {
+    let (mut first, mut second) = (g.clone(), h.clone());
+    let number = call(&mut first, &mut second);
+    graph_left(number, Written::Nothing, g, &first)?;
+    graph_left(number, Written::Nothing, h, &second)?;
+    Ok(number)
+}
+
+/// What differs, and where. The moves are left where anything but moves does.
+pub fn compare(g: &Packed, h: &Packed, moves: &mut [u8]) -> Answered<[u32; 2]> {
+    let (before, mut told) = (moves.to_vec(), [CANARY; 2]);
+    let call =
+        |g: &mut Packed, h: &mut Packed| on_graphs!(reducer_compare, g, h, moves.as_mut_ptr(), moves.len(), &mut told);
+    let number = read_two(g, h, call)?;
+    left("the moves", number, &before, moves)?;
+    answered(number, told, [CANARY; 2])
 }
 
 /// With so many words of scratch. Outputs and locks are only read.

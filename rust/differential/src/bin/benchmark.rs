@@ -2,6 +2,7 @@
 
 use differential::timing::families::{Family, FAMILIES, HARD};
 use differential::timing::found;
+use differential::timing::pairs::Moved;
 use differential::timing::races::{call, time, Call, Figure, Side};
 use differential::timing::samples::Sample;
 use differential::timing::single::race;
@@ -169,6 +170,18 @@ fn resistive(call: &str, trees: u32, nodes: u32) {
     }
 }
 
+const COMPARE: &str = "compare";
+
+/// A graph and what it is after a move at each node.
+fn compared() {
+    println!("{SINGLE_HEAD}");
+    for (name, shape) in SHAPES {
+        let fresh = Moved::new(shape, 100_000);
+        let times = race(name, &fresh, [proved::compare, plain::compare], |sample| sample.moves);
+        print_single(COMPARE, name, fresh.first.nodes, 1, times);
+    }
+}
+
 const BEFORE: &str = "before";
 
 const HEAD: &str = "| call | graph | nodes | proved, µs | plain, µs | proved, ns a node | plain, ns a node | \
@@ -203,6 +216,9 @@ fn main() {
     }
     for (call, trees, nodes) in RESISTIVE.into_iter().filter(|row| chosen(row.0)) {
         resistive(call, trees, nodes);
+    }
+    if chosen(COMPARE) {
+        compared();
     }
     if chosen(BEFORE) {
         before_and_after();

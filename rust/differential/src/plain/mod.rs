@@ -4,6 +4,7 @@ pub mod aiger;
 pub mod bits;
 pub mod calls;
 pub mod class;
+pub mod compare;
 pub mod decide;
 pub mod evaluate;
 pub mod file;

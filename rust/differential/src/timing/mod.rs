@@ -7,6 +7,7 @@
 
 pub mod families;
 pub mod found;
+pub mod pairs;
 pub mod plain;
 pub mod proved;
 pub mod races;

@@ -2,10 +2,11 @@
 
 use reference::packed::Packed;
 
+use super::pairs::Moved;
 use super::samples::{as_one, part, Lent};
 use super::woods;
 use crate::plain::{
-    aiger, calls, complemented_edges, evaluate, file, find, many, preview, resistive, settle, sweeps, tree,
+    aiger, calls, compare, complemented_edges, evaluate, file, find, many, preview, resistive, settle, sweeps, tree,
 };
 use crate::tables::{filled, tables, view, wired};
 
@@ -83,4 +84,9 @@ pub fn find(g: &mut Packed, scratch: &mut [u32]) -> u32 {
 pub fn resistive(s: &mut woods::Sample) -> u64 {
     let mut t = tables(&mut s.g);
     s.roots.iter().map(|&v| as_one(resistive::resistive_call(&mut t, v, s.scratch.len()).unwrap())).sum()
+}
+
+/// What differs.
+pub fn compare(s: &mut Moved) -> u64 {
+    compare::compare(&view(&s.first), &view(&s.second), &mut s.moves).unwrap()[0].into()
 }

@@ -2,9 +2,10 @@
 
 use reference::packed::Packed;
 
+use super::pairs::Moved;
 use super::samples::{as_one, part, Lent};
 use super::woods;
-use crate::interface::{filling, on_graph};
+use crate::interface::{filling, on_graph, on_graphs};
 use reducer::{Saving, Settled, MARK};
 
 type Sample = super::samples::Sample<Packed>;
@@ -153,6 +154,13 @@ pub fn resistive(s: &mut woods::Sample) -> u64 {
         saved(on_graph!(reducer_resistive, &mut *g, v, scratch.as_mut_ptr(), scratch.len(), &mut saving), saving)
     };
     s.roots.iter().map(|&v| call(v)).sum()
+}
+
+/// What differs.
+pub fn compare(s: &mut Moved) -> u64 {
+    let (moves, mut told) = (&mut s.moves, [0; 2]);
+    let number = on_graphs!(reducer_compare, &mut s.first, &mut s.second, moves.as_mut_ptr(), moves.len(), &mut told);
+    accepted(number, told[0].into())
 }
 
 /// What the calls of a round save in both parts, where each call scans the tables.
