@@ -155,7 +155,10 @@ fn numbers(p: &Packed) -> Result<Vec<(u32, u32)>, String> {
         (number_of(raw::preview(p, node, &mut vec![3; nodes], 8 * nodes)?), free),
     ];
     let entered = number_of(raw::class(&mut p.clone(), 8 * nodes, &mut [0; WORDS])?);
-    Ok([&steps[..], &readings, &[(entered, 0)]].concat())
+    let other = graph(p.nodes, p.outputs);
+    let compare = |g: &Packed, h: &Packed| Ok::<_, String>(number_of(raw::compare(g, h, &mut vec![3; nodes])?));
+    let on_two = [(compare(p, &other)?, 0), (compare(&other, p)?, 0)];
+    Ok([&steps[..], &readings, &[(entered, 0)], &on_two].concat())
 }
 
 fn check(size: (u32, u32), (what, number, lent): &Fault) -> Result<u64, String> {
