@@ -45,8 +45,8 @@
  *   meets its file from front to back, importing its text line by line, each line being tested for 10, 11, 12, 3, 4, 5 in that
  *   order, many moves their list entry by entry, after 3, 4, 5 and 13, each entry being tested for 7, 14, 15, 16 in that order, a
  *   trial its two moves, each for 15 and 16, after 7, a majority call its node, its triple and its lock by 7, 7 and 16, before 8,
- *   a class its book by 3 before all else, and a replay its calls and answers before its file. Scratch holds nothing of use before
- *   or after a call.
+ *   a class its book by 3 before all else, a comparison 3 and 4 of both graphs before 5 and 13 of both, and a replay its calls and
+ *   answers before its file. Scratch holds nothing of use before or after a call.
  *
  *   A saving is two numbers, of which either may be below 0: how many complemented edges fewer there are, first among the words
  *   of the nodes that the call names, then among all other edges, words of other nodes and outputs. Together they are the
@@ -126,7 +126,10 @@ enum reducer_number {
     REDUCER_WRONG_FIELD = 2,
     /* I, N or O above its limit; a book that is full, counts more than it can take, or holds a word of 2 to the 40th or above */
     REDUCER_OVER_LIMIT = 3,
-    /* a lent table, its bits, slice of locks, input or result slice or book too short; fewer moves than nodes (preview, many moves) */
+    /*
+     * a lent table, its bits, slice of locks, input or result slice or book too short; fewer moves than nodes (preview, many moves,
+     * comparison)
+     */
     REDUCER_SHORT_SLICE = 4,
     /* a literal naming an index not allowed there; a set bit at a mark, or past the last literal in the word that it is in */
     REDUCER_BAD_LITERAL = 5,
@@ -171,6 +174,22 @@ enum reducer_made {
     REDUCER_NOT_MAJORITY = 1,
     /* some way from it down to an input misses all three; nothing has changed */
     REDUCER_NOT_COVERED = 2
+};
+
+/* What a comparison answers first; its second number says where. */
+enum reducer_difference {
+    /* the moves lead from the first graph to the second; 0 */
+    REDUCER_MOVES_LEAD = 0,
+    /* another size: 0 for the inputs, 1 for the nodes, 2 for the outputs */
+    REDUCER_OTHER_SIZE = 1,
+    /* another index, so another wiring or kind, at this place of the node table */
+    REDUCER_OTHER_NODE_INDEX = 2,
+    /* another index at this place of the output table */
+    REDUCER_OTHER_OUTPUT_INDEX = 3,
+    /* no moves explain the complement bit at this place of the node table, where all places before it agree */
+    REDUCER_NODE_BIT = 4,
+    /* no moves explain the complement bit at this place of the output table, where all places before it and the node table agree */
+    REDUCER_OUTPUT_BIT = 5
 };
 
 /*
@@ -431,6 +450,29 @@ uint32_t reducer_many(uint32_t inputs, uint32_t nodes, uint32_t outputs,
                       const uint32_t *list, size_t list_length,
                       const uint8_t *moves, size_t moves_length,
                       int64_t *saving);
+
+/*
+ * Tells the moves that lead from a graph to a second one, which is only read as the first is; both may be the same slices. Where
+ * there are such moves, difference[0] is REDUCER_MOVES_LEAD and byte v of moves becomes the move of node I + 1 + v; there is only one
+ * choice of moves that leads there, and reducer_many makes it where no locked node moves. Else difference says what differs first:
+ * sizes, then indices of both tables, the node table first, then bits in the same order; and moves is left. Later bytes of moves are
+ * left in any case. Locks are tested and no more: a locked node's move is told like any. Refusals: 3, 4 (tables, locks, then fewer
+ * bytes than nodes) of the first graph, 3, 4 (tables, locks) of the second, then 5, 13 of the first and 5, 13 of the second.
+ */
+uint32_t reducer_compare(uint32_t inputs, uint32_t nodes, uint32_t outputs,
+                         const uint32_t *node_table, size_t node_table_length,
+                         const uint64_t *node_bits, size_t node_bits_length,
+                         const uint32_t *output_table, size_t output_table_length,
+                         const uint64_t *output_bits, size_t output_bits_length,
+                         const uint8_t *locks, size_t locks_length,
+                         uint32_t second_inputs, uint32_t second_nodes, uint32_t second_outputs,
+                         const uint32_t *second_node_table, size_t second_node_table_length,
+                         const uint64_t *second_node_bits, size_t second_node_bits_length,
+                         const uint32_t *second_output_table, size_t second_output_table_length,
+                         const uint64_t *second_output_bits, size_t second_output_bits_length,
+                         const uint8_t *second_locks, size_t second_locks_length,
+                         uint8_t *moves, size_t moves_length,
+                         uint32_t difference[2]);
 
 /*
  * Makes a node one majority of three lower indices, where its value is one's. first, second and third rise, from above 0 to below

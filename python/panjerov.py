@@ -10,7 +10,7 @@ import_aiger and Graph.export_aiger do the same for ASCII AIGER, the text of and
 out already: no call turns it, and its file says so. Graph.many makes moves that the caller has chosen, all of them or none.
 Graph.find finds the majorities that and-inverter tools have hidden in ANDs, and Graph.majority makes a node one. Graph.resistive_call
 chooses a tree's moves for memories of resistive cells, which want majorities with just one complemented input. A Class settles graphs
-one after another and sums up their figures.
+one after another and sums up their figures. Graph.compare tells the moves that lead from one graph to another.
 
 Every call is one of the proved library's. A call that cannot be made raises: Refused, with the number of the refusal, where
 the library refuses it; TypeError or ValueError where an argument is not of the kind that the library takes. Either way
@@ -32,10 +32,10 @@ import subprocess
 from array import array
 from collections.abc import MutableSequence
 from pathlib import Path
-from typing import Iterable, Iterator, List, NamedTuple, Sequence, Tuple, Type, Union
+from typing import Iterable, Iterator, List, NamedTuple, Optional, Sequence, Tuple, Type, Union
 
 __all__ = [
-    "Class", "Figures", "Graph", "Literals", "Majority", "Preview", "Refused", "Saving", "Settled", "Told",
+    "Class", "Compared", "Difference", "Figures", "Graph", "Literals", "Majority", "Preview", "Refused", "Saving", "Settled", "Told",
     "load", "import_aiger", "field", "replay",
     "NODE", "PAIR", "TREE", "SETTLE", "MANY", "MAJORITY", "FIND", "RESISTIVE",
     "MARK", "MOST_INPUTS", "MOST_NODES", "MOST_OUTPUTS", "MOST_GRAPHS", "CLASS_WORDS",
@@ -130,6 +130,26 @@ class Majority(enum.Enum):
     NOT_COVERED = 2
 
 
+class Difference(enum.Enum):
+    """Where no moves lead from a graph to another: in a size (0 inputs, 1 nodes, 2 outputs), in the index at a place of the node table (another
+    wiring or kind) or of the output table, or in the complement bit at a place of either, which no moves explain."""
+
+    SIZE = 1
+    NODE_INDEX = 2
+    OUTPUT_INDEX = 3
+    NODE_BIT = 4
+    OUTPUT_BIT = 5
+
+
+class Compared(NamedTuple):
+    """What a comparison tells: the moves that lead from the first graph to the second, a byte a node by rising index, or None with the first
+    difference and its place."""
+
+    moves: Optional[bytes]
+    difference: Optional[Difference] = None
+    place: int = 0
+
+
 class Preview(NamedTuple):
     """What a tree call would save, and a byte a node by rising index: its move there, and 0 outside the tree and at locked nodes."""
 
@@ -205,6 +225,7 @@ _settle = _function("reducer_settle", _GRAPH + _WORDS + [ctypes.c_void_p] * 2)
 _class = _function("reducer_class", _GRAPH + _WORDS * 2 + [ctypes.c_void_p] * 2)
 _class_figures = _function("reducer_class_figures", _WORDS + [_U32] + [ctypes.c_void_p] * 2)
 _many = _function("reducer_many", _GRAPH + _WORDS * 2 + [ctypes.c_void_p])
+_compare = _function("reducer_compare", _GRAPH * 2 + _WORDS + [ctypes.c_void_p])
 _majority = _function("reducer_majority", _GRAPH + [_U32] * 4 + _WORDS + [ctypes.c_void_p])
 _find = _function("reducer_find", _GRAPH + _WORDS + [ctypes.c_void_p])
 _replay = _function("reducer_replay", _WORDS * 2 + _TABLES + _WORDS * 4 + [ctypes.c_void_p])
@@ -729,6 +750,19 @@ class Graph:
         listed, saving = [*_numbers(indices, _U32, "indices"), *_moves(moves)], _I64()
         _call(_many, *self._lent(), *listed, ctypes.byref(saving))
         return saving.value
+
+    def compare(self, second: "Graph") -> Compared:
+        """The moves that lead from this graph to another of the same wiring, or what differs first. A locked node's move is told like
+        any."""
+        if not isinstance(second, Graph):
+            raise TypeError(f"second must be a Graph, and is a {type(second).__name__}")
+        # A second graph's locks may have to be fitted, before anything is lent.
+        other, lent = second._lent(), self._lent()
+        moves, difference = _array(ctypes.c_uint8, lent[1]), (_U32 * 2)()
+        _call(_compare, *lent, *other, moves, lent[1], difference)
+        if difference[0] == 0:
+            return Compared(ctypes.string_at(moves, lent[1]))
+        return Compared(None, Difference(difference[0]), difference[1])
 
     def majority(self, node: int, first: int, second: int, third: int) -> Majority:
         """Makes a node one majority of three lower indices, rising and none of them 0, where its value is one's, with words complemented

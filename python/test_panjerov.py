@@ -16,7 +16,7 @@ import unittest
 from pathlib import Path
 
 import panjerov
-from panjerov import MARK, Graph, Literals, Majority, Refused
+from panjerov import MARK, Difference, Graph, Literals, Majority, Refused
 
 ROOT = Path(__file__).resolve().parent.parent
 EXAMPLES = ROOT / "examples"
@@ -1063,6 +1063,71 @@ class Classes(unittest.TestCase):
             panjerov.Class([2**64])
         record = panjerov.Class([1000] + [2**40 - 1] * 85)
         self.assertEqual((record.all()[:2], record.latest()[:2]), ((1000, 2**40 - 1), (16, 16 * (2**40 - 1))))
+
+
+class Comparing(unittest.TestCase):
+    """Two graphs, and the moves that lead from one to the other."""
+
+    def test_moves(self) -> None:
+        """Random choices of moves are told as they were made."""
+        generator = random.Random(111)
+        for _ in range(2000):
+            graph = random_graph(generator)
+            moves = bytes(generator.randrange(4 if third == MARK else 2) for third in graph.nodes[2::3])
+            after = made(graph, moves)
+            self.assertEqual(graph.compare(after), (moves, None, 0))
+            self.assertEqual(after.compare(graph), (moves, None, 0))
+
+    def test_one_bit_more(self) -> None:
+        """One edge turned by itself: told is the first place at which no moves give both graphs, by trying all of them."""
+        generator = random.Random(1110)
+        tried = differing = 0
+        while tried < 400:
+            graph = random_graph(generator)
+            kinds = [4 if third == MARK else 2 for third in graph.nodes[2::3]]
+            edges = [at for at, word in enumerate(graph.nodes) if word != MARK]
+            if not 1 <= len(kinds) <= 4 or not graph.outputs:
+                continue
+            tried += 1
+            after = copied(graph)
+            place = generator.randrange(len(edges) + len(graph.outputs))
+            table, at = (after.nodes, edges[place]) if place < len(edges) else (after.outputs, place - len(edges))
+            table[at] ^= 1
+            reached = [made(graph, bytes(moves)) for moves in itertools.product(*map(range, kinds))]
+            best = max(
+                next((at for at, pair in enumerate(zip(one.nodes + one.outputs, after.nodes + after.outputs)) if pair[0] != pair[1]), 99)
+                for one in reached
+            )
+            told = graph.compare(after)
+            if best == 99:
+                self.assertEqual(made(graph, told.moves), after)
+                continue
+            nodes = len(graph.nodes)
+            due = (Difference.NODE_BIT, best) if best < nodes else (Difference.OUTPUT_BIT, best - nodes)
+            self.assertEqual(told, (None, *due))
+            differing += 1
+        self.assertTrue(differing > 100, differing)
+
+    def test_wiring(self) -> None:
+        graph = Graph(2, [2, 5, 4, 6, 3, MARK], [8, 7])
+        for other, due in [
+            (Graph(3, [2, 5, 4, 6, 3, MARK], [8, 7]), (Difference.SIZE, 0)),
+            (Graph(2, [2, 5, 4], [6, 7]), (Difference.SIZE, 1)),
+            (Graph(2, [2, 5, 4, 6, 3, MARK], [8]), (Difference.SIZE, 2)),
+            (Graph(2, [3, 4, 5, 6, 3, 0], [8, 7]), (Difference.NODE_INDEX, 5)),
+            (Graph(2, [3, 4, 5, 6, 3, MARK], [8, 9]), (Difference.OUTPUT_INDEX, 1)),
+        ]:
+            self.assertEqual(graph.compare(other), (None, *due))
+
+    def test_refusals(self) -> None:
+        good, over, bad = Graph(3, [3, 5, 7], [9]), Graph(4097, [], []), Graph(3, [8, 7, 7], [])
+        for first, second, number in [(over, bad, 3), (bad, over, 3), (bad, good, 5), (good, bad, 5)]:
+            with self.assertRaises(Refused) as caught:
+                first.compare(second)
+            self.assertEqual(caught.exception.number, number)
+        with self.assertRaises(TypeError):
+            good.compare([3, 5, 7])
+        self.assertEqual(good.compare(good), (b"\0", None, 0))
 
 
 class Packed(unittest.TestCase):

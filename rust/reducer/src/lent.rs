@@ -12,7 +12,18 @@
 #![allow(clippy::too_many_arguments)]
 
 use crate::raw;
-use crate::{Figures, Majority, Refusal, ReplayRefusal, Saving, Settled, Size, MARK};
+use crate::{Difference, Figures, Majority, Refusal, ReplayRefusal, Saving, Settled, Size, MARK};
+
+/// A graph that is only read, for calls on two of them.
+#[derive(Clone, Copy, Debug)]
+pub struct Lent<'a> {
+    pub size: Size,
+    pub node_table: &'a [u32],
+    pub node_bits: &'a [u64],
+    pub output_table: &'a [u32],
+    pub output_bits: &'a [u64],
+    pub locks: &'a [u8],
+}
 
 /// The value where the number is 0, else its refusal.
 pub(crate) fn answer<T>(number: u32, value: T) -> Result<T, Refusal> {
@@ -614,6 +625,46 @@ pub fn many(
         )
     };
     answer(number, saving)
+}
+
+/// The moves that lead from the first graph to the second, in the first bytes of `moves`, a byte a node by rising index; or what differs
+/// first, and then `moves` is left.
+pub fn compare(first: Lent, second: Lent, moves: &mut [u8]) -> Result<Option<Difference>, Refusal> {
+    let mut difference = [0u32; 2];
+    let number = unsafe {
+        raw::reducer_compare(
+            first.size.inputs,
+            first.size.nodes,
+            first.size.outputs,
+            first.node_table.as_ptr(),
+            first.node_table.len(),
+            first.node_bits.as_ptr(),
+            first.node_bits.len(),
+            first.output_table.as_ptr(),
+            first.output_table.len(),
+            first.output_bits.as_ptr(),
+            first.output_bits.len(),
+            first.locks.as_ptr(),
+            first.locks.len(),
+            second.size.inputs,
+            second.size.nodes,
+            second.size.outputs,
+            second.node_table.as_ptr(),
+            second.node_table.len(),
+            second.node_bits.as_ptr(),
+            second.node_bits.len(),
+            second.output_table.as_ptr(),
+            second.output_table.len(),
+            second.output_bits.as_ptr(),
+            second.output_bits.len(),
+            second.locks.as_ptr(),
+            second.locks.len(),
+            moves.as_mut_ptr(),
+            moves.len(),
+            &mut difference,
+        )
+    };
+    answer(number, Difference::of(difference))
 }
 
 /// Makes a node one majority of three lower indices, rising and none of them 0, where its value is one of theirs.

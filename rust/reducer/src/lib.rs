@@ -26,6 +26,8 @@
 //!
 //! A [`Class`] settles graphs one after another and sums up their figures.
 //!
+//! [`Graph::compare`] tells the moves that lead from one graph to another.
+//!
 //! A literal, as a file has it, is twice an index, and one more if it is complemented: [`Graph::new`] takes a graph so, and
 //! [`Graph::node`] and [`Graph::output`] give it so. Its tables are kept as they are lent, indices and complement bits apart.
 //!
@@ -288,6 +290,50 @@ impl Majority {
             _ => Majority::NotCovered,
         }
     }
+}
+
+/// Where a graph first differs from another so that no moves lead from one to the other. Places of tables count from 0.
+#[derive(Clone, Copy, Debug, PartialEq, Eq, Hash)]
+pub enum Difference {
+    /// In the number of inputs.
+    Inputs,
+    /// In the number of nodes.
+    Nodes,
+    /// In the number of outputs.
+    Outputs,
+    /// In the index at this place of the node table: another wiring or kind.
+    NodeIndex(usize),
+    /// In the index at this place of the output table.
+    OutputIndex(usize),
+    /// In the complement bit at this place of the node table, which no moves explain where all places before it agree.
+    NodeBit(usize),
+    /// In the complement bit at this place of the output table, which no moves explain.
+    OutputBit(usize),
+}
+
+impl Difference {
+    /// What the two numbers of a comparison say; none where moves lead from one graph to the other.
+    pub(crate) fn of([what, at]: [u32; 2]) -> Option<Difference> {
+        match (what, at) {
+            (0, _) => None,
+            (1, 0) => Some(Difference::Inputs),
+            (1, 1) => Some(Difference::Nodes),
+            (1, _) => Some(Difference::Outputs),
+            (2, place) => Some(Difference::NodeIndex(place as usize)),
+            (3, place) => Some(Difference::OutputIndex(place as usize)),
+            (4, place) => Some(Difference::NodeBit(place as usize)),
+            (_, place) => Some(Difference::OutputBit(place as usize)),
+        }
+    }
+}
+
+/// What a comparison of two graphs tells.
+#[derive(Clone, Debug, PartialEq, Eq, Hash)]
+pub enum Compared {
+    /// The moves that lead from the first to the second, a byte a node by rising index.
+    Moves(Vec<u8>),
+    /// No moves do, as this shows first.
+    Differ(Difference),
 }
 
 /// What a preview tells of a tree call that is not made.
@@ -769,6 +815,25 @@ impl Graph {
             list,
             moves,
         )
+    }
+
+    /// The graph as calls on two take it.
+    pub fn lent(&self) -> lent::Lent<'_> {
+        lent::Lent {
+            size: self.size,
+            node_table: &self.node_table,
+            node_bits: &self.node_bits,
+            output_table: &self.output_table,
+            output_bits: &self.output_bits,
+            locks: &self.locks,
+        }
+    }
+
+    /// The moves that lead from this graph to another of the same wiring, or what differs first. A locked node's move is told like any.
+    pub fn compare(&self, second: &Graph) -> Result<Compared, Refusal> {
+        let mut moves = vec![0; self.size.nodes.min(MOST_NODES) as usize];
+        let difference = lent::compare(self.lent(), second.lent(), &mut moves)?;
+        Ok(difference.map_or(Compared::Moves(moves), Compared::Differ))
     }
 
     /// Makes rounds of tree, node and pair calls until one saves nothing.

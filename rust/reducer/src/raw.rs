@@ -305,6 +305,38 @@ extern "C" {
         saving: *mut i64,
     ) -> u32;
 
+    pub fn reducer_compare(
+        inputs: u32,
+        nodes: u32,
+        outputs: u32,
+        node_table: *const u32,
+        node_table_length: usize,
+        node_bits: *const u64,
+        node_bits_length: usize,
+        output_table: *const u32,
+        output_table_length: usize,
+        output_bits: *const u64,
+        output_bits_length: usize,
+        locks: *const u8,
+        locks_length: usize,
+        second_inputs: u32,
+        second_nodes: u32,
+        second_outputs: u32,
+        second_node_table: *const u32,
+        second_node_table_length: usize,
+        second_node_bits: *const u64,
+        second_node_bits_length: usize,
+        second_output_table: *const u32,
+        second_output_table_length: usize,
+        second_output_bits: *const u64,
+        second_output_bits_length: usize,
+        second_locks: *const u8,
+        second_locks_length: usize,
+        moves: *mut u8,
+        moves_length: usize,
+        difference: *mut [u32; 2],
+    ) -> u32;
+
     pub fn reducer_majority(
         inputs: u32,
         nodes: u32,

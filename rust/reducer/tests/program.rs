@@ -21,6 +21,8 @@ mod pictures;
 mod reports;
 #[path = "program/resistive.rs"]
 mod resistive;
+#[path = "program/sheets.rs"]
+mod sheets;
 
 const PROGRAM: &str = env!("CARGO_BIN_EXE_panjerov");
 const MAJORITY: &str = "aag 7 3 0 1 4\n2\n4\n6\n15\n8 5 7\n10 2 9\n12 4 6\n14 11 13\n";
@@ -428,6 +430,8 @@ fn usage() {
         &["picture", "--svg", "--help"],
         &["report", "--help"],
         &["class", "--help"],
+        &["sheets", "--help"],
+        &["compare", "--help"],
         &["help"],
         &["help", "picture"],
     ] {

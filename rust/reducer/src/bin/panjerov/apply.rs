@@ -7,15 +7,15 @@ use reducer::{Graph, Refusal};
 
 /// A line of the list, counted from 1.
 #[derive(Clone, Copy, Debug, PartialEq, Eq)]
-struct Entry {
+pub struct Entry {
     line: usize,
-    node: u32,
-    number: u32,
+    pub node: u32,
+    pub number: u32,
 }
 
 impl Entry {
     /// No kind has the moves that a byte cannot say, nor the last that it can.
-    fn byte(&self) -> u8 {
+    pub fn byte(&self) -> u8 {
         u8::try_from(self.number).unwrap_or(u8::MAX)
     }
 }
@@ -44,7 +44,7 @@ fn entry(line: usize, text: &str) -> Result<Option<Entry>, String> {
 }
 
 /// The moves that are listed, or which line is not understood.
-fn listed(moves: &Input) -> Result<Vec<Entry>, String> {
+pub fn listed(moves: &Input) -> Result<Vec<Entry>, String> {
     let mut all = Vec::new();
     for (at, bytes) in moves.bytes.split(|&byte| byte == b'\n').enumerate() {
         let line = at + 1;
@@ -80,6 +80,15 @@ fn refused(graph: &Graph, moves: &Input, entries: &[Entry], refusal: Refusal) ->
     match first {
         Some((line, (found, why))) if found == refusal => format!("{}, line {line}: {refusal}; {why}", moves.name),
         _ => format!("{}: {refusal}", moves.name),
+    }
+}
+
+/// That each entry is a move of its node, in whatever order they are; what refuses the first that is none, with its line.
+pub fn each_is_a_move(graph: &Graph, moves: &Input, entries: &[Entry]) -> Result<(), String> {
+    let faults = entries.iter().map(|entry| (entry.line, fault_of(graph, None, entry)));
+    match faults.filter_map(|(line, fault)| Some((line, fault?))).next() {
+        Some((line, (refusal, why))) => Err(format!("{}, line {line}: {refusal}; {why}", moves.name)),
+        None => Ok(()),
     }
 }
 

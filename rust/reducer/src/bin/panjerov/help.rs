@@ -17,6 +17,8 @@ Reduces inversions in majority and XOR graphs. The commands:
     show       tells sizes, kinds, complemented edges, depth and locked nodes
     preview    tells what the best moves of a tree would save, and makes none
     apply      makes the moves that a list has, all of them or none
+    sheets     shortens a sheet of moves, or tells whether two end alike
+    compare    tells the moves that lead from one graph to another
     picture    draws the graph, as DOT text for Graphviz, as SVG or as PNG
     report     settles the graph and gives a page with figures and pictures
     class      settles many graphs and gives a sheet of their figures
@@ -255,6 +257,63 @@ AIGER has ANDs alone: as text, each majority is four ANDs and each XOR three, so
 that nodes have other indices. Keep the tagged file for further moves.
 ";
 
+const SHEETS: &str = "\
+usage: panjerov sheets FILE SHEET [-o FILE]
+       panjerov sheets FILE SHEET OTHER
+
+A sheet is a file, or - for standard input, with a line for each move: a node's
+index and the move, in any order and as often as one likes. A move that is made
+twice is undone; of an XOR's moves 1, 2 and 3 two different ones make the third.
+Blank lines and lines that begin with # are passed over.
+
+With one SHEET its short form is given, the list that `panjerov apply` takes: by
+rising index what all moves of a node come to, nodes that end as they were left
+out. A line with figures goes to standard error, lines being how many moves the
+sheet has:
+
+    lines 3 before 4 after 2 saving 2 listed 1 moved 1
+
+With OTHER it tells whether both sheets end in the same graph, whatever their
+order: same, or the first node whose moves come to something else:
+
+    node 6 majority: 1 makes 1 in monday, 1 and 1 make 0 in tuesday
+
+A line that is not understood, an index that is no node's (refused 7), a move
+that the node's kind lacks (15) and a move other than 0 at a locked node (16)
+are told with the line's number.
+
+The exit status is 0 for same and for a short form, 1 for different, and 2 for
+whatever else: what is refused, or cannot be read, written or understood.
+";
+
+const COMPARE: &str = "\
+usage: panjerov compare BEFORE AFTER [-o FILE]
+
+Tells the moves that lead from the graph BEFORE to the graph AFTER, as a list
+that `panjerov apply` takes: a line for each node that moved, its index and its
+move. There is only one such list. A line with figures goes to standard error:
+
+    before 4 after 2 saving 2 moved 2 left 0
+
+before and after are the complemented edges of both; left is how many fewer
+there would be if AFTER were settled under its locks. Where the locks of the two
+differ, or nodes moved that are locked in BEFORE, a line says which.
+
+Where no moves lead there, the first place that shows it is told instead:
+
+    other wiring: word 2 of node 7 names index 4 before and 5 after
+    no moves: output 1 is plain before and complemented after
+
+Places are gone through in order: sizes, then kinds and indices of all nodes and
+outputs, then complement bits of nodes by rising index and of outputs; moves
+explain all bits before the one that is told. AIGER text has other nodes once it
+has been settled: compare tagged files. One of the two may be -.
+
+The exit status is 0 where moves lead from one to the other, 1 where none do,
+and 2 for whatever else: what is refused, or cannot be read, written or
+understood.
+";
+
 const PICTURE: &str = "\
 usage: panjerov picture [FILE] [--svg|--png] [--output K|--root R] [-o FILE]
        panjerov picture --compare BEFORE AFTER [--svg|--png]
@@ -353,14 +412,16 @@ without FILE, or where it is -, standard input is read. What is given goes to
 standard output, or with -o to a file, which is replaced only once all of it is
 there, and may be FILE itself. Work of more than a second says so on standard
 error.
+";
 
+const STATUS: &str = "
 The exit status is 0; 1 where something is refused, a file cannot be read or
 written or Graphviz makes no picture that was asked for, and then no file is
 made or changed; 2 where the command line is not understood.
 ";
 
 pub fn program() -> String {
-    format!("{PROGRAM}{FILES}")
+    format!("{PROGRAM}{FILES}{STATUS}")
 }
 
 pub fn of(command: Command) -> String {
@@ -375,9 +436,13 @@ pub fn of(command: Command) -> String {
         Command::Show => SHOW,
         Command::Preview => PREVIEW,
         Command::Apply => APPLY,
+        Command::Sheets => SHEETS,
+        Command::Compare => COMPARE,
         Command::Picture => PICTURE,
         Command::Report => REPORT,
         Command::Class => CLASS,
     };
-    format!("{own}{FILES}")
+    // What answers by its exit status tells of that itself.
+    let status = if command.failed() == 1 { STATUS } else { "" };
+    format!("{own}{FILES}{status}")
 }

@@ -1,10 +1,12 @@
 //! The program `panjerov`: settles graphs, one or a class of them, finds their hidden majorities, chooses moves for resistive memory, shows, draws and reports on
-//! graphs, previews their trees, makes listed moves, locks nodes, and makes tagged files of AIGER texts and back.
+//! graphs, previews their trees, makes listed moves, compares
+//! graphs and sheets of moves, locks nodes, and makes tagged files of AIGER texts and back.
 
 mod apply;
 mod class;
 mod class_page;
 mod class_sheet;
+mod compared;
 mod drawing;
 mod faults;
 mod files;
@@ -20,6 +22,7 @@ mod preview;
 mod progress;
 mod report;
 mod resistive;
+mod sheets;
 mod show;
 mod trees;
 mod turned;
@@ -51,10 +54,22 @@ fn figures_of(graph: &Graph, settled: Settled) -> String {
     format!("{sizes} before {before} after {after} rounds {rounds} own {own} others {others}{locked}")
 }
 
-/// What a command gives, and the lines beside it.
+/// What a command gives, the lines beside it, and the exit status.
 struct Given {
     bytes: Vec<u8>,
     lines: Vec<String>,
+    status: u8,
+}
+
+impl Given {
+    fn of(bytes: Vec<u8>, lines: Vec<String>) -> Given {
+        Given { bytes, lines, status: 0 }
+    }
+
+    /// The answer of a comparison that is not the same.
+    fn different(line: String) -> Given {
+        Given { bytes: format!("{line}\n").into_bytes(), lines: vec![], status: 1 }
+    }
 }
 
 /// The graph in a format, with a line that says so where its locks are lost by it.
@@ -62,7 +77,7 @@ fn formed(graph: &Graph, format: Format, mut lines: Vec<String>) -> Result<Given
     if format == Format::Aiger {
         lines.extend(locks::lost(graph));
     }
-    Ok(Given { bytes: formats::bytes_of(graph, format)?, lines })
+    Ok(Given::of(formats::bytes_of(graph, format)?, lines))
 }
 
 fn given(asked: &Work, input: &Input, working: &Progress) -> Result<Given, String> {
@@ -96,15 +111,17 @@ fn given(asked: &Work, input: &Input, working: &Progress) -> Result<Given, Strin
             let locked = locks::told(&locks::of(&graph));
             formed(&graph, Format::Tagged, vec![format!("{} locked {locked}", sizes_of(&graph))])
         }
-        Command::Show => Ok(Given { bytes: show::text_of(&graph, got)?.into_bytes(), lines: vec![] }),
+        Command::Show => Ok(Given::of(show::text_of(&graph, got)?.into_bytes(), vec![])),
         Command::Preview => {
             let told = preview::of(&graph, asked.root, asked.only_moves);
             let told = told.map_err(|why| format!("{}: {why}", input.name))?;
-            Ok(Given { bytes: told.text.into_bytes(), lines: told.lines })
+            Ok(Given::of(told.text.into_bytes(), told.lines))
         }
         Command::Picture if asked.compare => drawing::compare(asked, input, (graph, got)),
         Command::Picture => drawing::draw(asked, input, &graph),
         Command::Report => report::of(input, &graph, asked.wanted),
+        Command::Sheets => compared::sheets(asked, &graph),
+        Command::Compare => compared::compare(asked, input, &graph),
         Command::Class => unreachable!("a class has many files"),
     }
 }
@@ -116,17 +133,17 @@ fn work(asked: &Work) -> Result<u8, String> {
     }
     let input = files::read(asked.input.as_deref())?;
     let working = Progress::of(format!("{} {}", asked.command.doing(), input.name));
-    let Given { bytes, lines } = given(asked, &input, &working)?;
+    let Given { bytes, lines, status } = given(asked, &input, &working)?;
     files::write(asked.output.as_deref(), &bytes)?;
     drop(working);
     lines.iter().for_each(|line| say(line));
-    Ok(0)
+    Ok(status)
 }
 
 fn run() -> Result<u8, (u8, String)> {
     match words::asked(std::env::args_os().skip(1)).map_err(|why| (2, why))? {
         Asked::Help(text) => files::write(None, text.as_bytes()).map(|()| 0),
-        Asked::Work(asked) => work(&asked),
+        Asked::Work(asked) => return work(&asked).map_err(|why| (asked.command.failed(), why)),
     }
     .map_err(|why| (1, why))
 }

@@ -256,12 +256,12 @@ pub fn of(input: &Input, graph: &Graph, wanted: Wanted) -> Result<Given, String>
     let mut after = graph.clone();
     let settled = after.settle().map_err(|refusal| refusal.to_string())?;
     let moves =
-        turned::moves(graph, &after).map_err(|at| format!("no moves lead to the settled graph, as {at} shows"))?;
+        turned::moves(graph, &after).map_err(|apart| format!("no moves lead to the settled graph: {apart:?}"))?;
     let drawn = part.as_ref().ok().and_then(|part| part.line());
     let report = Report { name: input.title(), before: graph, after, settled, moves };
     let (section, none) = picture_section(&report, part);
     let lines = [Some(figures_of(graph, settled)), none.or(drawn)].into_iter().flatten().collect();
-    Ok(Given { bytes: page(&report, &section).into_bytes(), lines })
+    Ok(Given::of(page(&report, &section).into_bytes(), lines))
 }
 
 #[cfg(test)]

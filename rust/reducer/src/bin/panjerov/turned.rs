@@ -1,8 +1,19 @@
-//! What turned between two graphs that the library has admitted.
+//! What turned between two graphs that the library has admitted, or why no moves lead from one to the other.
 
 use crate::nodes::{is_xor, output_of, words_of};
 use crate::parts::sizes;
-use reducer::Graph;
+use reducer::{Compared, Difference, Graph};
+
+/// Why no moves lead from one graph to another.
+#[derive(Debug, PartialEq, Eq)]
+pub enum Apart {
+    /// Sizes, kinds or indices differ, and where first.
+    Wiring(String),
+    /// The place that no moves explain, and what stands there.
+    Bit(String, String),
+    /// The library refuses a graph.
+    Refused(String),
+}
 
 fn kind(graph: &Graph, node: u32) -> &'static str {
     if is_xor(graph, node) {
@@ -12,63 +23,58 @@ fn kind(graph: &Graph, node: u32) -> &'static str {
     }
 }
 
-/// Where two literals name different indices.
-fn other_index(place: String, before: u32, after: u32) -> Option<String> {
-    let (before, after) = (before / 2, after / 2);
-    (before != after).then(|| format!("{place} names index {before} before and {after} after"))
+/// The node and the word, from 1, at a place of the node table.
+fn node_at(graph: &Graph, place: usize) -> (u32, usize) {
+    (graph.size.inputs + 1 + (place / 3) as u32, 1 + place % 3)
 }
 
-fn other_node(before: &Graph, after: &Graph, node: u32) -> Option<String> {
-    let (first, second) = (kind(before, node), kind(after, node));
+fn other_node(graphs: [&Graph; 2], place: usize) -> String {
+    let (node, word) = node_at(graphs[0], place);
+    let [first, second] = graphs.map(|graph| kind(graph, node));
     if first != second {
-        return Some(format!("node {node} is {first} before and {second} after"));
+        return format!("node {node} is {first} before and {second} after");
     }
-    let mut words = words_of(before, node).zip(words_of(after, node)).zip(1..);
-    words.find_map(|((x, y), word)| other_index(format!("word {word} of node {node}"), x, y))
+    let [before, after] = graphs.map(|graph| words_of(graph, node).nth(word - 1).unwrap_or_default() / 2);
+    format!("word {word} of node {node} names index {before} before and {after} after")
 }
 
-/// Where the wiring differs first; none where it is the same.
-pub fn other_wiring(before: &Graph, after: &Graph) -> Option<String> {
-    if before.size != after.size {
-        let [first, second] = [before, after].map(|graph| sizes(graph.size).join(", "));
-        return Some(format!("{first} before and {second} after"));
-    }
-    let first = before.size.inputs + 1;
-    let node = (first..first + before.size.nodes).find_map(|node| other_node(before, after, node));
-    let other_output = |at| other_index(format!("output {at}"), output_of(before, at), output_of(after, at));
-    node.or_else(|| (1..=before.size.outputs).find_map(other_output))
+/// How a place is complemented in both graphs.
+fn turned(place: String, literals: [u32; 2]) -> String {
+    let [before, after] = literals.map(|literal| if literal % 2 == 1 { "complemented" } else { "plain" });
+    format!("{place} is {before} before and {after} after")
 }
 
-/// The move that turns a node's words so, where there is one.
-fn move_of(turned: &[bool]) -> Option<u8> {
-    match turned {
-        [false, false, false] | [false, false] => Some(0),
-        [true, true, true] | [true, true] => Some(1),
-        [true, false] => Some(2),
-        [false, true] => Some(3),
-        _ => None,
+/// What a difference says in words.
+fn apart(graphs: [&Graph; 2], difference: Difference) -> Apart {
+    let outputs = |place: usize| graphs.map(|graph| output_of(graph, place as u32 + 1));
+    match difference {
+        Difference::Inputs | Difference::Nodes | Difference::Outputs => {
+            let [first, second] = graphs.map(|graph| sizes(graph.size).join(", "));
+            Apart::Wiring(format!("{first} before and {second} after"))
+        }
+        Difference::NodeIndex(place) => Apart::Wiring(other_node(graphs, place)),
+        Difference::OutputIndex(place) => {
+            let [before, after] = outputs(place).map(|literal| literal / 2);
+            Apart::Wiring(format!("output {} names index {before} before and {after} after", place + 1))
+        }
+        Difference::NodeBit(place) => {
+            let (node, word) = node_at(graphs[0], place);
+            let literals = graphs.map(|graph| words_of(graph, node).nth(word - 1).unwrap_or_default());
+            Apart::Bit(format!("node {node}"), turned(format!("word {word} of node {node}"), literals))
+        }
+        Difference::OutputBit(place) => {
+            let output = format!("output {}", place + 1);
+            Apart::Bit(output.clone(), turned(output, outputs(place)))
+        }
     }
 }
 
-/// A byte a node by rising index: the move that all moves made there come to. Where no moves lead from one graph to the other of
-/// the same wiring, the place that shows it first.
-pub fn moves(before: &Graph, after: &Graph) -> Result<Vec<u8>, String> {
-    let first = before.size.inputs + 1;
-    // By index: whether its readers turn.
-    let mut turns = vec![false; first as usize];
-    let left = |turns: &[bool], x: u32, y: u32| (x != y) != turns[x as usize / 2];
-    let mut moves = Vec::new();
-    for node in first..first + before.size.nodes {
-        let words = words_of(before, node).zip(words_of(after, node));
-        let own: Vec<bool> = words.map(|(x, y)| left(&turns, x, y)).collect();
-        let number = move_of(&own).ok_or_else(|| format!("node {node}"))?;
-        // A majority's move 1 turns its readers, an XOR's moves 2 and 3 do.
-        turns.push(if own.len() == 3 { number == 1 } else { number > 1 });
-        moves.push(number);
-    }
-    match (1..=before.size.outputs).find(|&at| left(&turns, output_of(before, at), output_of(after, at))) {
-        Some(at) => Err(format!("output {at}")),
-        None => Ok(moves),
+/// A byte a node by rising index: the move that all moves made there come to.
+pub fn moves(before: &Graph, after: &Graph) -> Result<Vec<u8>, Apart> {
+    match before.compare(after) {
+        Ok(Compared::Moves(moves)) => Ok(moves),
+        Ok(Compared::Differ(difference)) => Err(apart([before, after], difference)),
+        Err(refusal) => Err(Apart::Refused(refusal.to_string())),
     }
 }
 
@@ -84,12 +90,20 @@ mod tests {
     #[test]
     fn wirings() {
         let p3 = graph(5, &[3, 5, 6, 12, 9, 10], &[15]);
-        let differs = |inputs, node_table: &[u32], output_table: &[u32]| {
-            other_wiring(&p3, &graph(inputs, node_table, output_table)).unwrap_or_default()
+        let differs = |inputs, node_table: &[u32], output_table: &[u32]| match moves(
+            &p3,
+            &graph(inputs, node_table, output_table),
+        ) {
+            Err(Apart::Wiring(why)) => why,
+            other => format!("{other:?}"),
         };
-        assert_eq!(differs(5, &[2, 4, 7, 12, 8, 11], &[14]), "");
+        assert_eq!(differs(5, &[2, 4, 7, 12, 8, 11], &[14]), "Ok([1, 1])");
         assert_eq!(
             differs(5, &[3, 5, 6], &[15]),
+            "Err(Refused(\"refused 5: a literal names an index that is not allowed there\"))"
+        );
+        assert_eq!(
+            differs(5, &[3, 5, 6], &[13]),
             "5 inputs, 2 nodes, 1 output before and 5 inputs, 1 node, 1 output after"
         );
         assert_eq!(differs(5, &[3, 5, 6, 12, 9, MARK], &[15]), "node 7 is a majority before and an XOR after");
@@ -109,8 +123,12 @@ mod tests {
         assert_eq!(told(2, [&[3, 4, MARK], &[3, 5, MARK]], [&[7], &[6]]), Ok(vec![3]));
         assert_eq!(told(3, [&[3, 5, 6], &[2, 4, 7]], [&[9, 8], &[8, 9]]), Ok(vec![1]));
         // One word, or one reader, is turned and not the others.
-        assert_eq!(told(3, [&[3, 5, 6], &[2, 5, 6]], [&[9], &[9]]), Err("node 4".into()));
-        assert_eq!(told(3, [&[3, 5, 6], &[2, 4, 7]], [&[9, 8], &[8, 8]]), Err("output 2".into()));
-        assert_eq!(told(2, [&[3, 4, MARK], &[2, 4, MARK]], [&[7], &[7]]), Err("output 1".into()));
+        let bit = |place: &str, what: &str| Err(Apart::Bit(place.into(), what.into()));
+        let word = "word 2 of node 4 is complemented before and complemented after";
+        assert_eq!(told(3, [&[3, 5, 6], &[2, 5, 6]], [&[9], &[9]]), bit("node 4", word));
+        let output = "output 2 is plain before and plain after";
+        assert_eq!(told(3, [&[3, 5, 6], &[2, 4, 7]], [&[9, 8], &[8, 8]]), bit("output 2", output));
+        let output = "output 1 is complemented before and complemented after";
+        assert_eq!(told(2, [&[3, 4, MARK], &[2, 4, MARK]], [&[7], &[7]]), bit("output 1", output));
     }
 }

@@ -22,13 +22,15 @@ pub enum Command {
     Show,
     Preview,
     Apply,
+    Sheets,
+    Compare,
     Picture,
     Report,
     Class,
 }
 
 impl Command {
-    const ALL: [Command; 13] = [
+    const ALL: [Command; 15] = [
         Command::Settle,
         Command::Find,
         Command::Resistive,
@@ -39,6 +41,8 @@ impl Command {
         Command::Show,
         Command::Preview,
         Command::Apply,
+        Command::Sheets,
+        Command::Compare,
         Command::Picture,
         Command::Report,
         Command::Class,
@@ -60,6 +64,8 @@ impl Command {
             Command::Show => "show",
             Command::Preview => "preview",
             Command::Apply => "apply",
+            Command::Sheets => "sheets",
+            Command::Compare => "compare",
             Command::Picture => "picture",
             Command::Report => "report",
             Command::Class => "class",
@@ -79,6 +85,8 @@ impl Command {
             Command::Show => "looking at",
             Command::Preview => "previewing",
             Command::Apply => "making moves on",
+            Command::Sheets => "reading moves on",
+            Command::Compare => "comparing",
             Command::Picture => "drawing",
             Command::Report => "reporting on",
             Command::Class => "settling",
@@ -92,6 +100,14 @@ impl Command {
     /// Whether the format of the graph that it gives can be asked for.
     fn takes_format(self) -> bool {
         self.sets_locks() || matches!(self, Command::Settle | Command::Find | Command::Resistive | Command::Apply)
+    }
+
+    /// The exit status where it fails: of what answers by 0 and 1 another.
+    pub fn failed(self) -> u8 {
+        match self {
+            Command::Sheets | Command::Compare => 2,
+            _ => 1,
+        }
     }
 
     /// Whether it takes the root of a tree after FILE.
@@ -118,15 +134,17 @@ pub struct Work {
     pub all: bool,
     /// Whether a preview gives its moves alone.
     pub only_moves: bool,
-    /// Where the moves to make are listed; none is standard input.
+    /// Where the moves to make, or those of a sheet, are listed; none is standard input.
     pub moves: Option<PathBuf>,
+    /// The sheet beside it, if one is named.
+    pub other: Option<Option<PathBuf>>,
     /// What is drawn.
     pub wanted: Wanted,
     /// What Graphviz makes of a picture; none is DOT text.
     pub form: Option<Form>,
     /// Whether two graphs are drawn.
     pub compare: bool,
-    /// The second of them; none is standard input.
+    /// The second of two graphs; none is standard input.
     pub after: Option<PathBuf>,
     /// The files and folders of a class; none among them is standard input.
     pub files: Vec<Option<PathBuf>>,
@@ -147,6 +165,7 @@ impl Work {
             all: false,
             only_moves: false,
             moves: None,
+            other: None,
             wanted: Wanted::Whole,
             form: None,
             compare: false,
@@ -261,6 +280,29 @@ fn put_moves(work: &mut Work, mut words: impl Iterator<Item = OsString>) -> Resu
     no_more(words)
 }
 
+/// Puts SHEET and, if there is one, OTHER, after FILE.
+fn put_sheets(work: &mut Work, mut words: impl Iterator<Item = OsString>) -> Result<(), String> {
+    let sheet = words.next().ok_or("SHEET is missing after FILE: a file with lines of a node's index and its move")?;
+    work.moves = file(sheet);
+    work.other = words.next().map(file);
+    let none = [work.input.is_none(), work.moves.is_none(), work.other == Some(None)];
+    if none.into_iter().filter(|&none| none).count() > 1 {
+        return Err("only one of FILE, SHEET and OTHER can be standard input".into());
+    }
+    no_more(words)
+}
+
+/// Puts AFTER, the one word after BEFORE.
+fn put_after(work: &mut Work, mut words: impl Iterator<Item = OsString>) -> Result<(), String> {
+    let name = if work.compare { "--compare" } else { "compare" };
+    let word = words.next().ok_or_else(|| format!("{name} wants BEFORE and AFTER"))?;
+    work.after = file(word);
+    if work.input.is_none() && work.after.is_none() {
+        return Err("only one of BEFORE and AFTER can be standard input".into());
+    }
+    no_more(words)
+}
+
 /// That no word is left.
 fn no_more(mut words: impl Iterator<Item = OsString>) -> Result<(), String> {
     words.next().map_or(Ok(()), |word| Err(format!("{} is one word too many", word.to_string_lossy())))
@@ -331,18 +373,17 @@ fn put_plain(work: &mut Work, plain: Vec<OsString>) -> Result<(), String> {
     if work.command.sets_locks() {
         return put_nodes(work, plain);
     }
-    if work.command == Command::Apply {
-        return put_moves(work, plain);
+    match work.command {
+        Command::Apply => return put_moves(work, plain),
+        Command::Sheets => return put_sheets(work, plain),
+        Command::Compare => return put_after(work, plain),
+        _ if work.compare => return put_after(work, plain),
+        _ => {}
     }
     match plain.next() {
         Some(word) if work.command.takes_root() => work.root = Some(root_named(&word.to_string_lossy())?),
-        Some(word) if work.compare => work.after = file(word),
         Some(_) => return Err("FILE is given twice".into()),
-        None if work.compare => return Err("--compare wants BEFORE and AFTER".into()),
         None => {}
-    }
-    if work.compare && work.input.is_none() && work.after.is_none() {
-        return Err("only one of BEFORE and AFTER can be standard input".into());
     }
     no_more(plain)
 }
@@ -539,6 +580,23 @@ mod tests {
     }
 
     #[test]
+    fn sheets_and_two_graphs() {
+        let path = |name: Option<&str>| name.map(PathBuf::from);
+        let sheets = |input, moves, other: Option<Option<&str>>| {
+            let (input, moves, other) = (path(input), path(moves), other.map(path));
+            Ok(Asked::Work(Work { input, moves, other, ..Work::of(Command::Sheets) }))
+        };
+        assert_eq!(of(&["sheets", "a", "b"]), sheets(Some("a"), Some("b"), None));
+        assert_eq!(of(&["sheets", "-", "b", "c"]), sheets(None, Some("b"), Some(Some("c"))));
+        assert_eq!(of(&["sheets", "a", "b", "-"]), sheets(Some("a"), Some("b"), Some(None)));
+        let compare = |input, after| {
+            Ok(Asked::Work(Work { input: path(input), after: path(after), ..Work::of(Command::Compare) }))
+        };
+        assert_eq!(of(&["compare", "a", "b"]), compare(Some("a"), Some("b")));
+        assert_eq!(of(&["compare", "-", "b"]), compare(None, Some("b")));
+    }
+
+    #[test]
     fn what_is_compared() {
         let compared = |input: Option<&str>, after: Option<&str>| {
             let (input, after) = (input.map(PathBuf::from), after.map(PathBuf::from));
@@ -620,6 +678,17 @@ mod tests {
             &["apply", "a", "b", "--moves"],
             &["apply", "a", "b", "--to", "dot"],
             &["apply", "a", "b", "--root", "7"],
+            &["sheets"],
+            &["sheets", "a"],
+            &["sheets", "-", "-"],
+            &["sheets", "a", "-", "-"],
+            &["sheets", "a", "b", "c", "d"],
+            &["sheets", "a", "b", "--to", "tagged"],
+            &["compare"],
+            &["compare", "a"],
+            &["compare", "-", "-"],
+            &["compare", "a", "b", "c"],
+            &["compare", "a", "b", "--compare"],
             &["class"],
             &["class", "-", "a", "-"],
             &["class", "a", "--csv", "--json"],

@@ -1,0 +1,52 @@
+//! What `panjerov compare` and `panjerov sheets` tell.
+
+use crate::files::{self, Input};
+use crate::formats;
+use crate::locks;
+use crate::sheets;
+use crate::turned::{self, Apart};
+use crate::words::Work;
+use crate::Given;
+use reducer::Graph;
+
+/// The lines beside the moves: both counts, how far the second graph is from settled, and what is to be said of locks.
+fn figures(graphs: [&Graph; 2], names: [&str; 2], moves: &[u8]) -> Result<Vec<String>, String> {
+    let counted = |graph: &Graph| graph.complemented_edges().map_err(|refusal| refusal.to_string());
+    let [before, after] = [counted(graphs[0])?, counted(graphs[1])?];
+    let settled = graphs[1].clone().settle().map_err(|refusal| refusal.to_string())?;
+    let (saving, left) = (i64::from(before) - i64::from(after), settled.before - settled.after);
+    let moved = moves.iter().filter(|&&number| number != 0).count();
+    let figures = format!("before {before} after {after} saving {saving} moved {moved} left {left}");
+    let told = [locks::differ(graphs, names), locks::turned(graphs[0], moves, names[0])];
+    Ok([Some(figures)].into_iter().chain(told).flatten().collect())
+}
+
+/// The moves that lead from a graph to another, or the first place that no moves explain.
+pub fn compare(asked: &Work, before: &Input, first: &Graph) -> Result<Given, String> {
+    let after = files::read(asked.after.as_deref())?;
+    let (second, _) = formats::graph_of(&after)?;
+    let names = [&before.name[..], &after.name];
+    match turned::moves(first, &second) {
+        Ok(moves) => {
+            let lines = figures([first, &second], names, &moves)?;
+            Ok(Given { bytes: sheets::list_of(first, &moves).into_bytes(), lines, status: 0 })
+        }
+        Err(Apart::Wiring(why)) => Ok(Given::different(format!("other wiring: {why}"))),
+        Err(Apart::Bit(_, what)) => Ok(Given::different(format!("no moves: {what}"))),
+        Err(Apart::Refused(why)) => Err(why),
+    }
+}
+
+/// The short form of a sheet, or whether two end in the same graph.
+pub fn sheets(asked: &Work, graph: &Graph) -> Result<Given, String> {
+    let sheet = files::read_moves(asked.moves.as_deref())?;
+    let Some(other) = &asked.other else {
+        let (text, line) = sheets::short(graph, &sheet)?;
+        return Ok(Given { bytes: text.into_bytes(), lines: vec![line], status: 0 });
+    };
+    let other = files::read_moves(other.as_deref())?;
+    Ok(match sheets::first_difference(graph, [&sheet, &other])? {
+        None => Given { bytes: b"same\n".to_vec(), lines: vec![], status: 0 },
+        Some(why) => Given::different(why),
+    })
+}
