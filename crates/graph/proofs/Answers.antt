@@ -14,7 +14,7 @@ use Rattle.graph.proofs.Tests.{equal, unequal}
 use Rattle.graph.specs.Answer.{Answer, Outcome, LockedOutcome, numberOf, refused, outcome, lockedOutcome, unless, guarded, guardedLocks}
 use Rattle.graph.specs.Inner.{IsRefusal}
 use Rattle.graph.specs.declared.Refusal.{Refusal}
-use Rattle.graph.specs.declared.Refusal.the-variants.{MissingBytes, WrongField, OverLimit, ShortSlice, BadLiteral, ExtraBytes, NoSuchNode, ShortScratch, ShortBuffer, BadText, HasLatches, WrongNumbering, BadLock, NotRising, NoSuchMove, LockedNode}
+use Rattle.graph.specs.declared.Refusal.the-variants.{MissingBytes, WrongField, OverLimit, ShortSlice, BadLiteral, ExtraBytes, NoSuchNode, ShortScratch, ShortBuffer, BadText, HasLatches, WrongNumbering, BadLock, NotRising, NoSuchMove, LockedNode, ManyInputs, BadWanted, StagesDiffer}
 
 -- no refusal has the number 0
 pub number-some : (r : Refusal) → numberOf r ≡ 0 → ⊥
@@ -34,6 +34,9 @@ number-some BadLock e = omega arith
 number-some NotRising e = omega arith
 number-some NoSuchMove e = omega arith
 number-some LockedNode e = omega arith
+number-some ManyInputs e = omega arith
+number-some BadWanted e = omega arith
+number-some StagesDiffer e = omega arith
 
 -- a call that is refused by k, and one that is not
 pub refused-is : (k m : ℕ) (a : Answer) → k ≡ m → (m ≡ 0 → ⊥) → refused k ≡ unless m a

@@ -1,7 +1,7 @@
 -- What calls answer: document 01's number, and the values returned.
 use Rattle.graph.specs.Words.{ℕ, zero, suc, _≡_, List, [], _∷_, getD, ℤ, pos, _+ℤ_}
 use Rattle.graph.specs.{Graph.Graph, declared.Refusal.Refusal, declared.Admission.Admission, declared.Count.Count}
-use Rattle.graph.specs.declared.Refusal.the-variants.{MissingBytes, WrongField, OverLimit, ShortSlice, BadLiteral, ExtraBytes, NoSuchNode, ShortScratch, ShortBuffer, BadText, HasLatches, WrongNumbering, BadLock, NotRising, NoSuchMove, LockedNode}
+use Rattle.graph.specs.declared.Refusal.the-variants.{MissingBytes, WrongField, OverLimit, ShortSlice, BadLiteral, ExtraBytes, NoSuchNode, ShortScratch, ShortBuffer, BadText, HasLatches, WrongNumbering, BadLock, NotRising, NoSuchMove, LockedNode, ManyInputs, BadWanted, StagesDiffer}
 use Rattle.graph.specs.declared.Admission.the-variants as admission
 use Rattle.graph.specs.declared.Count.the-variants as counted
 
@@ -23,6 +23,9 @@ numberOf BadLock = 13
 numberOf NotRising = 14
 numberOf NoSuchMove = 15
 numberOf LockedNode = 16
+numberOf ManyInputs = 17
+numberOf BadWanted = 18
+numberOf StagesDiffer = 19
 
 -- a call's answer: the number, 0 where it is accepted, and the values that it then returns beside it, with the signed ones apart
 pub record Answer : Type 0 where

@@ -122,4 +122,4 @@ pub record BitsPut (f : ℕ → ℕ) (bs ds : List ℕ) (n : ℕ) : Type 0 where
 
 -- the numbers that refusals have
 abbrev pub IsRefusal : ℕ → Type 0
-IsRefusal k = (1 ≤ k) × (k ≤ 16)
+IsRefusal k = (1 ≤ k) × (k ≤ 19)

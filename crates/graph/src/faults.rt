@@ -399,7 +399,10 @@ pub fn refused_by(number: u32) -> Refusal
         13 => Refusal::BadLock,
         14 => Refusal::NotRising,
         15 => Refusal::NoSuchMove,
-        _ => Refusal::LockedNode,
+        16 => Refusal::LockedNode,
+        17 => Refusal::ManyInputs,
+        18 => Refusal::BadWanted,
+        _ => Refusal::StagesDiffer,
     }
 }
 
@@ -423,5 +426,8 @@ pub fn number_of(refusal: Refusal) -> u32
         Refusal::NotRising => 14,
         Refusal::NoSuchMove => 15,
         Refusal::LockedNode => 16,
+        Refusal::ManyInputs => 17,
+        Refusal::BadWanted => 18,
+        Refusal::StagesDiffer => 19,
     }
 }

@@ -30,6 +30,9 @@ pub enum Refusal {
     NotRising,
     NoSuchMove,
     LockedNode,
+    ManyInputs,
+    BadWanted,
+    StagesDiffer,
 }
 
 // What the admission check answers.

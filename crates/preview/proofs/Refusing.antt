@@ -20,13 +20,13 @@ use Rattle.tree_call.proofs.Refused.{tree-range, accepted-by}
 use Rattle.preview.specs.Preview.{movesTold, previewNumber, previewAnswer, previewBytes}
 
 module _ (g : Graph) (ls : List ℕ) (b s r : ℕ) where
-  tree-le : treeNumber g ls s r ≤ 16
+  tree-le : treeNumber g ls s r ≤ 19
   tree-le =
       ⊎-elim (λ (e : treeNumber g ls s r ≡ 0). omega (arith, e)) (λ (e : treeNumber g ls s r ≢ 0). tree-range g ls s r (treeNumber g ls s r) refl e .1) (eq-or-ne (treeNumber g ls s r) 0)
 
-  preview-le : previewNumber g ls b s r ≤ 16
+  preview-le : previewNumber g ls b s r ≤ 19
   unfolding previewNumber
-  preview-le = first-le _ _ 16 (omega (arith, tables-le g ls)) (first-le _ _ 16 (ifLess-le b (g .N) 4 0 16 (omega arith) (omega arith)) tree-le)
+  preview-le = first-le _ _ 19 (omega (arith, tables-le g ls)) (first-le _ _ 19 (ifLess-le b (g .N) 4 0 19 (omega arith) (omega arith)) tree-le)
 
   -- what `refused_by` asks of the number
   pub preview-range : (k : ℕ) → k ≡ previewNumber g ls b s r → k ≢ 0 → IsRefusal k
