@@ -34,7 +34,7 @@ bit-low-at : (d j n : ℕ) → bit j (n % 2 ^ (d + 1 + j)) ≡ bit j n
 unfolding bit
 bit-low-at d j n = ap (λ (x : ℕ). x % 2) (field n (d + 1) j) ∙ mod-mod-pow (n / 2 ^ j) d 1
 
-bit-low : (j k n : ℕ) → j < k → bit j (n % 2 ^ k) ≡ bit j n
+pub bit-low : (j k n : ℕ) → j < k → bit j (n % 2 ^ k) ≡ bit j n
 bit-low j k n h = let e : k - suc j + 1 + j ≡ k = omega arith in rw e at (bit-low-at (k - suc j) j n)
 
 bit-top : (b x k : ℕ) → b < 2 → x < 2 ^ k → bit k (b * 2 ^ k + x) ≡ b
@@ -47,7 +47,7 @@ below-twice (suc zero) x p h l = omega arith
 below-twice (suc (suc b)) x p h l = absurd (omega arith)
 
 module _ (f : ℕ → ℕ) (bits : (j : ℕ) → f j < 2) where
-  gather-lt : (k : ℕ) → gather f k < 2 ^ k
+  pub gather-lt : (k : ℕ) → gather f k < 2 ^ k
   unfolding gather
   gather-lt zero = omega arith
   gather-lt (suc k) = omega (arith, below-twice (f k) (gather f k) (2 ^ k) (bits k) (gather-lt k), pow-suc 2 k)

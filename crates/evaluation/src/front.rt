@@ -12,8 +12,8 @@ ghost use Rattle.evaluation.specs.Inner.{byIndex, column, literalWord, n
 use crate::values;
 use graph::table;
 
-// Fills in the words of the constant and the inputs.
-fn fill_low(inputs: u32, input_words: &[u64], scratch: &mut [u64])
+// Fills in the words of the constant and the inputs, each at its index.
+pub fn fill_low(inputs: u32, input_words: &[u64], scratch: &mut [u64])
     requires { ⌜ (inputs ≤ length (now «input_words»)) × (inputs < length (now scratch)) ⌝ }
     ensures { λ _. ⌜ take (inputs + 1) (now (scratch .exit)) ≡ byIndex inputs (now («input_words» .entry)) [] ⌝ }
 {
@@ -78,21 +78,28 @@ fn front_node(inputs: u32, node_table: &[u32], node_bits: &[u64], v: usize, scra
     scratch[end] = w;
 }
 
-// The same of the first nodes.
-fn front_nodes(inputs: u32, many: usize, node_table: &[u32], node_bits: &[u64], scratch: &mut [u64])
+// The same of the nodes from one on, up to another.
+pub fn front_nodes(
+    inputs: u32,
+    begin: usize,
+    end: usize,
+    node_table: &[u32],
+    node_bits: &[u64],
+    scratch: &mut [u64],
+)
     requires { let l = literals (now «node_table») (now «node_bits») in
-        ⌜ (many ≤ 100000) × (inputs + 1 + many ≤ length (now scratch)) × ((v : ℕ) → v < many → NodeBelow inputs l v) ⌝ }
+        ⌜ (end ≤ 100000) × (inputs + 1 + end ≤ length (now scratch)) × ((v : ℕ) → v < end → NodeBelow inputs l v) × (begin ≤ end) ⌝ }
     ensures { λ _.
         let l = literals (now («node_table» .entry)) (now («node_bits» .entry)) in
-        ⌜ ((n : ℕ) (ws : List ℕ) → Front (nodesOf inputs n l) ws (now (scratch .entry)) 0 → Front (nodesOf inputs n l) ws (now (scratch .exit)) many) ⌝ }
+        ⌜ ((n : ℕ) (ws : List ℕ) → Front (nodesOf inputs n l) ws (now (scratch .entry)) begin → Front (nodesOf inputs n l) ws (now (scratch .exit)) end) ⌝ }
 {
-    for v in 0..many {
+    for v in begin..end {
         front_node(inputs, node_table, node_bits, v, scratch);
     }
 }
 
 // Moves so many words, from place `first` on, to the front.
-fn shift(first: usize, many: usize, scratch: &mut [u64])
+pub fn shift(first: usize, many: usize, scratch: &mut [u64])
     requires { ⌜ first + many ≤ length (now scratch) ⌝ }
     ensures { λ _. ⌜ take many (now (scratch .exit)) ≡ take many (drop first (now (scratch .entry))) ⌝ }
 {
@@ -122,7 +129,7 @@ pub fn fill_front(
     }
     let many = (nodes - inputs - 1) as usize;
     fill_low(inputs, input_words, scratch);
-    front_nodes(inputs, many, node_table, node_bits, scratch);
+    front_nodes(inputs, 0, many, node_table, node_bits, scratch);
     shift(inputs as usize + 1, many, scratch);
     many
 }

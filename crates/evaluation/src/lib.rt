@@ -6,9 +6,9 @@ ghost use Rattle.graph.specs.Literals.{before, after, graphBefore};
 ghost use Rattle.evaluation.specs.Evaluation.{evaluateNumber, resultsAfter, evaluatedAnswer};
 
 mod faults;
-mod front;
+pub mod front;
 mod results;
-mod values;
+pub mod values;
 
 // What an evaluation answers.
 pub enum Evaluated {

@@ -33,7 +33,8 @@ fn exclusive_word(x: u64, y: u64) -> u64
     x ^ y
 }
 
-fn index_word(inputs: u32, input_words: &[u64], node_words: &[u64], index: u32) -> u64
+// The word of an index, from those of the inputs and of the nodes so far.
+pub fn index_word(inputs: u32, input_words: &[u64], node_words: &[u64], index: u32) -> u64
     requires { ⌜ (inputs ≤ length (now «input_words»)) × (index < inputs + 1 + length (now «node_words»)) ⌝ }
     ensures { λ r. ⌜ r ≡ getD (byIndex inputs (now («input_words» .entry)) (now («node_words» .entry))) index 0 ⌝ }
 {
@@ -193,7 +194,7 @@ fn fill_node(
 }
 
 // Fills in the words of the nodes from the one on where these begin.
-fn fill_rest(
+pub fn fill_rest(
     inputs: u32,
     nodes: u32,
     begin: usize,

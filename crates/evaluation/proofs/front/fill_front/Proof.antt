@@ -21,7 +21,7 @@ front-nodes-requires c κs =
     let f = c .before .before .before in
     let i = f .before .before in
     let s = i .before .before .before .before .before in
-    (omega (arith, s .pre .2), omega (arith, s .pre .1, f .fill-low .kept .1 .1 .0, i .if1 .left), λ v h. s .pre .3 v (omega (arith, i .if1 .left)))
+    (omega (arith, s .pre .2), omega (arith, s .pre .1, f .fill-low .kept .1 .1 .0, i .if1 .left), λ v h. s .pre .3 v (omega (arith, i .if1 .left)), omega arith)
 
 returns-2 : tie.Need-returns-2
 returns-2 c =
@@ -34,7 +34,7 @@ returns-2 c =
       omega (arith, i .if1 .left),
       λ n.
           let g : Graph = nodesOf (a .inputs) n (literals (a .node-table .now) (a .node-bits .now)) in
-          front-moved g (a .input-words .now) (t .front-nodes .last .1 .1 .1 .1 .0) (a .nodes - a .inputs - 1) (m .shift .last .1 .1 .0)
+          front-moved g (a .input-words .now) (t .front-nodes .last .1 .1 .1 .1 .1 .0) (a .nodes - a .inputs - 1) (m .shift .last .1 .1 .0)
           (t .front-nodes .ensures n (a .input-words .now) (front-none g (a .input-words .now) (f .fill-low .last .1 .1 .0) (s .pre .0) (f .fill-low .ensures))) (m .shift .ensures),
     )
 

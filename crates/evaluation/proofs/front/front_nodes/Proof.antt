@@ -10,12 +10,12 @@ use Rattle.evaluation.proofs.front.front_nodes.Statement.{statement}
 use Rattle.evaluation.proofs.front.front_nodes.Tie as tie
 
 abbrev Inv-loop : tie.InvT-loop
-Inv-loop inputs many node-table node-bits scratch₀ v₀ scratch v =
-    (v ≤ many) × (length scratch ≡ length scratch₀)
-    × ((n : ℕ) (ws : List ℕ) → Front (nodesOf inputs n (literals node-table node-bits)) ws scratch₀ 0 → Front (nodesOf inputs n (literals node-table node-bits)) ws scratch v)
+Inv-loop inputs begin end node-table node-bits scratch₀ v₀ scratch v =
+    (v ≤ end) × (length scratch ≡ length scratch₀)
+    × ((n : ℕ) (ws : List ℕ) → Front (nodesOf inputs n (literals node-table node-bits)) ws scratch₀ begin → Front (nodesOf inputs n (literals node-table node-bits)) ws scratch v)
 
 abbrev μ-loop : tie.MeasureT-loop
-μ-loop inputs many node-table node-bits scratch₀ v₀ scratch v = many - v
+μ-loop inputs begin end node-table node-bits scratch₀ v₀ scratch v = end - v
 
 front-node-requires : tie.Need-front-node-requires Inv-loop μ-loop
 front-node-requires c κs =
@@ -33,7 +33,7 @@ returns : tie.Need-returns Inv-loop μ-loop
 returns c n ws h =
     let l = c .before in
     let a = l .before .before .before .before .args in
-    let e : l .loop .v ≡ a .many = omega arith in
+    let e : l .loop .v ≡ a .end = omega arith in
     subst (λ (i : ℕ). Front (nodesOf (a .inputs) n (literals (a .node-table .now) (a .node-bits .now))) ws (l .loop .scratch) i) e (l .loop .inv .2 n ws h)
 
 pub front-nodes-spec : {M : Type 1} → statement M

@@ -1,0 +1,9 @@
+pub mod Least
+pub mod Numbers
+pub mod Same
+pub mod Blocks
+pub mod Searching
+pub mod Refusing
+pub mod LeastOf
+pub mod Worked
+pub mod Promises
