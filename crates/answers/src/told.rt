@@ -5,6 +5,7 @@ ghost use Rattle.graph.specs.Answer.{accepted, unless, countAnswer};
 ghost use Rattle.tagged_file.specs.Load.{loadedAnswer};
 ghost use Rattle.tagged_file.specs.Write.{writtenAnswer};
 ghost use Rattle.evaluation.specs.Evaluation.{evaluatedAnswer};
+ghost use Rattle.assignment.specs.Assignment.{assignedAnswer};
 ghost use Rattle.moves.specs.Call.{savingAnswer, gainAnswer};
 ghost use Rattle.settling.specs.Settle.{settledAnswer};
 ghost use Rattle.hidden.specs.Call.{majorityAnswer, foundAnswer};
@@ -86,6 +87,27 @@ pub fn evaluated_number(answer: evaluation::Evaluated) -> u32
     match answer {
         evaluation::Evaluated::Done => 0,
         evaluation::Evaluated::Refused(refusal) => graph::faults::number_of(refusal),
+    }
+}
+
+pub fn assigned_number(answer: assignment::Assigned) -> u32
+    ensures { λ r. ⌜ r ≡ assignedAnswer answer .number ⌝ }
+{
+    match answer {
+        assignment::Assigned::At(_) => 0,
+        assignment::Assigned::Nothing => 0,
+        assignment::Assigned::Refused(refusal) => graph::faults::number_of(refusal),
+    }
+}
+
+// 1 and the assignment's number, or 0 and 0 where none gives the pattern.
+pub fn assigned_told(answer: assignment::Assigned, before: [u32; 2]) -> [u32; 2]
+    ensures { λ r. ⌜ r ≡ told (assignedAnswer answer) before ⌝ }
+{
+    match answer {
+        assignment::Assigned::At(number) => [1, number],
+        assignment::Assigned::Nothing => [0, 0],
+        assignment::Assigned::Refused(_) => before,
     }
 }
 
