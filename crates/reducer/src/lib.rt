@@ -14,6 +14,7 @@ ghost use Rattle.tagged_file.specs.Write.{writeCall};
 ghost use Rattle.aiger.specs.Import.{importCall};
 ghost use Rattle.aiger.specs.Export.{exportCall};
 ghost use Rattle.evaluation.specs.Evaluation.{evaluateNumber, resultsAfter};
+ghost use Rattle.assignment.specs.Assignment.{assignmentCall};
 ghost use Rattle.moves.specs.Call.{nodeCall, pairCall, treeCall, trialCall};
 ghost use Rattle.preview.specs.Preview.{previewAnswer, previewBytes};
 ghost use Rattle.resistive.specs.Resistive.{resistiveCall};
@@ -210,6 +211,46 @@ pub extern "C" fn reducer_evaluate(
         scratch,
         results,
     ))
+}
+
+// The least assignment that gives the pattern `wanted`, a byte an output: 0, 1, or 2 for either. `found` is 1 and its number, or 0 and 0 where none does.
+#[no_mangle]
+pub extern "C" fn reducer_assignment(
+    inputs: u32,
+    nodes: u32,
+    outputs: u32,
+    node_table: &[u32],
+    node_bits: &[u64],
+    output_table: &[u32],
+    output_bits: &[u64],
+    locks: &[u8],
+    wanted: &[u8],
+    scratch: &mut [u64],
+    found: &mut [u32; 2],
+) -> u32
+    ensures found { λ r.
+        let g = graphBefore inputs nodes outputs «node_table» «node_bits» «output_table» «output_bits» in
+        let a = assignmentCall g (before locks) (before wanted) (length (before scratch)) in
+        ⌜ (r ≡ a .number) × (after found ≡ told a (before found)) ⌝ }
+    ensures scratch { λ r.
+        let g = graphBefore inputs nodes outputs «node_table» «node_bits» «output_table» «output_bits» in
+        let a = assignmentCall g (before locks) (before wanted) (length (before scratch)) in
+        ⌜ ScratchKept a (before scratch) (after scratch) ⌝ }
+{
+    let answer = assignment::find_assignment(
+        inputs,
+        nodes,
+        outputs,
+        node_table,
+        node_bits,
+        output_table,
+        output_bits,
+        locks,
+        wanted,
+        scratch,
+    );
+    *found = answers::told::assigned_told(answer, *found);
+    answers::told::assigned_number(answer)
 }
 
 // How many edges are complemented: document 01's C.
