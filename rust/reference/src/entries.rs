@@ -9,7 +9,7 @@ use crate::packed::{
 };
 use crate::replay::{calls_of, told, Words};
 use crate::settling::{settle, Settled};
-use crate::{aiger, calls, class, evaluation, file, moves, preview};
+use crate::{aiger, assignment, calls, class, evaluation, file, moves, preview};
 
 /// The graph that is held, where 3, 4, 5 or 13 does not refuse it; `short` is a slice of the call's own, whose 4 is told with that of
 /// the tables.
@@ -127,4 +127,10 @@ pub fn class(p: &mut Packed, scratch: usize, book: &mut [u64]) -> Result<Settled
     p.put(&after);
     class::enter(book, class::row_of(&before, &after, settled));
     Ok(settled)
+}
+
+/// The number of the least assignment that gives a pattern, or that none does. 4 for the pattern comes with that of the tables.
+pub fn assignment(p: &Packed, wanted: &[u8], scratch: usize) -> Result<Option<u32>, Number> {
+    let short = wanted.len() < p.outputs as usize;
+    assignment::assignment(&graph_of(p, short)?, wanted, scratch)
 }

@@ -5,6 +5,7 @@
 //! hold it to the plain one. Its answers are what the proved crates are run against.
 
 pub mod aiger;
+pub mod assignment;
 pub mod buried;
 pub mod calls;
 pub mod class;
@@ -31,6 +32,8 @@ pub mod vectors;
 
 #[cfg(test)]
 mod aiger_tests;
+#[cfg(test)]
+mod assignment_tests;
 #[cfg(test)]
 mod class_tests;
 #[cfg(test)]
