@@ -3,6 +3,8 @@
 //! `plain` is a reducer in ordinary Rust by the same algorithms as the proved one: what the benchmark times it against, and
 //! a fast second opinion on graphs that are too large for the crate `reference`, to which it is itself held on small ones.
 
+pub mod assignment;
+pub mod assignment_faults;
 pub mod bit_faults;
 pub mod call_faults;
 pub mod cases;

@@ -19,10 +19,10 @@ const LONG_CANARY: usize = 0xa5a5_a5a5_a5a5;
 const SIGNED_CANARY: i64 = -0x5a5a_5a5a_5a5a;
 
 /// The numbers that a call can return, 0 for an accepted one.
-pub const NUMBERS: [u32; 20] = [0, 1, 2, 3, 4, 5, 6, 7, 8, 9, 10, 11, 12, 13, 14, 15, 16, 101, 102, 105];
+pub const NUMBERS: [u32; 22] = [0, 1, 2, 3, 4, 5, 6, 7, 8, 9, 10, 11, 12, 13, 14, 15, 16, 17, 18, 101, 102, 105];
 
 /// How often each of them was returned.
-pub static MET: [AtomicU64; 20] = [const { AtomicU64::new(0) }; 20];
+pub static MET: [AtomicU64; 22] = [const { AtomicU64::new(0) }; 22];
 
 /// What a call answered, or what was wrong with how it answered.
 pub type Answered<T> = Result<Result<T, u32>, String>;
@@ -186,6 +186,23 @@ pub fn evaluate(g: &Packed, input_words: &[u64], scratch: usize, results: &mut [
     left("the results", number, &before, results)?;
     left("scratch", number, &vec![u64::from(CANARY); scratch], &lent)?;
     answered(number, (), ())
+}
+
+/// The number of the least assignment that gives a pattern, if one does.
+pub fn assignment(g: &Packed, wanted: &[u8], scratch: usize) -> Answered<Option<u32>> {
+    let mut found = [CANARY; 2];
+    let mut lent = vec![u64::from(CANARY); scratch];
+    let call = |g: &mut Packed| {
+        on_graph!(reducer_assignment, g, wanted.as_ptr(), wanted.len(), lent.as_mut_ptr(), lent.len(), &mut found)
+    };
+    let number = read(g, call)?;
+    left("scratch", number, &vec![u64::from(CANARY); scratch], &lent)?;
+    match answered(number, found, [CANARY; 2])? {
+        Ok([1, number]) => Ok(Ok(Some(number))),
+        Ok([0, 0]) => Ok(Ok(None)),
+        Ok(found) => Err(format!("an assignment found as {found:?}")),
+        Err(number) => Ok(Err(number)),
+    }
 }
 
 pub fn count(g: &Packed) -> Answered<u32> {

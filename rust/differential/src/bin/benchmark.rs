@@ -3,6 +3,7 @@
 use differential::timing::families::{Family, FAMILIES, HARD};
 use differential::timing::found;
 use differential::timing::pairs::Moved;
+use differential::timing::patterns::Pattern;
 use differential::timing::races::{call, time, Call, Figure, Side};
 use differential::timing::samples::Sample;
 use differential::timing::single::race;
@@ -182,6 +183,18 @@ fn compared() {
     }
 }
 
+const ASSIGNMENT: &str = "assignment";
+
+/// A pattern that none of the assignments of 16 inputs gives: 1,024 passes.
+fn assigned() {
+    println!("{SINGLE_HEAD}");
+    for (name, shape) in SHAPES {
+        let fresh = Pattern::new(shape, 100_000);
+        let times = race(name, &fresh, [proved::assignment, plain::assignment], |_| ());
+        print_single(ASSIGNMENT, name, fresh.g.nodes, 1, times);
+    }
+}
+
 const BEFORE: &str = "before";
 
 const HEAD: &str = "| call | graph | nodes | proved, µs | plain, µs | proved, ns a node | plain, ns a node | \
@@ -219,6 +232,9 @@ fn main() {
     }
     if chosen(COMPARE) {
         compared();
+    }
+    if chosen(ASSIGNMENT) {
+        assigned();
     }
     if chosen(BEFORE) {
         before_and_after();

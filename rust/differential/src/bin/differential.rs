@@ -9,9 +9,9 @@ use differential::cases::{Case, Step};
 use differential::extremes::{self, EXTREMES, LOCKED};
 use differential::shrink::{hold, Check};
 use differential::{
-    bit_faults, call_faults, class, class_faults, compare, compare_faults, exports, faults, files, hidden,
-    hidden_faults, lengths, lists, lock_fields, many, many_faults, preview_faults, previews, raw, replay_faults,
-    replays, resistive, savings, stored, text_limits, texts, trial_faults, trials, words,
+    assignment, assignment_faults, bit_faults, call_faults, class, class_faults, compare, compare_faults, exports,
+    faults, files, hidden, hidden_faults, lengths, lists, lock_fields, many, many_faults, preview_faults, previews,
+    raw, replay_faults, replays, resistive, savings, stored, text_limits, texts, trial_faults, trials, words,
 };
 use reference::calls::Call;
 use reference::generate::{graph, locked_one_in, moves_of, with_locks, Shape, SHAPES};
@@ -21,7 +21,7 @@ use reference::random::Random;
 /// What one kind of test does with a seed: how many cases it tried, or what failed.
 type Kind = (&'static str, u64, fn(u64) -> Result<u64, String>);
 
-const KINDS: [Kind; 63] = [
+const KINDS: [Kind; 67] = [
     ("stored cases of single calls and evaluation", 1, stored),
     ("the plain implementation, lists of calls", 30_000, plain_lists),
     ("lists of calls on small graphs", 80_000, small_lists),
@@ -85,6 +85,10 @@ const KINDS: [Kind; 63] = [
     ("graphs compared over several words of bits", 400, compared_longer),
     ("graphs compared with every choice of faults of known numbers", 1, faulty_comparisons),
     ("graphs of thousands of nodes compared", 12, compared_large),
+    ("assignments for wanted outputs", 80_000, assigned),
+    ("assignments of up to 16 inputs", 600, assigned_longer),
+    ("assignments with every choice of faults of known numbers", 1, faulty_assignments),
+    ("assignments on thousands of nodes", 16, assigned_large),
 ];
 
 fn stored(_: u64) -> Result<u64, String> {
@@ -462,6 +466,24 @@ fn compared_large(seed: u64) -> Result<u64, String> {
         .map_err(|wrong| format!("seed {seed}: {wrong}"))
 }
 
+fn assigned(seed: u64) -> Result<u64, String> {
+    hold(seed, assignment::random_case(seed), &assignment::check_case)?;
+    Ok(1)
+}
+
+fn assigned_longer(seed: u64) -> Result<u64, String> {
+    hold(seed, assignment::longer_case(seed), &assignment::check_case)?;
+    Ok(1)
+}
+
+fn faulty_assignments(_: u64) -> Result<u64, String> {
+    assignment_faults::check_faults()
+}
+
+fn assigned_large(seed: u64) -> Result<u64, String> {
+    assignment::check_large(seed).map_err(|wrong| format!("seed {seed}: {wrong}"))
+}
+
 fn run(kind: &Kind, only: Option<u64>) -> Result<u64, String> {
     let (name, seeds, test) = *kind;
     let start = Instant::now();
@@ -503,7 +525,8 @@ fn main() -> ExitCode {
         let met = all_met().and_then(|()| trials::all_met()).and_then(|()| savings::all_met());
         let met = met.and_then(|()| previews::all_met()).and_then(|()| many::all_met());
         let met = met.and_then(|()| hidden::all_met()).and_then(|()| resistive::all_met());
-        if let Err(wrong) = met.and_then(|()| class::all_met()).and_then(|()| compare::all_met()) {
+        let met = met.and_then(|()| class::all_met()).and_then(|()| compare::all_met());
+        if let Err(wrong) = met.and_then(|()| assignment::all_met()) {
             println!("{wrong}");
             failed += 1;
         }

@@ -1,6 +1,7 @@
 //! The reducer in plain Rust: the same algorithms as the proved one's, written without thought of proof.
 
 pub mod aiger;
+pub mod assignment;
 pub mod bits;
 pub mod calls;
 pub mod class;

@@ -8,6 +8,7 @@
 pub mod families;
 pub mod found;
 pub mod pairs;
+pub mod patterns;
 pub mod plain;
 pub mod proved;
 pub mod races;

@@ -3,10 +3,12 @@
 use reference::packed::Packed;
 
 use super::pairs::Moved;
+use super::patterns::{told, Pattern};
 use super::samples::{as_one, part, Lent};
 use super::woods;
 use crate::plain::{
-    aiger, calls, compare, complemented_edges, evaluate, file, find, many, preview, resistive, settle, sweeps, tree,
+    aiger, assignment, calls, compare, complemented_edges, evaluate, file, find, many, preview, resistive, settle,
+    sweeps, tree,
 };
 use crate::tables::{filled, tables, view, wired};
 
@@ -89,4 +91,8 @@ pub fn resistive(s: &mut woods::Sample) -> u64 {
 /// What differs.
 pub fn compare(s: &mut Moved) -> u64 {
     compare::compare(&view(&s.first), &view(&s.second), &mut s.moves).unwrap()[0].into()
+}
+
+pub fn assignment(s: &mut Pattern) -> u64 {
+    told(assignment::assignment(&view(&s.g), &s.wanted, s.scratch.len()).unwrap())
 }

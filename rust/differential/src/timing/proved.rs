@@ -3,6 +3,7 @@
 use reference::packed::Packed;
 
 use super::pairs::Moved;
+use super::patterns::{self, Pattern};
 use super::samples::{as_one, part, Lent};
 use super::woods;
 use crate::interface::{filling, on_graph, on_graphs};
@@ -161,6 +162,14 @@ pub fn compare(s: &mut Moved) -> u64 {
     let (moves, mut told) = (&mut s.moves, [0; 2]);
     let number = on_graphs!(reducer_compare, &mut s.first, &mut s.second, moves.as_mut_ptr(), moves.len(), &mut told);
     accepted(number, told[0].into())
+}
+
+pub fn assignment(s: &mut Pattern) -> u64 {
+    let (mut found, scratch) = ([0; 2], &mut s.scratch);
+    let (wanted, length) = (s.wanted.as_ptr(), s.wanted.len());
+    let number =
+        on_graph!(reducer_assignment, &mut s.g, wanted, length, scratch.as_mut_ptr(), scratch.len(), &mut found);
+    accepted(number, patterns::told((found[0] == 1).then_some(found[1])))
 }
 
 /// What the calls of a round save in both parts, where each call scans the tables.
