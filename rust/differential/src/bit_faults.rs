@@ -153,6 +153,7 @@ fn numbers(p: &Packed) -> Result<Vec<(u32, u32)>, String> {
         (number_of(raw::export(p, nodes, &mut bytes)?), 0),
         (number_of(raw::trial(p, (node, 1), (1, 1))?), free),
         (number_of(raw::preview(p, node, &mut vec![3; nodes], 8 * nodes)?), free),
+        (number_of(raw::assignment(p, &vec![2; outputs], nodes)?), 0),
     ];
     let entered = number_of(raw::class(&mut p.clone(), 8 * nodes, &mut [0; WORDS])?);
     let other = graph(p.nodes, p.outputs);
