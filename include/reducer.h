@@ -45,8 +45,8 @@
  *   meets its file from front to back, importing its text line by line, each line being tested for 10, 11, 12, 3, 4, 5 in that
  *   order, many moves their list entry by entry, after 3, 4, 5 and 13, each entry being tested for 7, 14, 15, 16 in that order, a
  *   trial its two moves, each for 15 and 16, after 7, a majority call its node, its triple and its lock by 7, 7 and 16, before 8,
- *   a class its book by 3 before all else, a comparison 3 and 4 of both graphs before 5 and 13 of both, and a replay its calls and
- *   answers before its file. Scratch holds nothing of use before or after a call.
+ *   a class its book by 3 before all else, a comparison 3 and 4 of both graphs before 5 and 13 of both, an assignment 17 and 18
+ *   between 13 and 8, and a replay its calls and answers before its file. Scratch holds nothing of use before or after a call.
  *
  *   A saving is two numbers, of which either may be below 0: how many complemented edges fewer there are, first among the words
  *   of the nodes that the call names, then among all other edges, words of other nodes and outputs. Together they are the
@@ -82,6 +82,9 @@ extern "C" {
 #define REDUCER_MOST_NODES 100000
 #define REDUCER_MOST_OUTPUTS 4096
 
+/* The most inputs for which an assignment is looked for: more is refused by REDUCER_MANY_INPUTS. */
+#define REDUCER_MOST_SEARCHED 16
+
 /* Scratch that calls need, in words of their type, for n nodes. */
 #define REDUCER_TREE_SCRATCH(n) (8 * (size_t)(n))
 #define REDUCER_SETTLE_SCRATCH(n) (8 * (size_t)(n))
@@ -115,7 +118,7 @@ enum reducer_kind {
 };
 
 /*
- * What is returned. 1 to 9 are the refusals of document 01, 10 to 16 those that document 02 adds; 101, 102 and 105 are a replay's
+ * What is returned. 1 to 9 are the refusals of document 01, 10 to 18 those that document 02 adds; 101, 102 and 105 are a replay's
  * own and of neither document.
  */
 enum reducer_number {
@@ -128,7 +131,7 @@ enum reducer_number {
     REDUCER_OVER_LIMIT = 3,
     /*
      * a lent table, its bits, slice of locks, input or result slice or book too short; fewer moves than nodes (preview, many moves,
-     * comparison)
+     * comparison), or fewer wanted bytes than outputs
      */
     REDUCER_SHORT_SLICE = 4,
     /* a literal naming an index not allowed there; a set bit at a mark, or past the last literal in the word that it is in */
@@ -158,6 +161,10 @@ enum reducer_number {
     REDUCER_NO_SUCH_MOVE = 15,
     /* a move other than 0, or a majority call, at a locked node */
     REDUCER_MOVE_OF_LOCKED = 16,
+    /* more than 16 inputs, where an assignment is looked for */
+    REDUCER_MANY_INPUTS = 17,
+    /* a wanted byte above 2 */
+    REDUCER_BAD_WANTED = 18,
     /* words of the list are left over: their number is not a multiple of 3 */
     REDUCER_LEFT_OVER = 101,
     /* a call of the list has a kind above 7 */
@@ -286,6 +293,23 @@ uint32_t reducer_evaluate(uint32_t inputs, uint32_t nodes, uint32_t outputs,
                           const uint64_t *input_words, size_t input_words_length,
                           uint64_t *scratch, size_t scratch_length,
                           uint64_t *results, size_t results_length);
+
+/*
+ * Finds the least assignment that gives a wanted output pattern, for up to REDUCER_MOST_SEARCHED inputs. wanted has a byte an output: 0
+ * or 1 for what the output must be, 2 for either; later bytes are not read. Assignment n gives input k + 1 the bit k of n, so that input
+ * 1 is the lowest bit. found becomes 1 and the assignment, or 0 and 0 exactly if no assignment gives the pattern. Needs
+ * REDUCER_EVALUATE_SCRATCH(nodes) words of scratch. Refusals: 3, 4 (tables, locks, or fewer wanted bytes than outputs), 5, 13, 17, 18,
+ * 8.
+ */
+uint32_t reducer_assignment(uint32_t inputs, uint32_t nodes, uint32_t outputs,
+                            const uint32_t *node_table, size_t node_table_length,
+                            const uint64_t *node_bits, size_t node_bits_length,
+                            const uint32_t *output_table, size_t output_table_length,
+                            const uint64_t *output_bits, size_t output_bits_length,
+                            const uint8_t *locks, size_t locks_length,
+                            const uint8_t *wanted, size_t wanted_length,
+                            uint64_t *scratch, size_t scratch_length,
+                            uint32_t found[2]);
 
 /*
  * How many edges are complemented, those from the constant among them: the number of ones in the words of bits of both tables.

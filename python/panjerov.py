@@ -11,6 +11,7 @@ out already: no call turns it, and its file says so. Graph.many makes moves that
 Graph.find finds the majorities that and-inverter tools have hidden in ANDs, and Graph.majority makes a node one. Graph.resistive_call
 chooses a tree's moves for memories of resistive cells, which want majorities with just one complemented input. A Class settles graphs
 one after another and sums up their figures. Graph.compare tells the moves that lead from one graph to another.
+Graph.assignment_for finds the least assignment that gives a wanted output pattern.
 
 Every call is one of the proved library's. A call that cannot be made raises: Refused, with the number of the refusal, where
 the library refuses it; TypeError or ValueError where an argument is not of the kind that the library takes. Either way
@@ -38,7 +39,7 @@ __all__ = [
     "Class", "Compared", "Difference", "Figures", "Graph", "Literals", "Majority", "Preview", "Refused", "Saving", "Settled", "Told",
     "load", "import_aiger", "field", "replay",
     "NODE", "PAIR", "TREE", "SETTLE", "MANY", "MAJORITY", "FIND", "RESISTIVE",
-    "MARK", "MOST_INPUTS", "MOST_NODES", "MOST_OUTPUTS", "MOST_GRAPHS", "CLASS_WORDS",
+    "MARK", "MOST_INPUTS", "MOST_NODES", "MOST_OUTPUTS", "MOST_GRAPHS", "MOST_SEARCHED", "CLASS_WORDS",
 ]
 
 #: The third literal of an XOR node, and its third index.
@@ -52,6 +53,8 @@ MOST_OUTPUTS = 4096
 #: The most graphs of a class, and the words of its record.
 MOST_GRAPHS = 1000
 CLASS_WORDS = 86
+#: The most inputs for which an assignment is looked for.
+MOST_SEARCHED = 16
 
 _WHY = {
     1: "the bytes end within a field",
@@ -70,13 +73,15 @@ _WHY = {
     14: "an index of the list is not above the one before",
     15: "a node of this kind has no such move",
     16: "a move other than 0 is at a locked node",
+    17: "there are more than 16 inputs",
+    18: "a wanted byte is above 2",
     102: "a call of the list has a kind that is none",
     105: "a many call's part, or a majority call's triple, reaches past the end of the list",
 }
 
 
 class Refused(Exception):
-    """A call that the library refuses. `number` is 1 to 16, or 102 or 105 of a replay; nothing has changed."""
+    """A call that the library refuses. `number` is 1 to 18, or 102 or 105 of a replay; nothing has changed."""
 
     def __init__(self, number: int) -> None:
         super().__init__(f"refused {number}: {_WHY.get(number, 'for no known cause')}")
@@ -214,6 +219,7 @@ _write = _function("reducer_write", _GRAPH + _WORDS + [ctypes.c_void_p])
 _import = _function("reducer_import", _WORDS + _TABLES + [ctypes.c_void_p])
 _export = _function("reducer_export", _GRAPH + _WORDS * 2 + [ctypes.c_void_p])
 _evaluate = _function("reducer_evaluate", _GRAPH + _WORDS * 3)
+_assignment = _function("reducer_assignment", _GRAPH + _WORDS * 2 + [ctypes.c_void_p])
 _count = _function("reducer_count", _GRAPH + [ctypes.c_void_p])
 _node = _function("reducer_node", _GRAPH + [_U32, ctypes.c_void_p])
 _pair = _function("reducer_pair", _GRAPH + [_U32, _U32, ctypes.c_void_p])
@@ -273,6 +279,17 @@ def _moves(values: Union[bytes, Iterable[int]]):
     if isinstance(values, (bytes, bytearray, memoryview)):
         return _bytes(values, "moves")
     return _numbers(values, ctypes.c_uint8, "moves")
+
+
+def _wanted(values: Union[str, bytes, Iterable[int]]):
+    """A wanted byte an output, given as text of 0, 1 and x, as bytes or as numbers, and how many they are."""
+    if isinstance(values, str):
+        if not set(values) <= set("01xX"):
+            raise ValueError(f"wanted must be of 0, 1 and x, and is {values!r}")
+        values = bytes("01x".index(sign) for sign in values.lower())
+    if isinstance(values, (bytes, bytearray, memoryview)):
+        return _bytes(values, "wanted")
+    return _numbers(values, ctypes.c_uint8, "wanted")
 
 
 # What an empty array is lent as, since it has no address.
@@ -691,6 +708,14 @@ class Graph:
         scratch, results = _array(_U64, lent[1]), _array(_U64, lent[2])
         _call(_evaluate, *lent, words, count, scratch, lent[1], results, lent[2])
         return results[: lent[2]]
+
+    def assignment_for(self, wanted: Union[str, bytes, Iterable[int]]) -> Optional[int]:
+        """The least assignment under which the outputs are as wanted, or None exactly where there is none. Its lowest bit is input 1. An
+        output is wanted by 0, 1, or 2 for either; in text x stands for either. More than 16 inputs are refused by 17."""
+        given, found = _wanted(wanted), (_U32 * 2)()
+        lent = self._lent()
+        _call(_assignment, *lent, *given, _array(_U64, lent[1]), lent[1], found)
+        return found[1] if found[0] else None
 
     def complemented_edges(self) -> int:
         """How many edges are complemented, those from the constant among them."""

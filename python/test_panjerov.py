@@ -768,6 +768,7 @@ def every_call(graph: Graph) -> list:
         graph.export_aiger,
         graph.settle,
         lambda: graph.evaluate([0] * graph.inputs),
+        lambda: graph.assignment_for([2] * len(graph.outputs)),
         lambda: graph.node_call(last),
         lambda: graph.pair_call(last, 1),
         lambda: graph.trial(last, 1, 1, 1),
@@ -1128,6 +1129,47 @@ class Comparing(unittest.TestCase):
         with self.assertRaises(TypeError):
             good.compare([3, 5, 7])
         self.assertEqual(good.compare(good), (b"\0", None, 0))
+
+
+class Assignments(unittest.TestCase):
+    """Assignments for a wanted output."""
+
+    def test_worked(self) -> None:
+        adder = Graph(3, [2, 4, 6, 2, 4, MARK, 10, 6, MARK], [12, 8])
+        self.assertEqual([adder.assignment_for(wanted) for wanted in ("00", "10", "01", "11")], [0, 1, 3, 7])
+        self.assertEqual([adder.assignment_for(wanted) for wanted in ("xx", "x1", b"\1\2", [2, 0])], [0, 3, 1, 0])
+        self.assertIsNone(Graph(2, [2, 4, MARK], [6, 7]).assignment_for("11"))
+        self.assertEqual(Graph(0, [], []).assignment_for(""), 0)
+        self.assertEqual(Graph(16, [], [3, 32]).assignment_for("01"), 2**15 + 1)
+
+    def test_by_every_assignment(self) -> None:
+        """Held to trying them one by one, with wanted outputs of some assignment, of chance, and of none."""
+        generator = random.Random(112)
+        none = 0
+        for _ in range(1500):
+            graph = random_graph(generator)
+            told = values(graph, list(range(2**graph.inputs)))
+            one = generator.choice(told) if generator.random() < 0.5 else generator.getrandbits(len(graph.outputs) or 1)
+            wanted = [2 if generator.random() < 0.3 else one >> o & 1 for o in range(len(graph.outputs))]
+            fits = [n for n, value in enumerate(told) if all(bit in (2, value >> o & 1) for o, bit in enumerate(wanted))]
+            self.assertEqual(graph.assignment_for(wanted), fits[0] if fits else None)
+            none += not fits
+        self.assertTrue(none > 100, none)
+
+    def test_refusals(self) -> None:
+        for number, graph, wanted in [
+            (17, Graph(17, [], [2]), [9]),
+            (18, Graph(16, [], [2]), [3]),
+            (4, Graph(17, [], [2]), []),
+            (5, Graph(17, [], [36]), [9]),
+            (3, Graph(4097, [], [2]), []),
+        ]:
+            with self.assertRaises(Refused) as caught:
+                graph.assignment_for(wanted)
+            self.assertEqual(caught.exception.number, number)
+        for bad, error in [("012", ValueError), (["x"], TypeError), ([256], ValueError), (None, TypeError)]:
+            with self.assertRaises(error):
+                Graph(1, [], [2, 2, 2]).assignment_for(bad)
 
 
 class Packed(unittest.TestCase):

@@ -29,7 +29,7 @@ pub struct Lent<'a> {
 pub(crate) fn answer<T>(number: u32, value: T) -> Result<T, Refusal> {
     match number {
         0 => Ok(value),
-        refused => Err(Refusal::from_number(refused).expect("the library answers 0 to 16")),
+        refused => Err(Refusal::from_number(refused).expect("the library answers 0 to 18")),
     }
 }
 
@@ -248,6 +248,44 @@ pub fn evaluate(
         )
     };
     answer(number, ())
+}
+
+/// The least assignment, input 1 being its lowest bit, that gives a wanted byte an output: 0, 1, or 2 for either. None where no assignment
+/// does. Scratch is one word a node.
+pub fn assignment(
+    size: Size,
+    node_table: &[u32],
+    node_bits: &[u64],
+    output_table: &[u32],
+    output_bits: &[u64],
+    locks: &[u8],
+    wanted: &[u8],
+    scratch: &mut [u64],
+) -> Result<Option<u32>, Refusal> {
+    let mut found = [0u32; 2];
+    let number = unsafe {
+        raw::reducer_assignment(
+            size.inputs,
+            size.nodes,
+            size.outputs,
+            node_table.as_ptr(),
+            node_table.len(),
+            node_bits.as_ptr(),
+            node_bits.len(),
+            output_table.as_ptr(),
+            output_table.len(),
+            output_bits.as_ptr(),
+            output_bits.len(),
+            locks.as_ptr(),
+            locks.len(),
+            wanted.as_ptr(),
+            wanted.len(),
+            scratch.as_mut_ptr(),
+            scratch.len(),
+            &mut found,
+        )
+    };
+    answer(number, (found[0] == 1).then_some(found[1]))
 }
 
 /// How many edges are complemented.

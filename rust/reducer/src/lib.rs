@@ -28,6 +28,8 @@
 //!
 //! [`Graph::compare`] tells the moves that lead from one graph to another.
 //!
+//! [`Graph::assignment_for`] finds the least assignment that gives a wanted output pattern.
+//!
 //! A literal, as a file has it, is twice an index, and one more if it is complemented: [`Graph::new`] takes a graph so, and
 //! [`Graph::node`] and [`Graph::output`] give it so. Its tables are kept as they are lent, indices and complement bits apart.
 //!
@@ -47,6 +49,8 @@ pub const MOST_NODES: u32 = 100_000;
 /// The most outputs that a graph may have.
 pub const MOST_OUTPUTS: u32 = 4_096;
 
+/// The most inputs for which an assignment is looked for.
+pub const MOST_SEARCHED: u32 = 16;
 /// The words of the record of a class.
 pub const CLASS_WORDS: usize = 86;
 /// The most graphs that a class may have.
@@ -62,7 +66,8 @@ pub enum Refusal {
     WrongField = 2,
     /// There are too many inputs, nodes or outputs, or the record of a class is full or holds what no class comes to.
     OverLimit = 3,
-    /// A lent table, its words of bits, slice of locks, input or result slice or record is too short, or there are fewer moves than nodes.
+    /// A lent table, its words of bits, slice of locks, input or result slice or record is too short, or there are fewer moves than nodes or
+    /// wanted bytes than outputs.
     ShortSlice = 4,
     /// A literal names an index that is not allowed there, or a bit is set at a mark or past the last literal in the word that it is in.
     BadLiteral = 5,
@@ -89,10 +94,14 @@ pub enum Refusal {
     NoSuchMove = 15,
     /// A move other than 0 is at a locked node, or a majority call at one.
     MoveOfLocked = 16,
+    /// There are more than 16 inputs, where an assignment is looked for.
+    ManyInputs = 17,
+    /// A wanted byte is above 2.
+    BadWanted = 18,
 }
 
 impl Refusal {
-    /// The refusal's number, 1 to 16.
+    /// The refusal's number, 1 to 18.
     pub fn number(self) -> u32 {
         self as u32
     }
@@ -116,6 +125,8 @@ impl Refusal {
             14 => Some(Refusal::NotRising),
             15 => Some(Refusal::NoSuchMove),
             16 => Some(Refusal::MoveOfLocked),
+            17 => Some(Refusal::ManyInputs),
+            18 => Some(Refusal::BadWanted),
             _ => None,
         }
     }
@@ -140,6 +151,8 @@ impl fmt::Display for Refusal {
             Refusal::NotRising => "an index of the list is not above the one before",
             Refusal::NoSuchMove => "a node of this kind has no such move",
             Refusal::MoveOfLocked => "a move other than 0 is at a locked node",
+            Refusal::ManyInputs => "there are more than 16 inputs",
+            Refusal::BadWanted => "a wanted byte is above 2",
         };
         write!(f, "refused {}: {why}", self.number())
     }
@@ -695,6 +708,22 @@ impl Graph {
             &mut results,
         )?;
         Ok(results)
+    }
+
+    /// The least assignment under which the outputs are as wanted, a byte an output: 0, 1, or 2 for either. Bit k of an assignment is input
+    /// k + 1. None exactly where no assignment gives the pattern.
+    pub fn assignment_for(&self, wanted: &[u8]) -> Result<Option<u32>, Refusal> {
+        let mut scratch = vec![0; self.size.nodes.min(MOST_NODES) as usize];
+        lent::assignment(
+            self.size,
+            &self.node_table,
+            &self.node_bits,
+            &self.output_table,
+            &self.output_bits,
+            &self.locks,
+            wanted,
+            &mut scratch,
+        )
     }
 
     /// How many edges are complemented, those from the constant among them.

@@ -97,6 +97,27 @@ extern "C" {
         results_length: usize,
     ) -> u32;
 
+    pub fn reducer_assignment(
+        inputs: u32,
+        nodes: u32,
+        outputs: u32,
+        node_table: *const u32,
+        node_table_length: usize,
+        node_bits: *const u64,
+        node_bits_length: usize,
+        output_table: *const u32,
+        output_table_length: usize,
+        output_bits: *const u64,
+        output_bits_length: usize,
+        locks: *const u8,
+        locks_length: usize,
+        wanted: *const u8,
+        wanted_length: usize,
+        scratch: *mut u64,
+        scratch_length: usize,
+        found: *mut [u32; 2],
+    ) -> u32;
+
     pub fn reducer_count(
         inputs: u32,
         nodes: u32,

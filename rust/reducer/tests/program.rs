@@ -7,6 +7,8 @@ use std::path::{Path, PathBuf};
 use std::process::{Command, Output, Stdio};
 use std::time::{Duration, Instant};
 
+#[path = "program/assignments.rs"]
+mod assignments;
 #[path = "program/classes.rs"]
 mod classes;
 #[path = "program/found.rs"]
@@ -432,6 +434,7 @@ fn usage() {
         &["class", "--help"],
         &["sheets", "--help"],
         &["compare", "--help"],
+        &["assign", "--help"],
         &["help"],
         &["help", "picture"],
     ] {

@@ -19,6 +19,7 @@ Reduces inversions in majority and XOR graphs. The commands:
     apply      makes the moves that a list has, all of them or none
     sheets     shortens a sheet of moves, or tells whether two end alike
     compare    tells the moves that lead from one graph to another
+    assign     finds an assignment of the inputs that gives a wanted output
     picture    draws the graph, as DOT text for Graphviz, as SVG or as PNG
     report     settles the graph and gives a page with figures and pictures
     class      settles many graphs and gives a sheet of their figures
@@ -314,6 +315,38 @@ and 2 for whatever else: what is refused, or cannot be read, written or
 understood.
 ";
 
+const ASSIGN: &str = "\
+usage: panjerov assign FILE PATTERN [--all] [-o FILE]
+
+Finds the least assignment of the inputs, up to 16, that gives the outputs which
+PATTERN wants. That is a sign for each output, the first one first: 0, 1, or x
+for either. Or it is parts by the number of an output, counted from 1, parted by
+commas or spaces, all other outputs being either:
+
+    panjerov assign graph 01x
+    panjerov assign graph 1=0,2=1
+
+Names that AIGER text has for its outputs are not kept, so that outputs go by
+their numbers. What is told is the assignment's number, whose lowest bit is
+input 1, and all inputs and outputs under it:
+
+    assignment 3
+    inputs 1=1 2=1 3=0
+    outputs 1=1
+
+Where no assignment gives the pattern, the line is: none. With --all there is a
+line for each assignment that gives it, in order: its number, and its inputs,
+the first one first. A line on standard error says how many there are:
+
+    found 4 of 8
+
+At worst, with 16 inputs, 100,000 nodes and no assignment that gives the
+pattern, it takes about half a second, and with --all a few seconds.
+
+The exit status is 0 where there is an assignment, 1 where there is none, and 2
+for whatever else: what is refused, or cannot be read, written or understood.
+";
+
 const PICTURE: &str = "\
 usage: panjerov picture [FILE] [--svg|--png] [--output K|--root R] [-o FILE]
        panjerov picture --compare BEFORE AFTER [--svg|--png]
@@ -438,6 +471,7 @@ pub fn of(command: Command) -> String {
         Command::Apply => APPLY,
         Command::Sheets => SHEETS,
         Command::Compare => COMPARE,
+        Command::Assign => ASSIGN,
         Command::Picture => PICTURE,
         Command::Report => REPORT,
         Command::Class => CLASS,

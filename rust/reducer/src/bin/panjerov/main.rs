@@ -1,8 +1,9 @@
 //! The program `panjerov`: settles graphs, one or a class of them, finds their hidden majorities, chooses moves for resistive memory, shows, draws and reports on
 //! graphs, previews their trees, makes listed moves, compares
-//! graphs and sheets of moves, locks nodes, and makes tagged files of AIGER texts and back.
+//! graphs and sheets of moves, finds assignments, locks nodes, and makes tagged files of AIGER texts and back.
 
 mod apply;
+mod assign;
 mod class;
 mod class_page;
 mod class_sheet;
@@ -122,6 +123,10 @@ fn given(asked: &Work, input: &Input, working: &Progress) -> Result<Given, Strin
         Command::Report => report::of(input, &graph, asked.wanted),
         Command::Sheets => compared::sheets(asked, &graph),
         Command::Compare => compared::compare(asked, input, &graph),
+        Command::Assign => {
+            let told = assign::of(&graph, &asked.pattern, asked.all, working);
+            told.map_err(|why| format!("{}: {why}", input.name))
+        }
         Command::Class => unreachable!("a class has many files"),
     }
 }

@@ -24,13 +24,14 @@ pub enum Command {
     Apply,
     Sheets,
     Compare,
+    Assign,
     Picture,
     Report,
     Class,
 }
 
 impl Command {
-    const ALL: [Command; 15] = [
+    const ALL: [Command; 16] = [
         Command::Settle,
         Command::Find,
         Command::Resistive,
@@ -43,6 +44,7 @@ impl Command {
         Command::Apply,
         Command::Sheets,
         Command::Compare,
+        Command::Assign,
         Command::Picture,
         Command::Report,
         Command::Class,
@@ -66,6 +68,7 @@ impl Command {
             Command::Apply => "apply",
             Command::Sheets => "sheets",
             Command::Compare => "compare",
+            Command::Assign => "assign",
             Command::Picture => "picture",
             Command::Report => "report",
             Command::Class => "class",
@@ -87,6 +90,7 @@ impl Command {
             Command::Apply => "making moves on",
             Command::Sheets => "reading moves on",
             Command::Compare => "comparing",
+            Command::Assign => "looking for assignments of",
             Command::Picture => "drawing",
             Command::Report => "reporting on",
             Command::Class => "settling",
@@ -105,7 +109,7 @@ impl Command {
     /// The exit status where it fails: of what answers by 0 and 1 another.
     pub fn failed(self) -> u8 {
         match self {
-            Command::Sheets | Command::Compare => 2,
+            Command::Sheets | Command::Compare | Command::Assign => 2,
             _ => 1,
         }
     }
@@ -130,7 +134,7 @@ pub struct Work {
     pub nodes: Vec<Named>,
     /// Whose tree is previewed, or has its moves chosen; none is a list of the roots, or all of them.
     pub root: Option<u32>,
-    /// Whether all roots are taken.
+    /// Whether all roots are taken, or all assignments told.
     pub all: bool,
     /// Whether a preview gives its moves alone.
     pub only_moves: bool,
@@ -146,6 +150,8 @@ pub struct Work {
     pub compare: bool,
     /// The second of two graphs; none is standard input.
     pub after: Option<PathBuf>,
+    /// What is wanted of the outputs.
+    pub pattern: Vec<String>,
     /// The files and folders of a class; none among them is standard input.
     pub files: Vec<Option<PathBuf>>,
     /// The form of a class's sheet; none is plain text.
@@ -170,6 +176,7 @@ impl Work {
             form: None,
             compare: false,
             after: None,
+            pattern: Vec::new(),
             files: Vec::new(),
             sheet: None,
         }
@@ -292,6 +299,15 @@ fn put_sheets(work: &mut Work, mut words: impl Iterator<Item = OsString>) -> Res
     no_more(words)
 }
 
+/// Puts PATTERN, which is all words after FILE.
+fn put_pattern(work: &mut Work, words: impl Iterator<Item = OsString>) -> Result<(), String> {
+    work.pattern = words.map(|word| word.to_string_lossy().into_owned()).collect();
+    match work.pattern.is_empty() {
+        true => Err("PATTERN is missing after FILE: 0, 1 or x for each output, or parts such as 3=1".into()),
+        false => Ok(()),
+    }
+}
+
 /// Puts AFTER, the one word after BEFORE.
 fn put_after(work: &mut Work, mut words: impl Iterator<Item = OsString>) -> Result<(), String> {
     let name = if work.compare { "--compare" } else { "compare" };
@@ -377,6 +393,7 @@ fn put_plain(work: &mut Work, plain: Vec<OsString>) -> Result<(), String> {
         Command::Apply => return put_moves(work, plain),
         Command::Sheets => return put_sheets(work, plain),
         Command::Compare => return put_after(work, plain),
+        Command::Assign => return put_pattern(work, plain),
         _ if work.compare => return put_after(work, plain),
         _ => {}
     }
@@ -423,7 +440,7 @@ fn asked_of(command: Command, mut words: impl Iterator<Item = OsString>) -> Resu
             "--help" | "-h" => return Ok(Asked::Help(help::of(command))),
             "-o" => put(&mut output, words.next().ok_or("-o wants a file after it")?, "-o")?,
             "--to" if command.takes_format() => put(&mut work.to, format_named(words.next())?, "--to")?,
-            "--all" if command == Command::Resistive => work.all = true,
+            "--all" if matches!(command, Command::Resistive | Command::Assign) => work.all = true,
             "--moves" if command == Command::Preview => work.only_moves = true,
             "--find" if command == Command::Settle => work.find = true,
             "--csv" if command == Command::Class => put(&mut work.sheet, SheetForm::Csv, "the form of the sheet")?,
@@ -597,6 +614,16 @@ mod tests {
     }
 
     #[test]
+    fn a_file_and_a_pattern() {
+        let assign = |input: Option<&str>, pattern: &[&str], all| {
+            let pattern = pattern.iter().map(|word| word.to_string()).collect();
+            Ok(Asked::Work(Work { input: input.map(PathBuf::from), pattern, all, ..Work::of(Command::Assign) }))
+        };
+        assert_eq!(of(&["assign", "a", "01x"]), assign(Some("a"), &["01x"], false));
+        assert_eq!(of(&["assign", "-", "3=1,4=0", "7=1", "--all"]), assign(None, &["3=1,4=0", "7=1"], true));
+    }
+
+    #[test]
     fn what_is_compared() {
         let compared = |input: Option<&str>, after: Option<&str>| {
             let (input, after) = (input.map(PathBuf::from), after.map(PathBuf::from));
@@ -689,6 +716,10 @@ mod tests {
             &["compare", "-", "-"],
             &["compare", "a", "b", "c"],
             &["compare", "a", "b", "--compare"],
+            &["assign"],
+            &["assign", "a"],
+            &["assign", "a", "--all"],
+            &["assign", "a", "01", "--to", "tagged"],
             &["class"],
             &["class", "-", "a", "-"],
             &["class", "a", "--csv", "--json"],

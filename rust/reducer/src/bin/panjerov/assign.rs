@@ -1,0 +1,188 @@
+//! Assignments for a wanted output pattern.
+
+use crate::locks::number;
+use crate::parts::count;
+use crate::progress::Progress;
+use crate::Given;
+use reducer::{Graph, Refusal, MOST_SEARCHED};
+
+/// Under 64 assignments that follow each other the six lowest inputs are these words.
+const LOWEST: [u64; 6] = [
+    0xaaaa_aaaa_aaaa_aaaa,
+    0xcccc_cccc_cccc_cccc,
+    0xf0f0_f0f0_f0f0_f0f0,
+    0xff00_ff00_ff00_ff00,
+    0xffff_0000_ffff_0000,
+    0xffff_ffff_0000_0000,
+];
+
+/// What a word of PATTERN wants of outputs.
+fn sign(sign: char) -> Option<u8> {
+    match sign {
+        '0' => Some(0),
+        '1' => Some(1),
+        'x' | 'X' => Some(2),
+        _ => None,
+    }
+}
+
+/// Puts what a part such as 3=1 wants; outputs count from 1.
+fn put_named(wanted: &mut [u8], part: &str) -> Result<(), String> {
+    let (name, value) = part.split_once('=').unwrap_or((part, ""));
+    let Some(output) = number(name) else {
+        return Err(format!(
+            "outputs are wanted by number, such as 3=1, and not {part}: names of AIGER text are not kept"
+        ));
+    };
+    let value = match value {
+        "0" => 0,
+        "1" => 1,
+        "x" | "X" => 2,
+        _ => return Err(format!("an output is wanted to be 0, 1 or x, such as 3=1, and not {part}")),
+    };
+    let outputs = wanted.len();
+    let place = (output as usize).checked_sub(1).and_then(|place| wanted.get_mut(place));
+    let place = place.ok_or_else(|| match outputs {
+        0 => format!("there is no output {output}: there are none"),
+        _ => format!("there is no output {output}: outputs are 1 to {outputs}"),
+    })?;
+    *place = value;
+    Ok(())
+}
+
+/// What the words of PATTERN want, a byte an output: a sign each, or by number and the others either.
+fn wanted(graph: &Graph, words: &[String]) -> Result<Vec<u8>, String> {
+    let outputs = graph.size.outputs as usize;
+    if words.iter().any(|word| word.contains('=')) {
+        let mut wanted = vec![2; outputs];
+        let parts = words.iter().flat_map(|word| word.split(',')).filter(|part| !part.is_empty());
+        parts.into_iter().try_for_each(|part| put_named(&mut wanted, part))?;
+        return Ok(wanted);
+    }
+    let signs: Vec<char> = words.iter().flat_map(|word| word.chars()).collect();
+    if let Some(other) = signs.iter().find(|&&one| sign(one).is_none()) {
+        return Err(format!("PATTERN has 0, 1 or x for each output, or parts such as 3=1, and not {other}"));
+    }
+    match signs.len() == outputs {
+        true => Ok(signs.into_iter().filter_map(sign).collect()),
+        false => Err(format!("PATTERN wants {}, and there are {outputs}", count(signs.len(), "output"))),
+    }
+}
+
+fn refused(graph: &Graph, refusal: Refusal) -> String {
+    match refusal {
+        Refusal::ManyInputs => {
+            format!("{refusal}: {} are here, and a search is made up to {MOST_SEARCHED}", graph.size.inputs)
+        }
+        _ => refusal.to_string(),
+    }
+}
+
+fn bit(assignment: u32, input: u32) -> u32 {
+    assignment >> (input - 1) & 1
+}
+
+/// A number and what it gives, by numbers from 1.
+fn listed(bits: impl Iterator<Item = u64>) -> String {
+    (1..).zip(bits).map(|(at, bit): (u32, u64)| format!(" {at}={bit}")).collect()
+}
+
+/// The inputs' words of the 64 assignments from this one on.
+fn words(graph: &Graph, first: u32) -> Vec<u64> {
+    let high = |input: u32| if bit(first, input) == 1 { u64::MAX } else { 0 };
+    (1..=graph.size.inputs)
+        .map(|input| LOWEST.get(input as usize - 1).copied().unwrap_or_else(|| high(input)))
+        .collect()
+}
+
+/// Which of the 64 assignments from this one on give what is wanted, a bit each.
+fn given_by(graph: &Graph, wanted: &[u8], first: u32) -> Result<u64, Refusal> {
+    let results = graph.evaluate(&words(graph, first))?;
+    let agrees = |(&wanted, word): (&u8, u64)| match wanted {
+        0 => !word,
+        1 => word,
+        _ => u64::MAX,
+    };
+    Ok(wanted.iter().zip(results).map(agrees).fold(u64::MAX, |all, one| all & one))
+}
+
+/// The least assignment in words, with the outputs under it.
+fn told(graph: &Graph, assignment: u32) -> Result<String, String> {
+    let inputs = (1..=graph.size.inputs).map(|input| u64::from(bit(assignment, input)));
+    let place = assignment % 64;
+    let results = graph.evaluate(&words(graph, assignment - place)).map_err(|refusal| refusal.to_string())?;
+    let outputs = results.into_iter().map(|word| word >> place & 1);
+    Ok(format!("assignment {assignment}\ninputs{}\noutputs{}\n", listed(inputs), listed(outputs)))
+}
+
+/// A line for each assignment from the least on: its number, and its inputs from input 1 on.
+fn all(graph: &Graph, wanted: &[u8], least: u32, working: &Progress) -> Result<(String, u32), Refusal> {
+    let (mut text, mut found, end) = (String::new(), 0, 1u32 << graph.size.inputs);
+    for first in (least - least % 64..end).step_by(64) {
+        working.reached(first as usize + 1, end as usize);
+        let agree = given_by(graph, wanted, first)?;
+        for assignment in (first..end.min(first + 64)).filter(|assignment| agree >> (assignment % 64) & 1 == 1) {
+            let inputs: String =
+                (1..=graph.size.inputs).map(|input| char::from(b'0' + bit(assignment, input) as u8)).collect();
+            text += &format!("{assignment} {inputs}\n");
+            found += 1;
+        }
+    }
+    Ok((text, found))
+}
+
+/// The least assignment that gives a pattern, or all that do; status 1 where there is none.
+pub fn of(graph: &Graph, pattern: &[String], every: bool, working: &Progress) -> Result<Given, String> {
+    let wanted = wanted(graph, pattern)?;
+    let found = graph.assignment_for(&wanted).map_err(|refusal| refused(graph, refusal))?;
+    let Some(least) = found else {
+        return Ok(Given { bytes: b"none\n".to_vec(), lines: vec![], status: 1 });
+    };
+    if !every {
+        return Ok(Given::of(told(graph, least)?.into_bytes(), vec![]));
+    }
+    let (text, many) = all(graph, &wanted, least, working).map_err(|refusal| refusal.to_string())?;
+    Ok(Given::of(text.into_bytes(), vec![format!("found {many} of {}", 1u32 << graph.size.inputs)]))
+}
+
+#[cfg(test)]
+mod tests {
+    use super::*;
+
+    /// Three outputs.
+    fn three() -> Graph {
+        Graph::new(2, vec![2, 4, 0], vec![6, 7, 1])
+    }
+
+    fn of_words(words: &[&str]) -> Result<Vec<u8>, String> {
+        wanted(&three(), &words.iter().map(|word| word.to_string()).collect::<Vec<_>>())
+    }
+
+    #[test]
+    fn patterns() {
+        assert_eq!(of_words(&["01x"]), Ok(vec![0, 1, 2]));
+        assert_eq!(of_words(&["0", "1X"]), Ok(vec![0, 1, 2]));
+        assert_eq!(of_words(&["3=1"]), Ok(vec![2, 2, 1]));
+        assert_eq!(of_words(&["1=0,3=1", "2=x"]), Ok(vec![0, 2, 1]));
+        assert_eq!(of_words(&["01"]), Err("PATTERN wants 2 outputs, and there are 3".into()));
+        assert_eq!(of_words(&[]), Err("PATTERN wants 0 outputs, and there are 3".into()));
+        let signs = "PATTERN has 0, 1 or x for each output, or parts such as 3=1, and not 2";
+        assert_eq!(of_words(&["012"]), Err(signs.into()));
+        assert_eq!(of_words(&["4=1"]), Err("there is no output 4: outputs are 1 to 3".into()));
+        assert_eq!(of_words(&["0=1"]), Err("there is no output 0: outputs are 1 to 3".into()));
+        let names = "outputs are wanted by number, such as 3=1, and not sum=1: names of AIGER text are not kept";
+        assert_eq!(of_words(&["sum=1"]), Err(names.into()));
+        assert_eq!(of_words(&["3=2"]), Err("an output is wanted to be 0, 1 or x, such as 3=1, and not 3=2".into()));
+    }
+
+    /// Each assignment by itself: the words that stand for 64 of them are its bits.
+    #[test]
+    fn words_of_assignments() {
+        let graph = Graph::new(9, vec![], vec![]);
+        for first in (0..512).step_by(64) {
+            for (input, word) in (1..).zip(words(&graph, first)) {
+                (0..64).for_each(|at| assert_eq!((word >> at & 1) as u32, bit(first + at, input)));
+            }
+        }
+    }
+}
