@@ -38,11 +38,9 @@ fn node_value(values: &[u64], indices: &[u32], bits: u32) -> u64 {
     let third = if xor { indices[0] } else { indices[2] };
     let of = |index: u32, k: u32| value(values, index, bits >> k & 1);
     let (x, y, z) = (of(indices[0], 0), of(indices[1], 1), of(third, 2));
-    if xor {
-        x ^ y
-    } else {
-        x & y | x & z | y & z
-    }
+    let m = u64::from(xor).wrapping_neg();
+    let t = x ^ y;
+    (x & y & !m) | ((z | m) & t)
 }
 
 /// Nodes from one to before another, the bits of four at once where there are as many.
