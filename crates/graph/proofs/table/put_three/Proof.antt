@@ -37,14 +37,14 @@ returns c =
 returns-2 : tie.Need-returns-2
 returns-2 c =
     let f = c .before .stored-bit3 in
-    let d = c .before .before .before .stored-bit2 in
-    let b = c .before .before .before .before .before .stored-bit in
-    let w = c .before .before .before .before .before .before .stored-index3 in
-    let v = c .before .before .before .before .before .before .before .stored-index2 in
-    let u = c .before .before .before .before .before .before .before .before .stored-index in
-    let s = c .before .before .before .before .before .before .before .before .before .before .before .before in
+    let d = c .before .before .stored-bit2 in
+    let b = c .before .before .before .stored-bit in
+    let w = c .before .before .before .before .stored-index3 in
+    let v = c .before .before .before .before .before .stored-index2 in
+    let u = c .before .before .before .before .before .before .stored-index in
+    let s = c .before .before .before .before .before .before .before .before .before .before in
     let a = s .args in
-    rw (c .gathered3 .ensures, c .before .before .gathered2 .ensures, c .before .before .before .before .gathered .ensures)
+    rw (c .gathered-three .ensures)
     (put-three (a .table .now) (a .bits .now) (a .j) (a .got) (u .result) (b .result) (a .x) (v .result) (d .result) (a .y) (w .result) (f .result) (a .z) (s .pre .0) (omega arith)
     (omega arith) (omega arith) (b .ensures .1) (rw (b .ensures .0) (u .ensures)) (omega arith) (d .ensures .1) (rw (d .ensures .0) (v .ensures)) (omega arith) (f .ensures .1)
     (rw (f .ensures .0) (w .ensures)))
@@ -75,8 +75,6 @@ put-three-spec =
     (λ c. omega (arith, room (c .before .before .before .before .before .before)))
     (λ c. omega (arith, room (c .before .before .before .before .before .before)))
     (λ c. simp (length-set, length-set) (omega (arith, room (c .before .before .before .before .before .before))))
-    (λ c κs. search needs)
-    (λ c κs. search needs)
     (λ c κs. search needs)
     (λ c κs. search needs)
     (λ c κs. search needs)
