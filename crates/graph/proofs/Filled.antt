@@ -245,7 +245,7 @@ pub put-tab : (n : ℕ) (f : ℕ → ℕ) (l : List ℕ) → n < length l → wo
 put-tab n f l h = put-filled (tab n f) l (f n) n (length-tab n f) h ∙ ap (λ (ws : List ℕ). filled ws l) (sym (tab-last n f))
 
 -- any number of words
-puts-filled : (a ws l : List ℕ) → length a + length ws ≤ length l → wordsPut (length a) ws (filled a l) ≡ filled (a ++ ws) l
+pub puts-filled : (a ws l : List ℕ) → length a + length ws ≤ length l → wordsPut (length a) ws (filled a l) ≡ filled (a ++ ws) l
 puts-filled a [] l h = rw (append-nil a)
 puts-filled a (x ∷ ws) l h =
     let b = a ++ (x ∷ []) in

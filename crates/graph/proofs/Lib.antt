@@ -22,6 +22,7 @@ pub mod Cleared
 pub mod Gathered
 pub mod BitsPut
 pub mod Filled
+pub mod Copied
 pub mod Admit
 pub mod Values
 pub mod Digits

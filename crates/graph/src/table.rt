@@ -1,14 +1,14 @@
 // The leaves that read, turn and store a literal of a table of either kind: no other function of any crate indexes one, so that
 // none knows how a literal is kept. A table is a slice of indices and a slice of words of 64 bits with their complement bits.
 ghost use mathlib.Core.Path.{_≡_};
-ghost use mathlib.Core.List.{List, [], _∷_};
+ghost use mathlib.Core.List.{List, [], _∷_, _++_};
 ghost use Prim.Native.Nat.{ℕ, _+_, _*_, _/_, _%_, _≤_, _<_};
 ghost use lib.Dec.{eqb};
-ghost use lib.ListN.{length, getD, set};
-ghost use Rattle.graph.specs.Finite.{sum};
+ghost use lib.ListN.{length, getD, set, drop};
+ghost use Rattle.graph.specs.Finite.{tab, sum};
 ghost use Rattle.graph.specs.Graph.{index, mark};
 ghost use Rattle.graph.specs.Inner.{Names, IsWord, Readable, Turnable, threeTurns, threeBits, Twelve, Thirds, begun, wordPut, wordsPut, BitPut};
-ghost use Rattle.graph.specs.Literals.{bit, bitAt, indexAt, literalOf, literals, held, bitOf, wordsFor, strays, onesIn};
+ghost use Rattle.graph.specs.Literals.{bit, bitAt, indexAt, literalOf, literals, held, bitOf, wordsFor, strays, onesIn, filled};
 ghost use Rattle.graph.specs.Turned.{turnedTable, only};
 use crate::literal::MARK;
 
@@ -316,6 +316,49 @@ pub fn put_last(bits: &mut [u64], j: usize, got: u64)
         return;
     }
     bits[j / 64] = got >> (64 - many);
+}
+
+// Copies the first n indices.
+fn copy_indices(n: usize, table: &[u32], to: &mut [u32])
+    requires { ⌜ (n ≤ length (now table)) × (n ≤ length (now to)) ⌝ }
+    ensures { λ _. ⌜ now (to .exit) ≡ tab n (λ j. getD (now (table .entry)) j 0) ++ drop n (now (to .entry)) ⌝ }
+{
+    let mut j: usize = 0;
+    while j < n {
+        to[j] = table[j];
+        j += 1;
+    }
+}
+
+// The same of words of bits.
+fn copy_bits(n: usize, bits: &[u64], to: &mut [u64])
+    requires { ⌜ (n ≤ length (now bits)) × (n ≤ length (now to)) ⌝ }
+    ensures { λ _. ⌜ now (to .exit) ≡ tab n (λ j. getD (now (bits .entry)) j 0) ++ drop n (now (to .entry)) ⌝ }
+{
+    let mut j: usize = 0;
+    while j < n {
+        to[j] = bits[j];
+        j += 1;
+    }
+}
+
+// Copies what stands at the places of the first so many words of bits.
+pub fn copy_words(
+    words: usize,
+    table: &[u32],
+    bits: &[u64],
+    to_table: &mut [u32],
+    to_bits: &mut [u64],
+)
+    requires { let room = held (literals (now «to_table») (now «to_bits»)) in
+        ⌜ (words ≤ 100000) × (64 * words ≤ held (literals (now table) (now bits))) × (64 * words ≤ room) ⌝ }
+    ensures { λ _.
+        let l = literals (now (table .entry)) (now (bits .entry)) in
+        let before = literals (now («to_table» .entry)) (now («to_bits» .entry)) in
+        ⌜ literals (now («to_table» .exit)) (now («to_bits» .exit)) ≡ filled (tab (64 * words) (λ j. getD l j 0)) before ⌝ }
+{
+    copy_indices(64 * words, table, to_table);
+    copy_bits(words, bits, to_bits);
 }
 
 // The byte at place k of a slice of bytes, as a word.
