@@ -16,6 +16,7 @@ use Rattle.graph.specs.Value.{majority, exclusive, literalValue, nodeValue, val
 use Rattle.graph.proofs.Bits.{bit-xor, bit-le}
 use Rattle.graph.proofs.Cases.{eq-or-ne, lt-or-le}
 use Rattle.graph.proofs.Edge.{edge-early, edge-third}
+use Rattle.graph.proofs.Fixed.{value-zero, value-input, value-node}
 use Rattle.graph.proofs.Tests.{less, no-less, equal, unequal}
 use Rattle.evaluation.proofs.Bits.{bit-zero}
 use Rattle.moves.proofs.Flags.{all, all-at}
@@ -26,7 +27,6 @@ use Rattle.hidden.specs.Majority.{isMajority, made}
 use Rattle.hidden.specs.Inner.{Rising}
 use Rattle.hidden.specs.Keeps.{Same}
 use Rattle.hidden.proofs.Made.{made-keeps}
-use Rattle.hidden.proofs.Fixed.{value-zero, value-input, value-node}
 use Rattle.majority_call.specs.Valuing.{Framed}
 use Rattle.finder.specs.Signs.{inputSign, signing, Signed, signOf, TurnedWord, NodeSign, SignSet}
 

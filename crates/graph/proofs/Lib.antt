@@ -25,6 +25,7 @@ pub mod Filled
 pub mod Copied
 pub mod Admit
 pub mod Values
+pub mod Fixed
 pub mod Digits
 pub mod Worked
 pub mod Promises

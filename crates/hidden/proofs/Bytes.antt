@@ -19,8 +19,8 @@ use Rattle.evaluation.proofs.Gather.{gather-same}
 use Rattle.moves.proofs.Flags.{all, all-at}
 use Rattle.graph.specs.Finite.{ifEqual}
 use Rattle.graph.proofs.Cases.{lt-or-le, cond-le}
+use Rattle.graph.proofs.Fixed.{node-bit}
 use Rattle.hidden.specs.Truth.{Triple, leak, free, leaks, nodeByte, over, truth}
-use Rattle.hidden.proofs.Fixed.{node-bit}
 use Rattle.hidden.proofs.Over.{getD-bits, truth-zero, truth-input, truth-node}
 
 -- a byte is known by its eight bits

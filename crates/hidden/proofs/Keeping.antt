@@ -16,6 +16,7 @@ use Rattle.graph.specs.Literals.{bitOf, wordsFor}
 use Rattle.graph.specs.Value.{literalValue, nodeValue, values, value, outputValue}
 use Rattle.graph.proofs.Cases.{true-or-false, lt-or-le}
 use Rattle.graph.proofs.Finite.{length-tab, getD-tab}
+use Rattle.graph.proofs.Fixed.{node-same, value-zero, value-input, value-node, unique}
 use Rattle.graph.proofs.Literals.{bit-other, held-all, strays-same}
 use Rattle.graph.proofs.Tests.{less, no-less}
 use Rattle.hidden.specs.Drop.{kept, renumbered, newLiteral, newWord, newNodes, newOutputs, keeping}
@@ -24,7 +25,6 @@ use Rattle.graph.specs.Count.{named, outputNamed}
 use Rattle.hidden.proofs.Bools.{true-both}
 use Rattle.hidden.proofs.Kept.{rank, rank-is, rank-le, rank-strict, kept-at, Stands, stands}
 use Rattle.hidden.proofs.Tables.{held-below, no-stray, stray-none}
-use Rattle.hidden.proofs.Fixed.{node-same, value-zero, value-input, value-node, unique}
 
 -- whatever a kept node or an output reads is kept
 pub record Closed (g : Graph) (l : ℕ → Bool) : Type 0 where

@@ -1,6 +1,5 @@
 pub mod Bools
 pub mod Tables
-pub mod Fixed
 pub mod Eight
 pub mod Classes
 pub mod Over

@@ -10,13 +10,13 @@ use Rattle.graph.specs.Admission.{Admitted}
 use Rattle.graph.specs.Graph.{Graph, mark}
 use Rattle.graph.specs.Value.{majority, literalValue, values, value}
 use Rattle.graph.specs.Literals.{bit}
+use Rattle.graph.proofs.Fixed.{value-bit}
 use Rattle.hidden.specs.Truth.{Triple, truth}
 use Rattle.hidden.specs.Majority.{isMajority, complements, rewired, majorityOf, made}
 use Rattle.hidden.specs.Keeps.{Keeps}
 use Rattle.hidden.specs.Inner.{Rising}
 use Rattle.hidden.specs.Promises.{pick}
 use Rattle.hidden.proofs.Eight.{below-256, majority-is, majority-bits}
-use Rattle.hidden.proofs.Fixed.{value-bit}
 use Rattle.hidden.proofs.Over.{truth-holds}
 use Rattle.hidden.proofs.Rewired.{rewired-keeps}
 

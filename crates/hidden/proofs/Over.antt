@@ -18,6 +18,7 @@ use Rattle.graph.specs.Graph.{Graph, node, word, isEdge}
 use Rattle.graph.specs.Value.{nodeValue, values, value}
 use Rattle.graph.proofs.Cases.{true-or-false}
 use Rattle.graph.proofs.Finite.{length-tab, getD-tab}
+use Rattle.graph.proofs.Fixed.{node-bit, node-same, literal-same, value-zero, value-node, value-bit}
 use Rattle.graph.specs.Literals.{bit}
 use Rattle.evaluation.specs.Word.{gather}
 use Rattle.evaluation.proofs.Bits.{bit-zero}
@@ -27,7 +28,6 @@ use Rattle.hidden.specs.Truth.{Triple, leak, free, leaks, nodeByte, over
 use Rattle.hidden.specs.Promises.{pick, TruthHolds}
 use Rattle.moves.proofs.Readers.{both-true}
 use Rattle.hidden.proofs.Bools.{T-true, none-true}
-use Rattle.hidden.proofs.Fixed.{node-bit, node-same, literal-same, value-zero, value-node, value-bit}
 
 -- the bytes by index: their number, the old ones, the new one
 module _ (g : Graph) (t : Triple) where

@@ -13,11 +13,11 @@ use Rattle.graph.specs.Admission.{Admitted}
 use Rattle.graph.specs.Graph.{Graph, mark, word, isEdge, isXor}
 use Rattle.graph.specs.Value.{majority, literalValue, nodeValue, values, value, outputValue}
 use Rattle.graph.proofs.Cases.{eq-or-ne}
+use Rattle.graph.proofs.Fixed.{node-same, literal-same, value-zero, value-input, value-node, unique}
 use Rattle.graph.proofs.Literals.{strays-same}
 use Rattle.hidden.specs.Majority.{rewired}
 use Rattle.hidden.specs.Keeps.{Keeps}
 use Rattle.hidden.proofs.Tables.{held-below}
-use Rattle.hidden.proofs.Fixed.{node-same, literal-same, value-zero, value-input, value-node, unique}
 
 -- the words of other nodes are as they were
 pub rewired-other : (g : Graph) (v x y z j : ℕ) → j / 3 ≢ v → word (rewired g v x y z) j ≡ word g j

@@ -1,20 +1,20 @@
 -- The values as a fixed point: the constant's, an input's, and a node's from the values of all. From the laws on the list of values.
-use mathlib.Core.Path.{_≡_, refl, sym, _∙_}
-use mathlib.Core.Bool.{true, false, and-false}
+use mathlib.Core.Path.{_≡_, refl, sym, ap, _∙_}
+use mathlib.Core.Bool.{true, false}
 use mathlib.Core.Logic.{⊎-elim}
-use mathlib.Core.List.{List}
+use mathlib.Core.List.{List, _∷_}
 use Prim.Native.Nat.{ℕ, zero, suc, _+_, _-_, _*_, _/_, _%_, _≤_, _<_}
 use native.Mathlib.Omega.{arith}
 use native.Mathlib.Decide.{le-ind}
 use native.Mathlib.Nat.{eq-or-lt-of-le}
 use lib.ListN.{getD, List·getD-eq-default}
 use Rattle.graph.specs.Admission.{Admitted}
 use Rattle.graph.specs.Graph.{Graph, word, isEdge, isXor}
-use Rattle.graph.specs.Value.{exclusive, majority, literalValue, nodeValue, values, value}
+use Rattle.graph.specs.Value.{exclusive, majority, literalValue, nodeValue, values, value, outputValue}
 use Rattle.graph.proofs.Cases.{lt-or-le, true-or-false}
-use Rattle.graph.proofs.Edge.{edge-early}
-use Rattle.graph.proofs.Finite.{getD-tab}
+use Rattle.graph.proofs.Edge.{edge-early, third-majority}
+use Rattle.graph.proofs.Finite.{getD-tab, tab-same}
 use Rattle.graph.proofs.Values.{literal-bit, length-values, values-old, values-new, input-bit}
 
 pub majority-bit : (x y z : ℕ) → x < 2 → y < 2 → z < 2 → majority x y z < 2
 unfolding majority
@@ -28,10 +28,6 @@ node-bit g vs v =
     (λ (e : isXor g v ≡ false). rw e (majority-bit _ _ _ (literal-bit _ _) (literal-bit _ _) (literal-bit _ _)))
     (true-or-false (isXor g v))
 
-pub third-edge : (g : Graph) (v : ℕ) → isXor g v ≡ false → isEdge g (3 * v + 2) ≡ true
-unfolding isEdge isXor
-third-edge g v e = rw (e, and-false)
-
 -- two nodes of one kind, whose literals have the same values
 pub node-same : (g h : Graph) (vs ws : List ℕ) (v w : ℕ) → isXor g v ≡ isXor h w
     → ((k : ℕ) → k < 3 → isEdge g (3 * v + k) ≡ true → literalValue vs (word g (3 * v + k)) ≡ literalValue ws (word h (3 * w + k)))
@@ -42,7 +38,7 @@ node-same g h vs ws v w x s =
     let s₁ = s 1 (omega arith) (edge-early g (3 * v + 1) (omega arith)) in
     ⊎-elim
     (λ (e : isXor g v ≡ true). rw (← x, e, s₀, s₁))
-    (λ (e : isXor g v ≡ false). rw (← x, e, s₀, s₁, s 2 (omega arith) (third-edge g v e)))
+    (λ (e : isXor g v ≡ false). rw (← x, e, s₀, s₁, s 2 (omega arith) (third-majority g v e)))
     (true-or-false (isXor g v))
 
 pub literal-same : (vs ws : List ℕ) (x : ℕ) → getD vs (x / 2) 0 ≡ getD ws (x / 2) 0 → literalValue vs x ≡ literalValue ws x
@@ -96,3 +92,13 @@ unique h adm a f c p s (suc n) l i k =
     (λ (q : i ≡ h .I + 1 + n). rw q (value-node h a adm n (omega arith) ∙ s n (omega arith) (unique h adm a f c p s n (omega arith))))
     (λ (z : i < h .I + 1 + n). unique h adm a f c p s n (omega arith) i z)
     (eq-or-lt-of-le (omega arith))
+
+-- of two assignments that give every input the same bit, the values are the same
+values-alike : (g : Graph) (a b : ℕ → ℕ) → ((k : ℕ) → k < g .I → a k % 2 ≡ b k % 2) → (n : ℕ) → values g a n ≡ values g b n
+unfolding values
+values-alike g a b h zero = ap (λ (l : List ℕ). 0 ∷ l) (tab-same (g .I) (λ k. a k % 2) (λ k. b k % 2) h)
+values-alike g a b h (suc n) = rw (values-alike g a b h n)
+
+pub output-alike : (g : Graph) (a b : ℕ → ℕ) → ((k : ℕ) → k < g .I → a k % 2 ≡ b k % 2) → (j : ℕ) → outputValue g a j ≡ outputValue g b j
+unfolding outputValue
+output-alike g a b h j = rw (values-alike g a b h (g .N))
