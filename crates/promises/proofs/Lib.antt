@@ -2,4 +2,5 @@ pub mod Calls
 pub mod Lists
 pub mod Worked
 pub mod Found
+pub mod Stages
 pub mod Promises

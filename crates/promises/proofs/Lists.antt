@@ -4,6 +4,7 @@ use mathlib.Core.List.{List, [], _∷_}
 use Prim.Native.Nat.{ℕ}
 use native.Mathlib.Omega.{arith}
 use lib.IntN.{ℤ, pos, _+ℤ_}
+use Rattle.graph.specs.Graph.{Graph}
 use Rattle.graph.specs.Count.{C}
 use Rattle.graph.specs.Finite.{difference}
 use Rattle.graph.proofs.Difference.{at-least}
@@ -14,6 +15,8 @@ use Rattle.tagged_file.specs.Promises.{Accepts}
 use Rattle.tagged_file.proofs.RoundTrip.{load-admitted, load-locks}
 use Rattle.aiger.specs.Import.{importCall}
 use Rattle.aiger.proofs.Imported.{import-admitted, import-locks}
+use Rattle.join.specs.Join.{joinCall}
+use Rattle.join.proofs.Accepted.{joined-values}
 use Rattle.moves.proofs.Kept.{Stays, stays-none, stays-then}
 use Rattle.hidden.specs.Keeps.{Keeps}
 use Rattle.hidden.proofs.MajorityCall.{keeps-itself}
@@ -88,3 +91,10 @@ after-load s ns os ls e calls = demand (left (loadCall s ns os ls)) (load-admitt
 -- and after an accepted import of the text s
 pub after-import : (s ns os ls : List ℕ) → importCall s ns os ls .answer .number ≡ 0 → (calls : List Call) → Demand (left (importCall s ns os ls)) calls
 after-import s ns os ls e calls = demand (left (importCall s ns os ls)) (import-admitted s ns os ls e) (import-locks s ns os ls e) calls
+
+-- and after an accepted join of the graphs g and h with their locks, in the lent slices ns, os and rs
+pub after-join : (g : Graph) (ls : List ℕ) (h : Graph) (ks ns os rs : List ℕ) → joinCall g ls h ks ns os rs .answer .number ≡ 0
+    → (calls : List Call) → Demand (left (joinCall g ls h ks ns os rs)) calls
+after-join g ls h ks ns os rs e calls =
+    let j = joined-values g ls h ks ns os rs e in
+    demand (left (joinCall g ls h ks ns os rs)) (j .admitted) (j .locks) calls
