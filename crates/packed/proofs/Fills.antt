@@ -39,7 +39,7 @@ use Rattle.packed.proofs.Settling.{settle-call-in}
 use Rattle.packed.proofs.Trimmed.{word-in, output-in}
 
 -- filled tables, trimmed: what filled them
-take-filled : (n : ℕ) (ws l : List ℕ) → length ws ≡ n → take n (filled ws l) ≡ ws
+pub take-filled : (n : ℕ) (ws l : List ℕ) → length ws ≡ n → take n (filled ws l) ≡ ws
 unfolding filled
 take-filled n ws l e = rw (← e) (take-append-seam ws (drop (length ws) (cleared (wordsFor (length ws)) l)))
 
@@ -66,10 +66,10 @@ imported-same s ns os ms ps =
     same-graph (headI s) n o (x ns (length-tab (3 * n) f) ∙ sym (x ms (length-tab (3 * n) f))) (y os (length-tab o h) ∙ sym (y ps (length-tab o h)))
 
 -- what a call that fills tables leaves, trimmed: tables that hold no graph have nothing left
-abbrev trimmedFill : LockedOutcome → LockedOutcome
+abbrev pub trimmedFill : LockedOutcome → LockedOutcome
 trimmedFill o = lockedOutcome (o .answer) (trimmed (o .graph)) (o .locks)
 
-guarded-fill : (k : ℕ) (ns os ms ps ls : List ℕ) (x y : LockedOutcome) → (k ≡ 0 → trimmedFill x ≡ trimmedFill y)
+pub guarded-fill : (k : ℕ) (ns os ms ps ls : List ℕ) (x y : LockedOutcome) → (k ≡ 0 → trimmedFill x ≡ trimmedFill y)
     → trimmedFill (guardedLocks k (blank ns os) ls x) ≡ trimmedFill (guardedLocks k (blank ms ps) ls y)
 unfolding guardedLocks
 guarded-fill zero ns os ms ps ls x y e = e refl
@@ -228,7 +228,7 @@ module _ (us bs vs ds ms ps ls : List ℕ) (x : AsLong ms us bs) (y : AsLong ps 
       → ((ns os ms ps ls : List ℕ) → held ms ≡ held ns → held ps ≡ held os → f ms ps ls ≡ f ns os ls) → f ms ps ls ≡ f (literals us bs) (literals vs ds) ls
   at-these f same = same (literals us bs) (literals vs ds) ms ps ls (as-held ms us bs x) (as-held ps vs ds y)
 
-fills : (fill : List ℕ → List ℕ → List ℕ → LockedOutcome)
+pub fills : (fill : List ℕ → List ℕ → List ℕ → LockedOutcome)
     → ((ns os ms ps ls : List ℕ) → held ms ≡ held ns → held ps ≡ held os → trimmedFill (fill ms ps ls) ≡ trimmedFill (fill ns os ls))
     → ((ns os ls : List ℕ) → fill ns os ls .answer .number ≡ 0 → Admitted (fill ns os ls .graph)) → FillsAlike fill
 fills fill same adm =

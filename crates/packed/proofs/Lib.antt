@@ -11,6 +11,7 @@ pub mod Old
 pub mod Packing
 pub mod Corresponds
 pub mod Fills
+pub mod Joins
 pub mod File
 pub mod Worked
 pub mod Promises

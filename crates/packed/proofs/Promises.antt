@@ -5,6 +5,7 @@ use Rattle.packed.proofs.Old.{same-rule, refused-alike}
 use Rattle.packed.proofs.Packing.{every-old}
 use Rattle.packed.proofs.Corresponds.{corresponds}
 use Rattle.packed.proofs.Fills.{fills-correspond}
+use Rattle.packed.proofs.Joins.{joins-correspond}
 use Rattle.packed.proofs.File.{file-kept, one-file}
 use Rattle.packed.proofs.Worked.{worked-tables}
 
@@ -18,6 +19,7 @@ promises =
       every-old = every-old;
       corresponds = corresponds;
       fills-correspond = fills-correspond;
+      joins-correspond = joins-correspond;
       file-kept = file-kept;
       one-file = one-file;
       worked-tables = worked-tables;

@@ -1,7 +1,8 @@
 -- M-108: every call answers on an admitted packed graph as on its old one, and the two graphs afterwards correspond.
-use Rattle.graph.specs.All.{ℕ, false, _≡_, List, [], _∷_, length, ℤ, admissionNumber, Answer, accepted, unless, C, LockedOutcome, literals, graphIn, held}
+use Rattle.graph.specs.All.{ℕ, false, _≡_, List, [], _∷_, length, ℤ, Graph, admissionNumber, Answer, accepted, unless, C, LockedOutcome, literals, graphIn, held}
 use Rattle.tagged_file.specs.All.{writeCall, loadCall}
 use Rattle.aiger.specs.All.{exportCall, importCall}
+use Rattle.join.specs.All.{joinCall}
 use Rattle.evaluation.specs.All.{evaluateNumber, resultsAfter}
 use Rattle.moves.specs.All.{trialCall}
 use Rattle.preview.specs.All.{previewAnswer, previewBytes}
@@ -62,3 +63,9 @@ pub record FillsCorrespond (s words : List ℕ) (lent : Lent) (before : List ℤ
   pub report : FilledAlike (λ ns os ls. reportCall s ns os ls scratch buffer .answer)
   pub report-locks : FilledAlike (λ ns os ls. reportCall s ns os ls scratch buffer .locks)
   pub report-text : FilledAlike (λ ns os ls. reportCall s ns os ls scratch buffer .buffer)
+
+-- a join (M-113), with any locks of both parts: either part may be the old graph of an admitted one, and it fills tables as a load does
+pub record JoinsCorrespond (ls ks : List ℕ) : Type 0 where
+  pub first : (h : Graph) (ns os rs : List ℕ) → ToldAlike (λ g. joinCall g ls h ks ns os rs)
+  pub second : (g : Graph) (ns os rs : List ℕ) → ToldAlike (λ h. joinCall g ls h ks ns os rs)
+  pub joined : (g h : Graph) → FillsAlike (joinCall g ls h ks)

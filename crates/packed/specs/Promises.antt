@@ -1,7 +1,7 @@
 -- What crate packed promises (M-108), together.
 use Rattle.graph.specs.All.{ℕ, _≡_, List, [], _∷_, getD, ℤ, tab, Graph, graphOf, mark}
 use Rattle.replay.specs.All.{Lent}
-use Rattle.packed.specs.{Old.TellsAll, Old.OnesAreC, Old.SameRule, Old.RefusedAlike, Old.EveryOld, Old.oldTable, Old.oldGraph, Old.indicesOf, Old.bitsOf, Corresponds.Corresponds, Corresponds.FillsCorrespond, File.PackedGraph, File.OneFile, File.FileKept}
+use Rattle.packed.specs.{Old.TellsAll, Old.OnesAreC, Old.SameRule, Old.RefusedAlike, Old.EveryOld, Old.oldTable, Old.oldGraph, Old.indicesOf, Old.bitsOf, Corresponds.Corresponds, Corresponds.FillsCorrespond, Corresponds.JoinsCorrespond, File.PackedGraph, File.OneFile, File.FileKept}
 
 -- 66 literals of index 1: the first word has only its last bit, the second its first
 abbrev long : List ℕ
@@ -30,6 +30,7 @@ pub record Promises : Type 0 where
   pub corresponds : (ls : List ℕ) → Corresponds ls
   pub fills-correspond : (s words : List ℕ) (lent : Lent) (before : List ℤ) (room scratch : ℕ) (buffer : List ℕ)
       → FillsCorrespond s words lent before room scratch buffer
+  pub joins-correspond : (ls ks : List ℕ) → JoinsCorrespond ls ks
   pub file-kept : (p : PackedGraph) → FileKept p
   pub one-file : (p q : PackedGraph) → OneFile p q
   pub worked-tables : WorkedTables
