@@ -13,6 +13,7 @@ ghost use Rattle.tagged_file.specs.Load.{loadCall};
 ghost use Rattle.tagged_file.specs.Write.{writeCall};
 ghost use Rattle.aiger.specs.Import.{importCall};
 ghost use Rattle.aiger.specs.Export.{exportCall};
+ghost use Rattle.join.specs.Join.{joinCall};
 ghost use Rattle.evaluation.specs.Evaluation.{evaluateNumber, resultsAfter};
 ghost use Rattle.assignment.specs.Assignment.{assignmentCall};
 ghost use Rattle.moves.specs.Call.{nodeCall, pairCall, treeCall, trialCall};
@@ -93,6 +94,67 @@ pub extern "C" fn reducer_import(
         output_table,
         output_bits,
         locks,
+    );
+    *numbers = answers::told::loaded_told(answer, *numbers);
+    answers::told::loaded_number(answer)
+}
+
+// Joins two graphs in the tables and locks of a third, output k of the first driving input k of the second, and fills `numbers` with its I, N and O.
+#[no_mangle]
+pub extern "C" fn reducer_join(
+    inputs: u32,
+    nodes: u32,
+    outputs: u32,
+    node_table: &[u32],
+    node_bits: &[u64],
+    output_table: &[u32],
+    output_bits: &[u64],
+    locks: &[u8],
+    second_inputs: u32,
+    second_nodes: u32,
+    second_outputs: u32,
+    second_node_table: &[u32],
+    second_node_bits: &[u64],
+    second_output_table: &[u32],
+    second_output_bits: &[u64],
+    second_locks: &[u8],
+    joined_node_table: &mut [u32],
+    joined_node_bits: &mut [u64],
+    joined_output_table: &mut [u32],
+    joined_output_bits: &mut [u64],
+    joined_locks: &mut [u8],
+    numbers: &mut [u32; 3],
+) -> u32
+    ensures { λ r.
+        let g = graphBefore inputs nodes outputs «node_table» «node_bits» «output_table» «output_bits» in
+        let h = graphBefore «second_inputs» «second_nodes» «second_outputs» «second_node_table» «second_node_bits» «second_output_table» «second_output_bits» in
+        let ns = tableBefore «joined_node_table» «joined_node_bits» in
+        let os = tableBefore «joined_output_table» «joined_output_bits» in
+        let o = joinCall g (before locks) h (before «second_locks») ns os (before «joined_locks») in
+        ⌜ GraphLeft o r «joined_node_table» «joined_node_bits» «joined_output_table» «joined_output_bits» «joined_locks» numbers ⌝ }
+{
+    let answer = join::join(
+        inputs,
+        nodes,
+        outputs,
+        node_table,
+        node_bits,
+        output_table,
+        output_bits,
+        locks,
+        second_inputs,
+        second_nodes,
+        second_outputs,
+        second_node_table,
+        second_node_bits,
+        second_output_table,
+        second_output_bits,
+        second_locks,
+        joined_node_table,
+        joined_node_bits,
+        joined_output_table,
+        joined_output_bits,
+        joined_locks,
     );
     *numbers = answers::told::loaded_told(answer, *numbers);
     answers::told::loaded_number(answer)
