@@ -9,7 +9,7 @@ use crate::packed::{
 };
 use crate::replay::{calls_of, told, Words};
 use crate::settling::{settle, Settled};
-use crate::{aiger, assignment, calls, class, evaluation, file, moves, preview};
+use crate::{aiger, assignment, calls, class, evaluation, file, join, moves, preview};
 
 /// The graph that is held, where 3, 4, 5 or 13 does not refuse it; `short` is a slice of the call's own, whose 4 is told with that of
 /// the tables.
@@ -133,4 +133,18 @@ pub fn class(p: &mut Packed, scratch: usize, book: &mut [u64]) -> Result<Settled
 pub fn assignment(p: &Packed, wanted: &[u8], scratch: usize) -> Result<Option<u32>, Number> {
     let short = wanted.len() < p.outputs as usize;
     assignment::assignment(&graph_of(p, short)?, wanted, scratch)
+}
+
+/// Two graphs joined: the first whole, the second whole, 19, and 3 and 4 of the joined one, whose I, N and O become the packed graph's.
+pub fn join(p: &Packed, q: &Packed, lent: &mut Packed) -> Result<(u32, u32, u32), Number> {
+    admit(p)?;
+    admit(q)?;
+    if p.outputs != q.inputs {
+        return Err(19);
+    }
+    let nodes = p.nodes + q.nodes;
+    check_limits(p.inputs, nodes, q.outputs)?;
+    check_lengths(nodes, q.outputs, lent.lengths())?;
+    lent.put(&join::joined(&unpack(p), &unpack(q)));
+    Ok((p.inputs, nodes, q.outputs))
 }

@@ -17,6 +17,7 @@ pub mod file;
 pub mod find;
 pub mod generate;
 pub mod graph;
+pub mod join;
 pub mod majority;
 pub mod many;
 pub mod moves;
@@ -42,6 +43,8 @@ mod compare_tests;
 mod entry_tests;
 #[cfg(test)]
 mod find_tests;
+#[cfg(test)]
+mod join_tests;
 #[cfg(test)]
 mod lock_file_tests;
 #[cfg(test)]
