@@ -7,7 +7,8 @@ use reference::calls::{Answer, Call};
 use reference::class::WORDS;
 use reference::graph::MARK;
 use reference::moves::Saving;
-use reference::packed::{set_bit, Lengths, Packed};
+use reference::packed::{pack, set_bit, Lengths, Packed};
+use reference::vectors::samples::of;
 
 /// Nodes with 0, 3, 63, 66, 126, 129, 192 and 195 places, and outputs.
 const NODES: [u32; 8] = [0, 1, 21, 22, 42, 43, 64, 65];
@@ -158,7 +159,12 @@ fn numbers(p: &Packed) -> Result<Vec<(u32, u32)>, String> {
     let entered = number_of(raw::class(&mut p.clone(), 8 * nodes, &mut [0; WORDS])?);
     let other = graph(p.nodes, p.outputs);
     let compare = |g: &Packed, h: &Packed| Ok::<_, String>(number_of(raw::compare(g, h, &mut vec![3; nodes])?));
-    let on_two = [(compare(p, &other)?, 0), (compare(&other, p)?, 0)];
+    // Stages without nodes, which put out what the graph wants, and which want what it puts out.
+    let (before, behind) = (pack(&of(INPUTS, &[], &[2, 4])), pack(&of(p.outputs, &[], &[])));
+    let join = |g: &Packed, h: &Packed| {
+        Ok::<_, String>(number_of(raw::join(g, h, &mut raw::unfilled(Lengths::of(nodes, outputs)))?))
+    };
+    let on_two = [(compare(p, &other)?, 0), (compare(&other, p)?, 0), (join(p, &behind)?, 0), (join(&before, p)?, 0)];
     Ok([&steps[..], &readings, &[(entered, 0)], &on_two].concat())
 }
 

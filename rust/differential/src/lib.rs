@@ -19,6 +19,8 @@ pub mod files;
 pub mod hidden;
 pub mod hidden_faults;
 mod interface;
+pub mod join;
+pub mod join_faults;
 pub mod lengths;
 pub mod lists;
 pub mod lock_fields;

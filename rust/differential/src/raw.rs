@@ -19,10 +19,10 @@ const LONG_CANARY: usize = 0xa5a5_a5a5_a5a5;
 const SIGNED_CANARY: i64 = -0x5a5a_5a5a_5a5a;
 
 /// The numbers that a call can return, 0 for an accepted one.
-pub const NUMBERS: [u32; 22] = [0, 1, 2, 3, 4, 5, 6, 7, 8, 9, 10, 11, 12, 13, 14, 15, 16, 17, 18, 101, 102, 105];
+pub const NUMBERS: [u32; 23] = [0, 1, 2, 3, 4, 5, 6, 7, 8, 9, 10, 11, 12, 13, 14, 15, 16, 17, 18, 19, 101, 102, 105];
 
 /// How often each of them was returned.
-pub static MET: [AtomicU64; 22] = [const { AtomicU64::new(0) }; 22];
+pub static MET: [AtomicU64; 23] = [const { AtomicU64::new(0) }; 23];
 
 /// What a call answered, or what was wrong with how it answered.
 pub type Answered<T> = Result<Result<T, u32>, String>;
@@ -329,6 +329,32 @@ pub fn compare(g: &Packed, h: &Packed, moves: &mut [u8]) -> Answered<[u32; 2]> {
     let number = read_two(g, h, call)?;
     left("the moves", number, &before, moves)?;
     answered(number, told, [CANARY; 2])
+}
+
+/// Two graphs joined into what is lent; I, N and O become its own.
+pub fn join(g: &Packed, h: &Packed, joined: &mut Packed) -> Answered<(u32, u32, u32)> {
+    let (before, mut numbers) = (joined.clone(), [CANARY; 3]);
+    let lent = &mut *joined;
+    let call = |g: &mut Packed, h: &mut Packed| {
+        on_graphs!(
+            reducer_join,
+            g,
+            h,
+            lent.node_table.as_mut_ptr(),
+            lent.node_table.len(),
+            lent.node_bits.as_mut_ptr(),
+            lent.node_bits.len(),
+            lent.output_table.as_mut_ptr(),
+            lent.output_table.len(),
+            lent.output_bits.as_mut_ptr(),
+            lent.output_bits.len(),
+            lent.locks.as_mut_ptr(),
+            lent.locks.len(),
+            &mut numbers
+        )
+    };
+    let number = read_two(g, h, call)?;
+    loaded(number, numbers, joined, &before)
 }
 
 /// With so many words of scratch. Outputs and locks are only read.

@@ -2,11 +2,11 @@
 
 use differential::timing::families::{Family, FAMILIES, HARD};
 use differential::timing::found;
-use differential::timing::pairs::Moved;
+use differential::timing::pairs::{Moved, Stages};
 use differential::timing::patterns::Pattern;
 use differential::timing::races::{call, time, Call, Figure, Side};
 use differential::timing::samples::Sample;
-use differential::timing::single::race;
+use differential::timing::single::{race, Made};
 use differential::timing::woods::WOODS;
 use differential::timing::{plain, proved, LEAST_RUNS, SHAPES, SIZES, SPREAD};
 use reference::generate::Shape;
@@ -195,6 +195,18 @@ fn assigned() {
     }
 }
 
+/// Beside the same programme in plain Rust, and beside one that copies the first graph's words at once.
+const JOIN: [(&str, Made<Stages>); 2] = [("join", plain::join), ("join, by copying", plain::join_copied)];
+
+fn joined(call: &str, plain: Made<Stages>) {
+    println!("{SINGLE_HEAD}");
+    for (name, shape) in SHAPES {
+        let fresh = Stages::new(shape, 50_000);
+        let times = race(name, &fresh, [proved::join, plain], |sample| sample.joined);
+        print_single(call, name, 2 * fresh.first.nodes, 1, times);
+    }
+}
+
 const BEFORE: &str = "before";
 
 const HEAD: &str = "| call | graph | nodes | proved, µs | plain, µs | proved, ns a node | plain, ns a node | \
@@ -235,6 +247,9 @@ fn main() {
     }
     if chosen(ASSIGNMENT) {
         assigned();
+    }
+    for (call, plain) in JOIN.into_iter().filter(|row| chosen(row.0)) {
+        joined(call, plain);
     }
     if chosen(BEFORE) {
         before_and_after();

@@ -10,8 +10,9 @@ use differential::extremes::{self, EXTREMES, LOCKED};
 use differential::shrink::{hold, Check};
 use differential::{
     assignment, assignment_faults, bit_faults, call_faults, class, class_faults, compare, compare_faults, exports,
-    faults, files, hidden, hidden_faults, lengths, lists, lock_fields, many, many_faults, preview_faults, previews,
-    raw, replay_faults, replays, resistive, savings, stored, text_limits, texts, trial_faults, trials, words,
+    faults, files, hidden, hidden_faults, join, join_faults, lengths, lists, lock_fields, many, many_faults,
+    preview_faults, previews, raw, replay_faults, replays, resistive, savings, stored, text_limits, texts,
+    trial_faults, trials, words,
 };
 use reference::calls::Call;
 use reference::generate::{graph, locked_one_in, moves_of, with_locks, Shape, SHAPES};
@@ -21,7 +22,7 @@ use reference::random::Random;
 /// What one kind of test does with a seed: how many cases it tried, or what failed.
 type Kind = (&'static str, u64, fn(u64) -> Result<u64, String>);
 
-const KINDS: [Kind; 67] = [
+const KINDS: [Kind; 71] = [
     ("stored cases of single calls and evaluation", 1, stored),
     ("the plain implementation, lists of calls", 30_000, plain_lists),
     ("lists of calls on small graphs", 80_000, small_lists),
@@ -89,6 +90,10 @@ const KINDS: [Kind; 67] = [
     ("assignments of up to 16 inputs", 600, assigned_longer),
     ("assignments with every choice of faults of known numbers", 1, faulty_assignments),
     ("assignments on thousands of nodes", 16, assigned_large),
+    ("graphs joined", 40_000, joined),
+    ("graphs joined over several words of bits", 400, joined_longer),
+    ("graphs joined with every choice of faults of known numbers", 1, faulty_joins),
+    ("graphs joined at the limits", join::LARGE.len() as u64, joined_large),
 ];
 
 fn stored(_: u64) -> Result<u64, String> {
@@ -484,6 +489,25 @@ fn assigned_large(seed: u64) -> Result<u64, String> {
     assignment::check_large(seed).map_err(|wrong| format!("seed {seed}: {wrong}"))
 }
 
+fn joined(seed: u64) -> Result<u64, String> {
+    hold(seed, join::random_join(seed, 6, 5), &join::check_join)?;
+    Ok(1)
+}
+
+fn joined_longer(seed: u64) -> Result<u64, String> {
+    hold(seed, join::random_join(seed, 90, 130), &join::check_join)?;
+    Ok(1)
+}
+
+fn faulty_joins(_: u64) -> Result<u64, String> {
+    join_faults::check_faults()
+}
+
+fn joined_large(seed: u64) -> Result<u64, String> {
+    let Some(&(first, second)) = join::LARGE.get(seed as usize) else { return Ok(0) };
+    join::check_large(first, second, seed).map_err(|wrong| format!("seed {seed}: {wrong}"))
+}
+
 fn run(kind: &Kind, only: Option<u64>) -> Result<u64, String> {
     let (name, seeds, test) = *kind;
     let start = Instant::now();
@@ -526,7 +550,7 @@ fn main() -> ExitCode {
         let met = met.and_then(|()| previews::all_met()).and_then(|()| many::all_met());
         let met = met.and_then(|()| hidden::all_met()).and_then(|()| resistive::all_met());
         let met = met.and_then(|()| class::all_met()).and_then(|()| compare::all_met());
-        if let Err(wrong) = met.and_then(|()| assignment::all_met()) {
+        if let Err(wrong) = met.and_then(|()| assignment::all_met()).and_then(|()| join::all_met()) {
             println!("{wrong}");
             failed += 1;
         }

@@ -54,6 +54,15 @@ impl<'a> Gather<'a> {
         Gather { bits, at: 0, held: 0, many: 0 }
     }
 
+    /// The bits of so many places at once, where nothing is gathered yet and none is set past them.
+    pub fn all(&mut self, bits: &[u64], places: usize) {
+        let full = places / 64;
+        self.bits[..full].copy_from_slice(&bits[..full]);
+        self.at = full;
+        self.many = (places % 64) as u32;
+        self.held = if self.many == 0 { 0 } else { bits[full] };
+    }
+
     fn store(&mut self) {
         self.bits[self.at] = self.held;
         self.at += 1;

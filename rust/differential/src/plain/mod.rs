@@ -10,6 +10,7 @@ pub mod decide;
 pub mod evaluate;
 pub mod file;
 pub mod find;
+pub mod join;
 pub mod many;
 pub mod near;
 pub mod preview;

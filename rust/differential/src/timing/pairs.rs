@@ -3,8 +3,9 @@
 use reference::fast::Fast;
 use reference::generate::{graph, Shape};
 use reference::moves::rows;
-use reference::packed::{pack, Packed};
+use reference::packed::{pack, Lengths, Packed};
 use reference::random::Random;
+use reference::vectors::case::unfilled;
 
 /// Two graphs of one wiring, and a byte a node.
 #[derive(Clone)]
@@ -24,5 +25,22 @@ impl Moved {
             made.make(node, random.below(rows(&g, node).len() as u32) as usize);
         }
         Moved { first: pack(&g), second: pack(&made.g), moves: vec![0; nodes as usize] }
+    }
+}
+
+/// Two graphs that meet, and what is lent for the joined one.
+#[derive(Clone)]
+pub struct Stages {
+    pub first: Packed,
+    pub second: Packed,
+    pub joined: Packed,
+}
+
+impl Stages {
+    /// Of so many nodes each.
+    pub fn new(shape: Shape, nodes: u32) -> Stages {
+        let mut random = Random::new(nodes.into());
+        let [first, second] = [0; 2].map(|_| pack(&graph(&mut random, shape, 128, nodes, 128)));
+        Stages { first, second, joined: unfilled(Lengths::of(2 * nodes as usize, 128)) }
     }
 }

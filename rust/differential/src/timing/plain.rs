@@ -2,13 +2,13 @@
 
 use reference::packed::Packed;
 
-use super::pairs::Moved;
+use super::pairs::{Moved, Stages};
 use super::patterns::{told, Pattern};
 use super::samples::{as_one, part, Lent};
 use super::woods;
 use crate::plain::{
-    aiger, assignment, calls, compare, complemented_edges, evaluate, file, find, many, preview, resistive, settle,
-    sweeps, tree,
+    aiger, assignment, calls, compare, complemented_edges, evaluate, file, find, join, many, preview, resistive,
+    settle, sweeps, tree,
 };
 use crate::tables::{filled, tables, view, wired};
 
@@ -95,4 +95,13 @@ pub fn compare(s: &mut Moved) -> u64 {
 
 pub fn assignment(s: &mut Pattern) -> u64 {
     told(assignment::assignment(&view(&s.g), &s.wanted, s.scratch.len()).unwrap())
+}
+
+/// The joined graph's N.
+pub fn join(s: &mut Stages) -> u64 {
+    join::join(&view(&s.first), &view(&s.second), filled(&mut s.joined)).unwrap().1.into()
+}
+
+pub fn join_copied(s: &mut Stages) -> u64 {
+    join::join_copied(&view(&s.first), &view(&s.second), filled(&mut s.joined)).unwrap().1.into()
 }

@@ -2,7 +2,7 @@
 
 use reference::packed::Packed;
 
-use super::pairs::Moved;
+use super::pairs::{Moved, Stages};
 use super::patterns::{self, Pattern};
 use super::samples::{as_one, part, Lent};
 use super::woods;
@@ -170,6 +170,28 @@ pub fn assignment(s: &mut Pattern) -> u64 {
     let number =
         on_graph!(reducer_assignment, &mut s.g, wanted, length, scratch.as_mut_ptr(), scratch.len(), &mut found);
     accepted(number, patterns::told((found[0] == 1).then_some(found[1])))
+}
+
+/// The joined graph's N.
+pub fn join(s: &mut Stages) -> u64 {
+    let (lent, mut numbers) = (&mut s.joined, [0; 3]);
+    let number = on_graphs!(
+        reducer_join,
+        &mut s.first,
+        &mut s.second,
+        lent.node_table.as_mut_ptr(),
+        lent.node_table.len(),
+        lent.node_bits.as_mut_ptr(),
+        lent.node_bits.len(),
+        lent.output_table.as_mut_ptr(),
+        lent.output_table.len(),
+        lent.output_bits.as_mut_ptr(),
+        lent.output_bits.len(),
+        lent.locks.as_mut_ptr(),
+        lent.locks.len(),
+        &mut numbers
+    );
+    accepted(number, numbers[1].into())
 }
 
 /// What the calls of a round save in both parts, where each call scans the tables.
