@@ -83,6 +83,16 @@ def ripple_adder(width):
     return c
 
 
+def adder_stage(width):
+    """One step of serial addition: the lowest bits are added, and both numbers move on by one place, x with the bit of the sum above it.
+    Inputs x, y, carry, lowest bit first, and outputs likewise: joined with itself `width` times it leaves the sum, y and the carry."""
+    c = Circuit(2 * width + 1)
+    x, y = ([c.input(start + k) for k in range(width)] for start in (0, width))
+    total, carry = full_adder(c, x[0], y[0], c.input(2 * width))
+    c.outputs = x[1:] + [total] + y[1:] + [y[0], carry]
+    return c
+
+
 def array_multiplier(width):
     """The array multiplier: a row of ANDs for each bit of y, added to the rows above it by half adders and by full
     adders of two half adders and an OR."""
@@ -120,7 +130,7 @@ def number_bits(n, width):
 
 
 def main():
-    adder, eight, four = one_adder(), ripple_adder(8), array_multiplier(4)
+    adder, eight, four, stage = one_adder(), ripple_adder(8), array_multiplier(4), adder_stage(4)
     for n in range(8):
         assert value(adder, number_bits(n, 3)) == bin(n).count("1")
     for x in range(256):
@@ -129,8 +139,13 @@ def main():
     for x in range(16):
         for y in range(16):
             assert value(four, number_bits(x, 4) + number_bits(y, 4)) == x * y
+            for carry in range(2):
+                state = x + 16 * y + 256 * carry
+                for _ in range(4):
+                    state = value(stage, number_bits(state, 9))
+                assert (state & 15) + 16 * (state >> 8) == x + y + carry and state >> 4 & 15 == y
     here = os.path.dirname(os.path.abspath(__file__))
-    for name, c in [("full_adder", adder), ("adder8", eight), ("multiplier4", four)]:
+    for name, c in [("full_adder", adder), ("adder8", eight), ("multiplier4", four), ("adder_stage4", stage)]:
         with open(os.path.join(here, name + ".mig"), "wb") as f:
             f.write(c.bytes())
         print(f"{name}.mig: {c.inputs} inputs, {len(c.nodes)} nodes, {len(c.outputs)} outputs, {len(c.bytes())} bytes")

@@ -29,8 +29,9 @@
  *   own words may still turn, by moves of the nodes that they name. A call may name a locked node, and one on a tree a locked root;
  *   reducer_many and reducer_trial refuse a move other than 0 at one, reducer_majority refuses one, and reducer_find leaves it.
  *
- *   Moves turn bits alone. reducer_load, reducer_import and reducer_replay fill indices and locks; reducer_majority changes the
- *   indices of its node, and reducer_find indices, locks and the number of nodes. No other function changes any of these.
+ *   Moves turn bits alone. reducer_load, reducer_import, reducer_join and reducer_replay fill indices and locks; reducer_majority
+ *   changes the indices of its node, and reducer_find indices, locks and the number of nodes. No other function changes any of
+ *   these.
  *
  *   Tables, bits and locks may be longer than the graph. Only the first 3 * N indices and REDUCER_BIT_WORDS(3 * N) words of bits
  *   of the node table, the first O indices and REDUCER_BIT_WORDS(O) words of bits of the output table, and the first N locks are
@@ -46,7 +47,8 @@
  *   order, many moves their list entry by entry, after 3, 4, 5 and 13, each entry being tested for 7, 14, 15, 16 in that order, a
  *   trial its two moves, each for 15 and 16, after 7, a majority call its node, its triple and its lock by 7, 7 and 16, before 8,
  *   a class its book by 3 before all else, a comparison 3 and 4 of both graphs before 5 and 13 of both, an assignment 17 and 18
- *   between 13 and 8, and a replay its calls and answers before its file. Scratch holds nothing of use before or after a call.
+ *   between 13 and 8, a join both graphs whole before 19 and the joined one, and a replay its calls and answers before its file.
+ *   Scratch holds nothing of use before or after a call.
  *
  *   A saving is two numbers, of which either may be below 0: how many complemented edges fewer there are, first among the words
  *   of the nodes that the call names, then among all other edges, words of other nodes and outputs. Together they are the
@@ -118,7 +120,7 @@ enum reducer_kind {
 };
 
 /*
- * What is returned. 1 to 9 are the refusals of document 01, 10 to 18 those that document 02 adds; 101, 102 and 105 are a replay's
+ * What is returned. 1 to 9 are the refusals of document 01, 10 to 19 those that document 02 adds; 101, 102 and 105 are a replay's
  * own and of neither document.
  */
 enum reducer_number {
@@ -165,6 +167,8 @@ enum reducer_number {
     REDUCER_MANY_INPUTS = 17,
     /* a wanted byte above 2 */
     REDUCER_BAD_WANTED = 18,
+    /* the first graph's outputs and the second's inputs differ in number */
+    REDUCER_STAGES_DIFFER = 19,
     /* words of the list are left over: their number is not a multiple of 3 */
     REDUCER_LEFT_OVER = 101,
     /* a call of the list has a kind above 7 */
@@ -279,6 +283,33 @@ uint32_t reducer_export(uint32_t inputs, uint32_t nodes, uint32_t outputs,
                         uint32_t *scratch, size_t scratch_length,
                         uint8_t *buffer, size_t buffer_length,
                         size_t *length);
+
+/*
+ * Joins two graphs: output k of the first drives input k of the second. The joined graph has the first's inputs, the first's nodes and
+ * after them the second's, with their locks, and the second's outputs. An edge from input k of the second becomes the first's output k,
+ * complemented where just one of the two is; the second's edges from the constant stay. Fills the joined tables, bits and locks as
+ * reducer_load fills its own, and numbers are its I, N and O. Each output has the second's value on the first's outputs, under every
+ * assignment. Both graphs are only read and may be the same slices; the joined slices overlap none of theirs. Refusals: 3, 4, 5, 13 of the
+ * first graph, 3, 4, 5, 13 of the second, 19, then 3 and 4 of the joined one.
+ */
+uint32_t reducer_join(uint32_t inputs, uint32_t nodes, uint32_t outputs,
+                      const uint32_t *node_table, size_t node_table_length,
+                      const uint64_t *node_bits, size_t node_bits_length,
+                      const uint32_t *output_table, size_t output_table_length,
+                      const uint64_t *output_bits, size_t output_bits_length,
+                      const uint8_t *locks, size_t locks_length,
+                      uint32_t second_inputs, uint32_t second_nodes, uint32_t second_outputs,
+                      const uint32_t *second_node_table, size_t second_node_table_length,
+                      const uint64_t *second_node_bits, size_t second_node_bits_length,
+                      const uint32_t *second_output_table, size_t second_output_table_length,
+                      const uint64_t *second_output_bits, size_t second_output_bits_length,
+                      const uint8_t *second_locks, size_t second_locks_length,
+                      uint32_t *joined_node_table, size_t joined_node_table_length,
+                      uint64_t *joined_node_bits, size_t joined_node_bits_length,
+                      uint32_t *joined_output_table, size_t joined_output_table_length,
+                      uint64_t *joined_output_bits, size_t joined_output_bits_length,
+                      uint8_t *joined_locks, size_t joined_locks_length,
+                      uint32_t numbers[3]);
 
 /*
  * Evaluates all outputs under 64 assignments: bit j of input word k is input k + 1 under assignment j, and bit j of result o

@@ -11,7 +11,8 @@ out already: no call turns it, and its file says so. Graph.many makes moves that
 Graph.find finds the majorities that and-inverter tools have hidden in ANDs, and Graph.majority makes a node one. Graph.resistive_call
 chooses a tree's moves for memories of resistive cells, which want majorities with just one complemented input. A Class settles graphs
 one after another and sums up their figures. Graph.compare tells the moves that lead from one graph to another.
-Graph.assignment_for finds the least assignment that gives a wanted output pattern.
+Graph.assignment_for finds the least assignment that gives a wanted output pattern. Graph.join puts two graphs together, the outputs of
+one driving the inputs of the other.
 
 Every call is one of the proved library's. A call that cannot be made raises: Refused, with the number of the refusal, where
 the library refuses it; TypeError or ValueError where an argument is not of the kind that the library takes. Either way
@@ -75,13 +76,14 @@ _WHY = {
     16: "a move other than 0 is at a locked node",
     17: "there are more than 16 inputs",
     18: "a wanted byte is above 2",
+    19: "the first graph's outputs and the second's inputs differ in number",
     102: "a call of the list has a kind that is none",
     105: "a many call's part, or a majority call's triple, reaches past the end of the list",
 }
 
 
 class Refused(Exception):
-    """A call that the library refuses. `number` is 1 to 18, or 102 or 105 of a replay; nothing has changed."""
+    """A call that the library refuses. `number` is 1 to 19, or 102 or 105 of a replay; nothing has changed."""
 
     def __init__(self, number: int) -> None:
         super().__init__(f"refused {number}: {_WHY.get(number, 'for no known cause')}")
@@ -218,6 +220,7 @@ _load = _function("reducer_load", _WORDS + _TABLES + [ctypes.c_void_p])
 _write = _function("reducer_write", _GRAPH + _WORDS + [ctypes.c_void_p])
 _import = _function("reducer_import", _WORDS + _TABLES + [ctypes.c_void_p])
 _export = _function("reducer_export", _GRAPH + _WORDS * 2 + [ctypes.c_void_p])
+_join = _function("reducer_join", _GRAPH * 2 + _TABLES + [ctypes.c_void_p])
 _evaluate = _function("reducer_evaluate", _GRAPH + _WORDS * 3)
 _assignment = _function("reducer_assignment", _GRAPH + _WORDS * 2 + [ctypes.c_void_p])
 _count = _function("reducer_count", _GRAPH + [ctypes.c_void_p])
@@ -701,6 +704,14 @@ class Graph:
         _call(_export, *lent, scratch, nodes, buffer, room, ctypes.byref(length))
         return ctypes.string_at(buffer, length.value)
 
+    def join(self, second: "Graph") -> "Graph":
+        """This graph joined with a second: output k of this one drives input k of the second. It has this graph's inputs, both lists of
+        nodes in order with their locks, and the second's outputs; each has the second's value on this graph's outputs."""
+        other, lent = _second(second), self._lent()
+        tables, numbers = _tables(lent[1] + other[1], other[2]), (_U32 * 3)()
+        _call(_join, *lent, *other, *tables.arrays(), numbers)
+        return _graph(numbers[0], tables)
+
     def evaluate(self, input_words: Sequence[int]) -> List[int]:
         """The outputs' words of 64 bits for one such word an input: each bit place is an assignment of its own."""
         words, count = _numbers(input_words, _U64, "input_words")
@@ -779,10 +790,7 @@ class Graph:
     def compare(self, second: "Graph") -> Compared:
         """The moves that lead from this graph to another of the same wiring, or what differs first. A locked node's move is told like
         any."""
-        if not isinstance(second, Graph):
-            raise TypeError(f"second must be a Graph, and is a {type(second).__name__}")
-        # A second graph's locks may have to be fitted, before anything is lent.
-        other, lent = second._lent(), self._lent()
+        other, lent = _second(second), self._lent()
         moves, difference = _array(ctypes.c_uint8, lent[1]), (_U32 * 2)()
         _call(_compare, *lent, *other, moves, lent[1], difference)
         if difference[0] == 0:
@@ -822,6 +830,13 @@ class Graph:
         room = 8 * lent[1]
         _call(_settle, *lent, _array(_U32, room), room, figures, savings)
         return Settled(*figures, *savings)
+
+
+def _second(graph: Graph) -> list:
+    """A second graph, as a call on two takes it."""
+    if not isinstance(graph, Graph):
+        raise TypeError(f"second must be a Graph, and is a {type(graph).__name__}")
+    return graph._lent()
 
 
 class Class:

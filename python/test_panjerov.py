@@ -776,6 +776,7 @@ def every_call(graph: Graph) -> list:
         lambda: graph.preview(last),
         lambda: graph.resistive_call(last),
         lambda: graph.many([last], [1]),
+        lambda: graph.join(Graph(len(graph.outputs), [], [])),
     ]
 
 
@@ -1170,6 +1171,85 @@ class Assignments(unittest.TestCase):
         for bad, error in [("012", ValueError), (["x"], TypeError), ([256], ValueError), (None, TypeError)]:
             with self.assertRaises(error):
                 Graph(1, [], [2, 2, 2]).assignment_for(bad)
+
+
+def meeting(generator: random.Random, first: Graph) -> Graph:
+    """A second stage for a first one: a random graph with an input for each output of the first."""
+    other = random_graph(generator)
+    inputs, shift = len(first.outputs), len(first.outputs) - other.inputs
+
+    def moved(word: int) -> int:
+        if word == MARK or word < 2:
+            return word
+        # Inputs that are too many become the constant.
+        return word + 2 * shift if word // 2 > other.inputs else word if word // 2 <= inputs else word & 1
+
+    locked = [index + shift for index in other.locked]
+    return Graph(inputs, [moved(word) for word in other.nodes], [moved(word) for word in other.outputs], locked)
+
+
+class Joining(unittest.TestCase):
+    """Stages joined."""
+
+    def test_worked(self) -> None:
+        """Two inverters are a wire; constants from either side stay; a node is read by both ways of complement."""
+        inverter = Graph(1, [], [3])
+        self.assertEqual(inverter.join(inverter), Graph(1, [], [2]))
+        self.assertEqual(Graph(1, [], [1]).join(inverter), Graph(1, [], [0]))
+        self.assertEqual(inverter.join(Graph(1, [], [1, 0])), Graph(1, [], [1, 0]))
+        first, second = Graph(3, [3, 5, 7], [9, 4], [4]), Graph(2, [2, 5, 0, 7, 3, MARK], [8, 5])
+        joined = first.join(second)
+        self.assertEqual(joined, Graph(3, [3, 5, 7, 9, 5, 0, 11, 8, MARK], [12, 5], [4]))
+
+    def test_values(self) -> None:
+        """The second's value on the first's outputs, and both lists of locks."""
+        generator = random.Random(113)
+        for _ in range(1500):
+            first = random_graph(generator)
+            second = meeting(generator, first)
+            kept = copied(first), copied(second)
+            joined, assignments = first.join(second), list(range(2**first.inputs))
+            self.assertEqual(values(joined, assignments), values(second, values(first, assignments)))
+            shift = len(first.nodes) // 3 + first.inputs - second.inputs
+            self.assertEqual(joined.locked, first.locked + [index + shift for index in second.locked])
+            self.assertEqual((joined.inputs, len(joined.nodes)), (first.inputs, len(first.nodes) + len(second.nodes)))
+            self.assertEqual((first, second), kept)
+
+    def test_example(self) -> None:
+        """Four steps of the example add: the sum stands where x was, y is what it was, and then there is the carry."""
+        stage = panjerov.load((EXAMPLES / "adder_stage4.mig").read_bytes())
+        adder, numbers = stage.join(stage).join(stage).join(stage), list(range(512))
+        for number, told in zip(numbers, values(adder, numbers)):
+            total = number % 16 + number // 16 % 16 + number // 256
+            self.assertEqual(told, total % 16 + 16 * (number // 16 % 16) + 256 * (total // 16))
+
+    def test_settled_stages(self) -> None:
+        """Both parts settled, joined, and the whole settled: the same value, and no more complemented edges than joined."""
+        generator = random.Random(1130)
+        for _ in range(300):
+            first = random_graph(generator)
+            second = meeting(generator, first)
+            assignments = list(range(2**first.inputs))
+            due = values(first.join(second), assignments)
+            first.settle()
+            second.settle()
+            whole = first.join(second)
+            before = whole.complemented_edges()
+            self.assertLessEqual(whole.settle().after, before)
+            self.assertEqual(values(whole, assignments), due)
+
+    def test_refusals(self) -> None:
+        good, over, bad = Graph(3, [3, 5, 7], [9]), Graph(4097, [], []), Graph(3, [8, 7, 7], [])
+        for first, second, number in [(bad, over, 5), (good, over, 3), (over, bad, 3), (good, bad, 5), (good, good, 19)]:
+            with self.assertRaises(Refused) as caught:
+                first.join(second)
+            self.assertEqual(caught.exception.number, number)
+        half = Graph(1, [2, 2, 2] * 50001, [2])
+        with self.assertRaises(Refused) as caught:
+            half.join(half)
+        self.assertEqual(caught.exception.number, 3)
+        with self.assertRaises(TypeError):
+            good.join(None)
 
 
 class Packed(unittest.TestCase):

@@ -29,7 +29,7 @@ pub struct Lent<'a> {
 pub(crate) fn answer<T>(number: u32, value: T) -> Result<T, Refusal> {
     match number {
         0 => Ok(value),
-        refused => Err(Refusal::from_number(refused).expect("the library answers 0 to 18")),
+        refused => Err(Refusal::from_number(refused).expect("the library answers 0 to 19")),
     }
 }
 
@@ -210,6 +210,61 @@ pub fn export(
         )
     };
     answer(number, length)
+}
+
+/// Joins two graphs, output k of the first driving input k of the second, and fills the front of both tables, of their bits and of the locks.
+pub fn join(
+    first: Lent,
+    second: Lent,
+    node_table: &mut [u32],
+    node_bits: &mut [u64],
+    output_table: &mut [u32],
+    output_bits: &mut [u64],
+    locks: &mut [u8],
+) -> Result<Size, Refusal> {
+    let mut numbers = [0u32; 3];
+    let number = unsafe {
+        raw::reducer_join(
+            first.size.inputs,
+            first.size.nodes,
+            first.size.outputs,
+            first.node_table.as_ptr(),
+            first.node_table.len(),
+            first.node_bits.as_ptr(),
+            first.node_bits.len(),
+            first.output_table.as_ptr(),
+            first.output_table.len(),
+            first.output_bits.as_ptr(),
+            first.output_bits.len(),
+            first.locks.as_ptr(),
+            first.locks.len(),
+            second.size.inputs,
+            second.size.nodes,
+            second.size.outputs,
+            second.node_table.as_ptr(),
+            second.node_table.len(),
+            second.node_bits.as_ptr(),
+            second.node_bits.len(),
+            second.output_table.as_ptr(),
+            second.output_table.len(),
+            second.output_bits.as_ptr(),
+            second.output_bits.len(),
+            second.locks.as_ptr(),
+            second.locks.len(),
+            node_table.as_mut_ptr(),
+            node_table.len(),
+            node_bits.as_mut_ptr(),
+            node_bits.len(),
+            output_table.as_mut_ptr(),
+            output_table.len(),
+            output_bits.as_mut_ptr(),
+            output_bits.len(),
+            locks.as_mut_ptr(),
+            locks.len(),
+            &mut numbers,
+        )
+    };
+    answer(number, size_of(numbers))
 }
 
 /// Fills the front of the results with the outputs' words. Scratch is one word a node.

@@ -30,6 +30,8 @@
 //!
 //! [`Graph::assignment_for`] finds the least assignment that gives a wanted output pattern.
 //!
+//! [`Graph::join`] puts two graphs together, the outputs of one driving the inputs of the other.
+//!
 //! A literal, as a file has it, is twice an index, and one more if it is complemented: [`Graph::new`] takes a graph so, and
 //! [`Graph::node`] and [`Graph::output`] give it so. Its tables are kept as they are lent, indices and complement bits apart.
 //!
@@ -98,10 +100,12 @@ pub enum Refusal {
     ManyInputs = 17,
     /// A wanted byte is above 2.
     BadWanted = 18,
+    /// The first graph's outputs and the second's inputs differ in number.
+    StagesDiffer = 19,
 }
 
 impl Refusal {
-    /// The refusal's number, 1 to 18.
+    /// The refusal's number, 1 to 19.
     pub fn number(self) -> u32 {
         self as u32
     }
@@ -127,6 +131,7 @@ impl Refusal {
             16 => Some(Refusal::MoveOfLocked),
             17 => Some(Refusal::ManyInputs),
             18 => Some(Refusal::BadWanted),
+            19 => Some(Refusal::StagesDiffer),
             _ => None,
         }
     }
@@ -153,6 +158,7 @@ impl fmt::Display for Refusal {
             Refusal::MoveOfLocked => "a move other than 0 is at a locked node",
             Refusal::ManyInputs => "there are more than 16 inputs",
             Refusal::BadWanted => "a wanted byte is above 2",
+            Refusal::StagesDiffer => "the first graph's outputs and the second's inputs differ in number",
         };
         write!(f, "refused {}: {why}", self.number())
     }
@@ -690,6 +696,18 @@ impl Graph {
         )?;
         text.truncate(length);
         Ok(text)
+    }
+
+    /// This graph joined with a second: output k of this one drives input k of the second. It has this graph's inputs, both lists of nodes in
+    /// order with their locks, and the second's outputs; each has the second's value on this graph's outputs.
+    pub fn join(&self, second: &Graph) -> Result<Graph, Refusal> {
+        // More than the limits is refused, and gets no more room.
+        let nodes = self.size.nodes.min(MOST_NODES) + second.size.nodes.min(MOST_NODES);
+        let mut joined = Graph::with_room(nodes as usize, second.size.outputs.min(MOST_OUTPUTS) as usize);
+        let Graph { node_table, node_bits, output_table, output_bits, locks, .. } = &mut joined;
+        let (first, second) = (self.lent(), second.lent());
+        joined.size = lent::join(first, second, node_table, node_bits, output_table, output_bits, locks)?;
+        Ok(joined)
     }
 
     /// The outputs' words for one word an input: each of the 64 bit places is an assignment of its own.

@@ -13,6 +13,8 @@ mod assignments;
 mod classes;
 #[path = "program/found.rs"]
 mod found;
+#[path = "program/joins.rs"]
+mod joins;
 #[path = "program/locks.rs"]
 mod locks;
 #[path = "program/moves.rs"]
@@ -435,6 +437,7 @@ fn usage() {
         &["sheets", "--help"],
         &["compare", "--help"],
         &["assign", "--help"],
+        &["join", "--help"],
         &["help"],
         &["help", "picture"],
     ] {

@@ -145,11 +145,11 @@ fn edges_of_the_limits() {
 
 #[test]
 fn numbers_of_refusals() {
-    for number in 1..=18 {
+    for number in 1..=19 {
         assert_eq!(Refusal::from_number(number).unwrap().number(), number);
     }
     assert_eq!(Refusal::from_number(0), None);
-    assert_eq!(Refusal::from_number(19), None);
+    assert_eq!(Refusal::from_number(20), None);
 }
 
 #[test]

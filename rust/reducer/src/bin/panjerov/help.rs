@@ -19,6 +19,7 @@ Reduces inversions in majority and XOR graphs. The commands:
     apply      makes the moves that a list has, all of them or none
     sheets     shortens a sheet of moves, or tells whether two end alike
     compare    tells the moves that lead from one graph to another
+    join       joins graphs: the outputs of one drive the inputs of the next
     assign     finds an assignment of the inputs that gives a wanted output
     picture    draws the graph, as DOT text for Graphviz, as SVG or as PNG
     report     settles the graph and gives a page with figures and pictures
@@ -347,6 +348,28 @@ The exit status is 0 where there is an assignment, 1 where there is none, and 2
 for whatever else: what is refused, or cannot be read, written or understood.
 ";
 
+const JOIN: &str = "\
+usage: panjerov join FIRST SECOND [MORE...] [-o FILE] [--to tagged|aiger]
+
+Joins graphs that are stages of one circuit: output 1 of FIRST drives input 1 of
+SECOND, output 2 input 2 and so on, and what comes of it is joined with the next
+in the same way. A file may be given more than once, and one of them may be -.
+
+The joined graph has the inputs of the first, the nodes of all in order with
+their locks, and the outputs of the last. Where a complemented edge meets a
+complemented output the two cancel. Nothing is dropped, also not what no output
+rests on. A line with its figures goes to standard error:
+
+    inputs 3 nodes 2 outputs 1 complemented 4 locked 1
+
+A stage with another number of inputs than the one before has outputs is refused
+(19), and so are more than 100,000 nodes together (3). Indices of the second and
+later stages are other ones than before; locks go with their nodes.
+
+What is given is a tagged file, also where all are AIGER text, whose names of
+inputs and outputs are not kept; with --to aiger each majority is four ANDs.
+";
+
 const PICTURE: &str = "\
 usage: panjerov picture [FILE] [--svg|--png] [--output K|--root R] [-o FILE]
        panjerov picture --compare BEFORE AFTER [--svg|--png]
@@ -472,6 +495,7 @@ pub fn of(command: Command) -> String {
         Command::Sheets => SHEETS,
         Command::Compare => COMPARE,
         Command::Assign => ASSIGN,
+        Command::Join => JOIN,
         Command::Picture => PICTURE,
         Command::Report => REPORT,
         Command::Class => CLASS,

@@ -1,6 +1,6 @@
 //! The program `panjerov`: settles graphs, one or a class of them, finds their hidden majorities, chooses moves for resistive memory, shows, draws and reports on
 //! graphs, previews their trees, makes listed moves, compares
-//! graphs and sheets of moves, finds assignments, locks nodes, and makes tagged files of AIGER texts and back.
+//! graphs and sheets of moves, finds assignments, joins stages, locks nodes, and makes tagged files of AIGER texts and back.
 
 mod apply;
 mod assign;
@@ -15,6 +15,7 @@ mod formats;
 mod found;
 mod graphviz;
 mod help;
+mod join;
 mod locks;
 mod nodes;
 mod parts;
@@ -123,6 +124,12 @@ fn given(asked: &Work, input: &Input, working: &Progress) -> Result<Given, Strin
         Command::Report => report::of(input, &graph, asked.wanted),
         Command::Sheets => compared::sheets(asked, &graph),
         Command::Compare => compared::compare(asked, input, &graph),
+        Command::Join => {
+            let joined = join::chain(input, graph, &asked.files)?;
+            let complemented = joined.complemented_edges().map_err(|refusal| refusal.to_string())?;
+            let line = format!("{} complemented {complemented}{}", sizes_of(&joined), locks::words(&joined));
+            formed(&joined, asked.to.unwrap_or(Format::Tagged), vec![line])
+        }
         Command::Assign => {
             let told = assign::of(&graph, &asked.pattern, asked.all, working);
             told.map_err(|why| format!("{}: {why}", input.name))

@@ -25,13 +25,14 @@ pub enum Command {
     Sheets,
     Compare,
     Assign,
+    Join,
     Picture,
     Report,
     Class,
 }
 
 impl Command {
-    const ALL: [Command; 16] = [
+    const ALL: [Command; 17] = [
         Command::Settle,
         Command::Find,
         Command::Resistive,
@@ -45,6 +46,7 @@ impl Command {
         Command::Sheets,
         Command::Compare,
         Command::Assign,
+        Command::Join,
         Command::Picture,
         Command::Report,
         Command::Class,
@@ -69,6 +71,7 @@ impl Command {
             Command::Sheets => "sheets",
             Command::Compare => "compare",
             Command::Assign => "assign",
+            Command::Join => "join",
             Command::Picture => "picture",
             Command::Report => "report",
             Command::Class => "class",
@@ -91,6 +94,7 @@ impl Command {
             Command::Sheets => "reading moves on",
             Command::Compare => "comparing",
             Command::Assign => "looking for assignments of",
+            Command::Join => "joining",
             Command::Picture => "drawing",
             Command::Report => "reporting on",
             Command::Class => "settling",
@@ -103,7 +107,8 @@ impl Command {
 
     /// Whether the format of the graph that it gives can be asked for.
     fn takes_format(self) -> bool {
-        self.sets_locks() || matches!(self, Command::Settle | Command::Find | Command::Resistive | Command::Apply)
+        let gives_one = matches!(self, Command::Settle | Command::Find | Command::Resistive | Command::Apply);
+        gives_one || self.sets_locks() || self == Command::Join
     }
 
     /// The exit status where it fails: of what answers by 0 and 1 another.
@@ -152,7 +157,7 @@ pub struct Work {
     pub after: Option<PathBuf>,
     /// What is wanted of the outputs.
     pub pattern: Vec<String>,
-    /// The files and folders of a class; none among them is standard input.
+    /// The files and folders of a class, or the stages after the first; none among them is standard input.
     pub files: Vec<Option<PathBuf>>,
     /// The form of a class's sheet; none is plain text.
     pub sheet: Option<SheetForm>,
@@ -332,11 +337,12 @@ fn named_aiger(work: &Work) -> Option<&PathBuf> {
     })
 }
 
-/// That what the finder gives has the form that its name says.
+/// That what the finder or a join gives has the form that its name says.
 fn holds_majorities(work: &Work) -> Result<(), String> {
+    let name = work.command.name();
     match named_aiger(work).filter(|_| work.to.is_none()) {
         Some(path) => Err(format!(
-            "{} has the ending of AIGER, which has ANDs alone: find gives a tagged file, or with --to aiger each majority as four ANDs",
+            "{} has the ending of AIGER, which has ANDs alone: {name} gives a tagged file, or with --to aiger each majority as four ANDs",
             path.display()
         )),
         None => Ok(()),
@@ -367,6 +373,18 @@ fn holds_locks(work: &Work) -> Result<(), String> {
     }
 }
 
+/// Puts the stages after the first, which are all words after it.
+fn put_stages(work: &mut Work, words: impl Iterator<Item = OsString>) -> Result<(), String> {
+    work.files = words.map(file).collect();
+    if work.files.is_empty() {
+        return Err("join wants FIRST and SECOND".into());
+    }
+    match work.files.iter().chain([&work.input]).filter(|file| file.is_none()).count() {
+        0 | 1 => Ok(()),
+        _ => Err("only one stage can be standard input".into()),
+    }
+}
+
 /// Puts the files and folders of a class, which are all words.
 fn put_files(work: &mut Work, words: Vec<OsString>) -> Result<(), String> {
     if words.is_empty() {
@@ -394,6 +412,7 @@ fn put_plain(work: &mut Work, plain: Vec<OsString>) -> Result<(), String> {
         Command::Sheets => return put_sheets(work, plain),
         Command::Compare => return put_after(work, plain),
         Command::Assign => return put_pattern(work, plain),
+        Command::Join => return put_stages(work, plain),
         _ if work.compare => return put_after(work, plain),
         _ => {}
     }
@@ -460,7 +479,7 @@ fn asked_of(command: Command, mut words: impl Iterator<Item = OsString>) -> Resu
     work.output = output.and_then(file);
     match command {
         Command::Lock | Command::Unlock => holds_locks(&work)?,
-        Command::Find => holds_majorities(&work)?,
+        Command::Find | Command::Join => holds_majorities(&work)?,
         Command::Resistive => one_or_all(&work)?,
         _ => {}
     }
@@ -624,6 +643,19 @@ mod tests {
     }
 
     #[test]
+    fn stages() {
+        let join = |input: Option<&str>, files: &[Option<&str>], output: Option<&str>, to| {
+            let files = files.iter().map(|file| file.map(PathBuf::from)).collect();
+            let (input, output) = (input.map(PathBuf::from), output.map(PathBuf::from));
+            Ok(Asked::Work(Work { input, files, output, to, ..Work::of(Command::Join) }))
+        };
+        assert_eq!(of(&["join", "a", "b", "-o", "c"]), join(Some("a"), &[Some("b")], Some("c"), None));
+        assert_eq!(of(&["join", "a", "a", "-", "b"]), join(Some("a"), &[Some("a"), None, Some("b")], None, None));
+        let text = join(None, &[Some("b")], Some("c.aag"), Some(Format::Aiger));
+        assert_eq!(of(&["join", "-", "b", "--to", "aiger", "-o", "c.aag"]), text);
+    }
+
+    #[test]
     fn what_is_compared() {
         let compared = |input: Option<&str>, after: Option<&str>| {
             let (input, after) = (input.map(PathBuf::from), after.map(PathBuf::from));
@@ -720,6 +752,12 @@ mod tests {
             &["assign", "a"],
             &["assign", "a", "--all"],
             &["assign", "a", "01", "--to", "tagged"],
+            &["join"],
+            &["join", "a"],
+            &["join", "-", "-"],
+            &["join", "a", "-", "b", "-"],
+            &["join", "a", "b", "-o", "c.aag"],
+            &["join", "a", "b", "--all"],
             &["class"],
             &["class", "-", "a", "-"],
             &["class", "a", "--csv", "--json"],
