@@ -12,16 +12,20 @@ use lib.ListN.{length, getD}
 use Rattle.graph.specs.Finite.{tab, ifEqual}
 use Rattle.graph.specs.Graph.{mark}
 use Rattle.graph.specs.Inner.{begun, wordPut, wordsPut}
-use Rattle.graph.specs.Literals.{literals, filled}
+use Rattle.graph.specs.Literals.{literals, held, filled}
 use Rattle.graph.proofs.Cases.{eq-or-ne}
 use Rattle.graph.proofs.Filled.{put-tab}
 use Rattle.graph.proofs.Finite.{length-tab, tab-last}
-use Rattle.graph.proofs.Gathered.{begun-none}
+use Rattle.graph.proofs.Literals.{held-literals}
 use Rattle.graph.proofs.Tests.{equal, unequal}
 use Rattle.join.specs.Filling.{metBy, metWordBy, Stand}
 
+-- slices of the same lengths hold as many
+pub room-kept : (us bs vs ds : List ℕ) (n : ℕ) → length vs ≡ length us → length ds ≡ length bs → n ≤ held (literals us bs) → n ≤ held (literals vs ds)
+room-kept us bs vs ds n p q h = omega (arith, held-literals us bs, held-literals vs ds)
+
 -- words put behind others
-pub puts-append : (j : ℕ) (ws vs l : List ℕ) → wordsPut j (ws ++ vs) l ≡ wordsPut (j + length ws) vs (wordsPut j ws l)
+puts-append : (j : ℕ) (ws vs l : List ℕ) → wordsPut j (ws ++ vs) l ≡ wordsPut (j + length ws) vs (wordsPut j ws l)
 puts-append j [] vs l = let e : j + 0 ≡ j = omega arith in rw e
 puts-append j (x ∷ ws) vs l =
     let e : suc j + length ws ≡ j + suc (length ws) = omega arith in
@@ -42,10 +46,6 @@ tab-three k f =
 pub none-put : (us bs : List ℕ) (s got : ℕ) (f : ℕ → ℕ) → literals us (begun (s + 0) got bs) ≡ wordsPut s (tab 0 f) (literals us (begun s got bs))
 unfolding tab
 none-put us bs s got f = let e : s + 0 ≡ s = omega arith in rw e
-
-pub none-begun : (us bs : List ℕ) (f : ℕ → ℕ) → literals us (begun 0 0 bs) ≡ wordsPut 0 (tab 0 f) (literals us bs)
-unfolding tab
-none-begun us bs f = rw (begun-none bs 0 0 refl)
 
 -- the words of all nodes up to the next, from place s on
 pub node-next : (s at k n n′ r : ℕ) (f : ℕ → ℕ) (l₀ l us bs : List ℕ) → at ≡ s + 3 * k → n ≡ n′ → l ≡ wordsPut s (tab (3 * k) f) l₀
@@ -99,8 +99,12 @@ stand-less k m ms h s =
       low = λ j l e. s .low j (omega arith) e;
     }
 
+-- one word more
+pub place-next : (f : ℕ → ℕ) (l₀ l l′ : List ℕ) (j x : ℕ) → j < length l₀ → l ≡ filled (tab j f) l₀ → x ≡ f j → l′ ≡ wordPut j x l → l′ ≡ filled (tab (j + 1) f) l₀
+place-next f l₀ l l′ j x h e p r = r ∙ rw (add-one j, e, p) (put-tab j f l₀ h)
+
 -- one output more
 pub output-next : (ps os : List ℕ) (base i : ℕ) (l₀ l l′ : List ℕ) (j x y : ℕ) → j < length l₀
     → l ≡ filled (tab j (λ k. metBy os base i (getD ps k 0))) l₀ → x ≡ getD ps j 0 → y ≡ metBy os base i x → l′ ≡ wordPut j y l
     → l′ ≡ filled (tab (j + 1) (λ k. metBy os base i (getD ps k 0))) l₀
-output-next ps os base i l₀ l l′ j x y h e p q r = r ∙ rw (add-one j, e, q, p) (put-tab j (λ k. metBy os base i (getD ps k 0)) l₀ h)
+output-next ps os base i l₀ l l′ j x y h e p q r = place-next (λ k. metBy os base i (getD ps k 0)) l₀ l l′ j y h e (q ∙ ap (metBy os base i) p) r

@@ -5,24 +5,23 @@ use mathlib.Core.List.{List, [], _∷_, _++_}
 use mathlib.Core.Logic.{_≢_}
 use Prim.Native.Nat.{ℕ, _+_, _*_, _/_, _≤_, _<_}
 use native.Mathlib.Omega.{arith}
-use lib.ListN.{length, getD, take, drop, length-append}
+use lib.ListN.{length, getD, take, drop}
 use lib.Seq.{paste, take-at, drop-at, drop-drop, length-take-le}
 use Rattle.graph.specs.Admission.{LockBytes}
 use Rattle.graph.specs.Answer.{accepted, refused, lockedOutcome}
 use Rattle.graph.specs.Finite.{tab}
 use Rattle.graph.specs.Graph.{Graph, graphOf, word, isEdge}
 use Rattle.graph.specs.Inner.{wordsPut}
-use Rattle.graph.specs.Literals.{literals, held, filled}
+use Rattle.graph.specs.Literals.{held, filled}
 use Rattle.graph.proofs.Answers.{refused-locked}
-use Rattle.graph.proofs.Filled.{all-filled}
+use Rattle.graph.proofs.Filled.{puts-filled}
 use Rattle.graph.proofs.Finite.{length-tab, tab-same}
-use Rattle.graph.proofs.Literals.{held-literals, held-le}
+use Rattle.graph.proofs.Literals.{held-le}
 use Rattle.graph.proofs.Words.{readable}
 use Rattle.tagged_file.specs.Load.{blank}
 use Rattle.join.specs.Join.{met, metWord, joinedGraph, joinedLocks, joinNumber, joinCall}
 use Rattle.join.specs.Filling.{metBy, metWordBy, Meets, Stand}
 use Rattle.join.proofs.Accepted.{Fits, fits, call-is}
-use Rattle.join.proofs.Filling.{puts-append}
 
 -- what the tests of a join that is not refused give to what fills the slices
 pub record Ready (g : Graph) (ls : List ℕ) (h : Graph) (ks : List ℕ) (a b l : ℕ) : Type 0 where
@@ -41,19 +40,13 @@ module _ (g h : Graph) where
   unfolding met
   outputs-are n = tab-same n _ _ (λ j l. refl)
 
--- slices of the same lengths hold as many
-pub room-kept : (us bs vs ds : List ℕ) (n : ℕ) → length vs ≡ length us → length ds ≡ length bs → n ≤ held (literals us bs) → n ≤ held (literals vs ds)
-room-kept us bs vs ds n p q h = omega (arith, held-literals us bs, held-literals vs ds)
-
 -- nodes put after nodes, from the front
-nodes-filled : (n m : ℕ) (f e : ℕ → ℕ) (l l₁ l₂ : List ℕ) → 3 * (n + m) ≤ length l → l₁ ≡ wordsPut 0 (tab (3 * n) f) l → l₂ ≡ wordsPut (3 * n) (tab (3 * m) e) l₁
+nodes-filled : (n m : ℕ) (f e : ℕ → ℕ) (l l₁ l₂ : List ℕ) → 3 * (n + m) ≤ length l → l₁ ≡ filled (tab (3 * n) f) l → l₂ ≡ wordsPut (3 * n) (tab (3 * m) e) l₁
     → l₂ ≡ filled (tab (3 * n) f ++ tab (3 * m) e) l
 nodes-filled n m f e l l₁ l₂ h p q =
     let a = length-tab (3 * n) f in
     let b = length-tab (3 * m) e in
-    let c = length-append (tab (3 * n) f) (tab (3 * m) e) in
-    let z : 0 + 3 * n ≡ 3 * n = omega arith in
-    q ∙ rw p (sym (rw (a, z) at (puts-append 0 (tab (3 * n) f) (tab (3 * m) e) l))) ∙ all-filled (tab (3 * n) f ++ tab (3 * m) e) l (omega arith)
+    q ∙ rw p (rw a at (puts-filled (tab (3 * n) f) (tab (3 * m) e) l (omega arith)))
 
 -- locks copied after locks, from the front
 locks-joined : (n m : ℕ) (ls ks rs rs₁ rs₂ : List ℕ) → LockBytes n ls → rs₁ ≡ paste rs 0 ls n → rs₂ ≡ paste rs₁ n ks m → rs₂ ≡ joinedLocks n m ls ks rs
@@ -97,7 +90,7 @@ module _ (g : Graph) (ls : List ℕ) (h : Graph) (ks ns os rs : List ℕ) (k : �
           outputs-low = λ j l. omega (arith, s .output-below j l, s .few-inputs, s .few-nodes);
         }
 
-    pub join-accepted : (ns₁ ns₂ os′ rs₁ rs₂ : List ℕ) → ns₁ ≡ wordsPut 0 (tab (3 * g .N) (word g)) ns
+    pub join-accepted : (ns₁ ns₂ os′ rs₁ rs₂ : List ℕ) → ns₁ ≡ filled (tab (3 * g .N) (word g)) ns
         → ns₂ ≡ wordsPut (3 * g .N) (tab (3 * h .N) (metWordBy (h .nodes) (g .outputs) (g .I + g .N) (h .I))) ns₁
         → os′ ≡ filled (tab (h .O) (λ j. metBy (g .outputs) (g .I + g .N) (h .I) (getD (h .outputs) j 0))) os
         → rs₁ ≡ paste rs 0 ls (g .N) → rs₂ ≡ paste rs₁ (g .N) ks (h .N)

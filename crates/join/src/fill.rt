@@ -6,16 +6,18 @@ ghost use lib.ListN.{length, getD};
 ghost use lib.Seq.{paste};
 ghost use Rattle.graph.specs.Finite.{tab, ifEqual};
 ghost use Rattle.graph.specs.Graph.{mark, index};
-ghost use Rattle.graph.specs.Inner.{IsWord, Readable, AllReadable, begun, wordsPut};
+ghost use Rattle.graph.specs.Inner.{IsWord, begun, wordsPut};
 ghost use Rattle.graph.specs.Literals.{literals, held, filled};
 ghost use Rattle.join.specs.Filling.{metBy, metWordBy, Meets, Stand};
 use graph::literal::MARK;
 use graph::literal::turned;
+use graph::table::copy_words;
 use graph::table::edge_at;
 use graph::table::put_last;
 use graph::table::put_three;
 use graph::table::put_word;
 use graph::table::three_at;
+use graph::table::word_at;
 use graph::table::word_of;
 
 // A literal of the second graph, met by the first, which has `base` indices above the constant. Most name nodes: that is asked first.
@@ -45,30 +47,7 @@ pub fn met_third(x: u32, output_table: &[u32], output_bits: &[u64], base: u32, i
     met(x, output_table, output_bits, base, inputs)
 }
 
-// Puts the words of node v of the first; returns the bits that are gathered then.
-pub fn copy_node(
-    v: usize,
-    got: u64,
-    node_table: &[u32],
-    node_bits: &[u64],
-    joined_node_table: &mut [u32],
-    joined_node_bits: &mut [u64],
-) -> u64
-    requires { ⌜ Readable (literals (now «node_table») (now «node_bits»)) v × (3 * v + 3 ≤ held (literals (now «joined_node_table») (now «joined_node_bits»))) ⌝ }
-    ensures { λ r.
-        let ns = literals (now («node_table» .entry)) (now («node_bits» .entry)) in
-        let words = getD ns (3 * v) 0 ∷ getD ns (3 * v + 1) 0 ∷ getD ns (3 * v + 2) 0 ∷ [] in
-        let before = literals (now («joined_node_table» .entry)) (begun (3 * v) got (now («joined_node_bits» .entry))) in
-        ⌜ literals (now («joined_node_table» .exit)) (begun (3 * v + 3) r (now («joined_node_bits» .exit))) ≡ wordsPut (3 * v) words before ⌝ }
-{
-    let three = three_at(node_table, node_bits, v);
-    let x = word_of(node_table, node_bits, v, 0, three);
-    let y = word_of(node_table, node_bits, v, 1, three);
-    let z = word_of(node_table, node_bits, v, 2, three);
-    put_three(joined_node_table, joined_node_bits, 3 * v, got, x, y, z)
-}
-
-// Puts the words of the first's nodes.
+// Puts the words of the first's nodes: what has full words of bits is copied. Returns the bits that are gathered then.
 pub fn copy_nodes(
     nodes: u32,
     node_table: &[u32],
@@ -76,24 +55,29 @@ pub fn copy_nodes(
     joined_node_table: &mut [u32],
     joined_node_bits: &mut [u64],
 ) -> u64
-    requires { ⌜ AllReadable nodes (literals (now «node_table») (now «node_bits»)) × (nodes ≤ 100000) × (3 * nodes ≤ held (literals (now «joined_node_table») (now «joined_node_bits»))) ⌝ }
+    requires { let ns = literals (now «node_table») (now «node_bits») in
+        ⌜ (nodes ≤ 100000) × (3 * nodes ≤ held ns) × ((j : ℕ) → j < 3 * nodes → IsWord (getD ns j 0)) ⌝ }
+    requires { ⌜ 3 * nodes ≤ held (literals (now «joined_node_table») (now «joined_node_bits»)) ⌝ }
     ensures { λ r.
         let ns = literals (now («node_table» .entry)) (now («node_bits» .entry)) in
         let before = literals (now («joined_node_table» .entry)) (now («joined_node_bits» .entry)) in
-        ⌜ literals (now («joined_node_table» .exit)) (begun (3 * nodes) r (now («joined_node_bits» .exit))) ≡ wordsPut 0 (tab (3 * nodes) (λ j. getD ns j 0)) before ⌝ }
+        ⌜ literals (now («joined_node_table» .exit)) (begun (3 * nodes) r (now («joined_node_bits» .exit))) ≡ filled (tab (3 * nodes) (λ j. getD ns j 0)) before ⌝ }
 {
+    let end = 3 * nodes as usize;
+    let words = end / 64;
+    copy_words(
+        words,
+        node_table,
+        node_bits,
+        joined_node_table,
+        joined_node_bits,
+    );
     let mut got: u64 = 0;
-    let mut v: usize = 0;
-    while v < nodes as usize {
-        got = copy_node(
-            v,
-            got,
-            node_table,
-            node_bits,
-            joined_node_table,
-            joined_node_bits,
-        );
-        v += 1;
+    let mut j = 64 * words;
+    while j < end {
+        let x = word_at(node_table, node_bits, j);
+        got = put_word(joined_node_table, joined_node_bits, j, got, x);
+        j += 1;
     }
     got
 }

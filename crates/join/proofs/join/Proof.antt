@@ -7,10 +7,11 @@ use denote.Ref.{now}
 use lib.ListN.{length}
 use Rattle.graph.specs.Graph.{Graph}
 use Rattle.graph.specs.Literals.{graphIn, held, literals}
-use Rattle.graph.proofs.Words.{readable}
+use Rattle.graph.proofs.Words.{is-word}
 use Rattle.join.specs.Join.{joinNumber}
 use Rattle.join.proofs.Accepted.{number-range}
-use Rattle.join.proofs.Whole.{Ready, room-kept, join-refused, ready, join-accepted}
+use Rattle.join.proofs.Filling.{room-kept}
+use Rattle.join.proofs.Whole.{Ready, join-refused, ready, join-accepted}
 use Rattle.join.proofs.join.Statement.{statement}
 use Rattle.join.proofs.join.Tie as tie
 
@@ -57,7 +58,8 @@ add-base c = omega (arith, passed (c .before) (c .if1 .left) .meets .few-indices
 copy-nodes-requires : tie.Need-copy-nodes-requires
 copy-nodes-requires c κs =
     let f = passed (c .before .before .before) (c .before .before .if1 .left) .known in
-    (readable (g (c .before .before .before)) (f .first-admitted), f .first-admitted .few-nodes, omega (arith, f .rooms .long-nodes))
+    let p = f .first-admitted in
+    ((p .few-nodes, p .held-nodes, is-word (g (c .before .before .before)) p), omega (arith, f .rooms .long-nodes))
 
 mul-meet-nodes : tie.Need-mul-meet-nodes
 mul-meet-nodes c = omega (arith, passed (c .before .before .before .before .before .before .before .before) (c .before .before .before .before .before .before .before .if1 .left) .known .first-admitted .few-nodes)
