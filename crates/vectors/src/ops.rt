@@ -1,4 +1,5 @@
 // Each op: an entry called, and its answer printed. I, N and O stand at the end of a case whose entry is given them.
+use crate::joining;
 use crate::listing;
 use crate::print;
 use crate::read;
@@ -33,6 +34,7 @@ pub fn call(
             output_bits,
             locks,
         ),
+        16 => joining::join(node_table, node_bits, output_table, output_bits, locks),
         _ => listing::list(
             bytes,
             node_table,

@@ -1,6 +1,6 @@
 //! The line of a case, from this package's own answers.
 
-use crate::entries::{count, load, replay, write};
+use crate::entries::{count, join, load, replay, write};
 use crate::file::{field, field_number};
 use crate::graph::Number;
 use crate::packed::{admit, Packed};
@@ -94,6 +94,10 @@ pub fn answer(case: &Case) -> String {
             line.put(result.unwrap_or(0) as u64);
         }
         CALLS => listed(&mut line, case, &mut g),
+        JOIN => {
+            let result = join(&case.parts[0], &case.parts[1], &mut g);
+            line.answer(result.map(<[u32; 3]>::from));
+        }
         other => panic!("the program has no op {other}"),
     };
     line.bytes(&bytes);

@@ -13,6 +13,7 @@ pub const FIELD: u32 = 3;
 pub const LOAD: u32 = 4;
 pub const WRITE: u32 = 5;
 pub const CALLS: u32 = 6;
+pub const JOIN: u32 = 16;
 /// Ops that are run through the C interface.
 pub const EVALUATE: u32 = 7;
 pub const NODE: u32 = 8;
@@ -40,6 +41,8 @@ pub struct Case {
     pub moves: Vec<u8>,
     pub longs: Vec<u64>,
     pub result: u32,
+    /// The two graphs that a join takes.
+    pub parts: Vec<Packed>,
 }
 
 impl Case {
@@ -60,6 +63,7 @@ impl Case {
             moves: Vec::new(),
             longs: Vec::new(),
             result: 0,
+            parts: Vec::new(),
         }
     }
 
@@ -81,7 +85,7 @@ impl Case {
     /// The same with some words and bytes behind the graph in its slices, where these are long enough for it.
     pub fn lengthened(mut self, random: &mut Random) -> Case {
         let Packed { nodes, outputs, .. } = self.g;
-        let takes_graph = ![FIELD, LOAD, CALLS].contains(&self.op);
+        let takes_graph = ![FIELD, LOAD, CALLS, JOIN].contains(&self.op);
         let within = check_limits(self.g.inputs, nodes, outputs)
             .and_then(|()| check_lengths(nodes, outputs, self.g.lengths()));
         if takes_graph && within.is_ok() && random.one_in(2) {
@@ -106,15 +110,8 @@ impl Case {
     pub fn encoded(&self) -> Vec<u8> {
         let at = |op, length: u32| if self.op == op { length } else { 0 };
         let bytes = self.bytes.len() as u32;
-        let lent = self.g.lengths();
-        let lengths = [
-            bytes + at(WRITE, self.result),
-            lent.node_words as u32,
-            lent.node_bits as u32,
-            lent.output_words as u32,
-            lent.output_bits as u32,
-            lent.lock_bytes as u32,
-        ];
+        let mut lengths = vec![bytes + at(WRITE, self.result)];
+        lengths.extend(lengths_of(&self.g));
         let space = [65_536, 4_096, 72, 4_352, 72, 2_048];
         assert!(lengths
             .iter()
@@ -125,17 +122,14 @@ impl Case {
         put_words(&mut all, &lengths);
         put_words(&mut all, &[bytes]);
         all.extend(&self.bytes);
-        put_table(&mut all, &self.g.node_table);
-        put_bits(&mut all, &self.g.node_bits);
-        put_table(&mut all, &self.g.output_table);
-        put_bits(&mut all, &self.g.output_bits);
-        put_locks(&mut all, &self.g.locks);
+        put_slices(&mut all, &self.g);
         put_words(&mut all, &[self.op]);
         match self.op {
             ADMIT | EDGES | WRITE => {
                 put_words(&mut all, &[self.g.inputs, self.g.nodes, self.g.outputs])
             }
             CALLS => self.put_calls(&mut all),
+            JOIN => self.put_parts(&mut all),
             _ => {}
         }
         all
@@ -153,6 +147,45 @@ impl Case {
         put_words(all, &lent.map(|length| length as u32));
         put_words(all, &[self.scratch, self.result]);
     }
+
+    /// What a join reads by itself.
+    fn put_parts(&self, all: &mut Vec<u8>) {
+        self.parts.iter().for_each(|part| put_slices(all, part));
+        for part in &self.parts {
+            let lengths = lengths_of(part);
+            let space = [512, 16, 128, 16, 256];
+            assert!(lengths
+                .iter()
+                .zip(space)
+                .all(|(&length, most)| length <= most));
+            put_words(all, &lengths);
+        }
+        for part in &self.parts {
+            put_words(all, &[part.inputs, part.nodes, part.outputs]);
+        }
+    }
+}
+
+/// The lengths of a graph's five slices.
+fn lengths_of(g: &Packed) -> [u32; 5] {
+    let lent = g.lengths();
+    let lengths = [
+        lent.node_words,
+        lent.node_bits,
+        lent.output_words,
+        lent.output_bits,
+        lent.lock_bytes,
+    ];
+    lengths.map(|length| length as u32)
+}
+
+/// For each slice how many elements are given for its front, and these.
+fn put_slices(all: &mut Vec<u8>, g: &Packed) {
+    put_table(all, &g.node_table);
+    put_bits(all, &g.node_bits);
+    put_table(all, &g.output_table);
+    put_bits(all, &g.output_bits);
+    put_locks(all, &g.locks);
 }
 
 /// Slices of these lengths that a graph is to be loaded into: every bit is set.

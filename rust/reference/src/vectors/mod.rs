@@ -4,7 +4,7 @@
 //!
 //! A line has the answer's number (0 where it is accepted), three values of the answer, 0 where it has none, and then slices, each
 //! by its length and a checksum: the bytes, both tables, each with its words of bits, and the locks. The field op shows the payload
-//! before all this, and writing the length after the values. A list of calls shows how many words of answers it has there. A list
+//! before all this, and writing the length after the values. A join is into these slices. A list of calls shows how many words of answers it has there. A list
 //! that is not replayed has the number 1, and shows scratch before that.
 //!
 //! The program makes a node, pair, tree, settling, many, majority or resistive call, and the finder, as a list of one; on graphs that no file has, with scratch looked at after a
@@ -16,6 +16,7 @@ use call_cases::*;
 use case::Case;
 use file_cases::*;
 use hidden_cases::*;
+use join_cases::*;
 use many_cases::*;
 use resistive_cases::*;
 
@@ -25,6 +26,7 @@ pub mod call_cases;
 pub mod case;
 pub mod file_cases;
 pub mod hidden_cases;
+pub mod join_cases;
 pub mod many_cases;
 pub mod resistive_cases;
 pub mod samples;
@@ -63,6 +65,7 @@ pub fn cases(seed: u64) -> (Vec<Case>, Vec<Case>) {
     stored.extend(changing.filter_map(Case::as_list));
     stored.extend(resistive_list_cases(other));
     direct.extend(resistive);
+    stored.extend(join_cases(&mut Random::new(seed + 3)));
     let mut lengthen = |cases: Vec<Case>| -> Vec<Case> {
         let all = cases.into_iter();
         all.map(|case| case.lengthened(&mut random)).collect()
