@@ -82,58 +82,64 @@ fn formed(graph: &Graph, format: Format, mut lines: Vec<String>) -> Result<Given
     Ok(Given::of(formats::bytes_of(graph, format)?, lines))
 }
 
+/// A reason with the file that it is about.
+fn of_file(input: &Input) -> impl Fn(String) -> String + '_ {
+    move |why| format!("{}: {why}", input.name)
+}
+
+fn settled(asked: &Work, mut graph: Graph, got: Format) -> Result<Given, String> {
+    let mut lines = if asked.find { found::find(&mut graph)? } else { vec![] };
+    let settled = graph.settle().map_err(|refusal| refusal.to_string())?;
+    lines.push(figures_of(&graph, settled));
+    formed(&graph, asked.to.unwrap_or(got), lines)
+}
+
+fn applied(asked: &Work, mut graph: Graph, got: Format) -> Result<Given, String> {
+    let moves = files::read_moves(asked.moves.as_deref())?;
+    let made = apply::make(&mut graph, &moves)?;
+    let line = format!("{} {made}{}", sizes_of(&graph), locks::words(&graph));
+    formed(&graph, asked.to.unwrap_or(got), vec![line])
+}
+
+/// With nodes locked or freed.
+fn relocked(asked: &Work, mut graph: Graph) -> Result<Given, String> {
+    locks::set(&mut graph, &asked.nodes, asked.command == Command::Lock)?;
+    let locked = locks::told(&locks::of(&graph));
+    formed(&graph, Format::Tagged, vec![format!("{} locked {locked}", sizes_of(&graph))])
+}
+
+fn joined(asked: &Work, input: &Input, graph: Graph) -> Result<Given, String> {
+    let joined = join::chain(input, graph, &asked.files)?;
+    let complemented = joined.complemented_edges().map_err(|refusal| refusal.to_string())?;
+    let line = format!("{} complemented {complemented}{}", sizes_of(&joined), locks::words(&joined));
+    formed(&joined, asked.to.unwrap_or(Format::Tagged), vec![line])
+}
+
 fn given(asked: &Work, input: &Input, working: &Progress) -> Result<Given, String> {
     let (mut graph, got) = formats::graph_of(input)?;
     match asked.command {
-        Command::Settle => {
-            let mut lines = if asked.find { found::find(&mut graph)? } else { vec![] };
-            let settled = graph.settle().map_err(|refusal| refusal.to_string())?;
-            lines.push(figures_of(&graph, settled));
-            formed(&graph, asked.to.unwrap_or(got), lines)
-        }
+        Command::Settle => settled(asked, graph, got),
         Command::Find => {
             let lines = found::find(&mut graph)?;
             formed(&graph, asked.to.unwrap_or(Format::Tagged), lines)
         }
         Command::Resistive => {
-            let lines = resistive::choose(&mut graph, asked.root, working);
-            formed(&graph, asked.to.unwrap_or(got), lines.map_err(|why| format!("{}: {why}", input.name))?)
+            let lines = resistive::choose(&mut graph, asked.root, working).map_err(of_file(input))?;
+            formed(&graph, asked.to.unwrap_or(got), lines)
         }
-        Command::Apply => {
-            let moves = files::read_moves(asked.moves.as_deref())?;
-            let made = apply::make(&mut graph, &moves)?;
-            let line = format!("{} {made}{}", sizes_of(&graph), locks::words(&graph));
-            formed(&graph, asked.to.unwrap_or(got), vec![line])
-        }
+        Command::Apply => applied(asked, graph, got),
         Command::Import => formed(&graph, Format::Tagged, vec![]),
         Command::Export => formed(&graph, Format::Aiger, vec![]),
-        Command::Lock | Command::Unlock => {
-            let lock = asked.command == Command::Lock;
-            locks::set(&mut graph, &asked.nodes, lock).map_err(|why| format!("{}: {why}", input.name))?;
-            let locked = locks::told(&locks::of(&graph));
-            formed(&graph, Format::Tagged, vec![format!("{} locked {locked}", sizes_of(&graph))])
-        }
+        Command::Lock | Command::Unlock => relocked(asked, graph).map_err(of_file(input)),
         Command::Show => Ok(Given::of(show::text_of(&graph, got)?.into_bytes(), vec![])),
-        Command::Preview => {
-            let told = preview::of(&graph, asked.root, asked.only_moves);
-            let told = told.map_err(|why| format!("{}: {why}", input.name))?;
-            Ok(Given::of(told.text.into_bytes(), told.lines))
-        }
+        Command::Preview => preview::of(&graph, asked.root, asked.only_moves).map_err(of_file(input)),
+        Command::Sheets => compared::sheets(asked, &graph),
+        Command::Compare => compared::compare(asked, input, &graph),
+        Command::Join => joined(asked, input, graph),
+        Command::Assign => assign::of(&graph, &asked.pattern, asked.all, working).map_err(of_file(input)),
         Command::Picture if asked.compare => drawing::compare(asked, input, (graph, got)),
         Command::Picture => drawing::draw(asked, input, &graph),
         Command::Report => report::of(input, &graph, asked.wanted),
-        Command::Sheets => compared::sheets(asked, &graph),
-        Command::Compare => compared::compare(asked, input, &graph),
-        Command::Join => {
-            let joined = join::chain(input, graph, &asked.files)?;
-            let complemented = joined.complemented_edges().map_err(|refusal| refusal.to_string())?;
-            let line = format!("{} complemented {complemented}{}", sizes_of(&joined), locks::words(&joined));
-            formed(&joined, asked.to.unwrap_or(Format::Tagged), vec![line])
-        }
-        Command::Assign => {
-            let told = assign::of(&graph, &asked.pattern, asked.all, working);
-            told.map_err(|why| format!("{}: {why}", input.name))
-        }
         Command::Class => unreachable!("a class has many files"),
     }
 }

@@ -2,13 +2,8 @@
 
 use crate::locks::listed;
 use crate::trees::{Kinds, Trees};
+use crate::Given;
 use reducer::{Graph, Refusal, Saving};
-
-/// What is given, and the lines beside it.
-pub struct Told {
-    pub text: String,
-    pub lines: Vec<String>,
-}
 
 /// What a move turns, by kind and number.
 pub fn turns(xor: bool, number: u8) -> &'static str {
@@ -46,14 +41,14 @@ fn lines(trees: &Trees, moved: &[(u32, u8)]) -> String {
 }
 
 /// A line a node of the tree, as numbers alone; beside them the figures, and which nodes are locked.
-fn only_numbers(trees: &Trees, moved: &[(u32, u8)], figures: String) -> Told {
+fn only_numbers(trees: &Trees, moved: &[(u32, u8)], figures: String) -> Given {
     let locked: Vec<u32> = moved.iter().map(|&(node, _)| node).filter(|&node| trees.is_locked(node)).collect();
     let told = (!locked.is_empty()).then(|| format!("locked in the tree: {}", listed(&locked)));
-    let text = moved.iter().map(|(node, number)| format!("{node} {number}\n")).collect();
-    Told { text, lines: [figures].into_iter().chain(told).collect() }
+    let text: String = moved.iter().map(|(node, number)| format!("{node} {number}\n")).collect();
+    Given::of(text.into_bytes(), [figures].into_iter().chain(told).collect())
 }
 
-fn tree_of(graph: &Graph, root: u32, only_moves: bool) -> Result<Told, Refusal> {
+fn tree_of(graph: &Graph, root: u32, only_moves: bool) -> Result<Given, Refusal> {
     let told = graph.preview(root)?;
     let before = graph.complemented_edges()?;
     let (saving, Saving { own, others }) = (told.saving.total(), told.saving);
@@ -70,15 +65,15 @@ fn tree_of(graph: &Graph, root: u32, only_moves: bool) -> Result<Told, Refusal> 
         true => only_numbers(&trees, &moved, figures),
         false => {
             let text = format!("{figures}\ntree {}\n{}", kinds.told(), lines(&trees, &moved));
-            Told { text, lines: vec![] }
+            Given::of(text.into_bytes(), vec![])
         }
     })
 }
 
 /// The preview of a root's tree, or of none the roots.
-pub fn of(graph: &Graph, root: Option<u32>, only_moves: bool) -> Result<Told, String> {
+pub fn of(graph: &Graph, root: Option<u32>, only_moves: bool) -> Result<Given, String> {
     match root {
         Some(root) => tree_of(graph, root, only_moves).map_err(|refusal| refused(graph, root, refusal)),
-        None => Ok(Told { text: roots_of(graph), lines: vec![] }),
+        None => Ok(Given::of(roots_of(graph).into_bytes(), vec![])),
     }
 }
