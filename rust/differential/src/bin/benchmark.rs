@@ -6,7 +6,7 @@ use differential::timing::pairs::{Moved, Stages};
 use differential::timing::patterns::Pattern;
 use differential::timing::races::{call, time, Call, Figure, Side};
 use differential::timing::samples::Sample;
-use differential::timing::single::{race, Made};
+use differential::timing::single::race;
 use differential::timing::woods::WOODS;
 use differential::timing::{plain, proved, LEAST_RUNS, SHAPES, SIZES, SPREAD};
 use reference::generate::Shape;
@@ -195,15 +195,14 @@ fn assigned() {
     }
 }
 
-/// Beside the same programme in plain Rust, and beside one that copies the first graph's words at once.
-const JOIN: [(&str, Made<Stages>); 2] = [("join", plain::join), ("join, by copying", plain::join_copied)];
+const JOIN: &str = "join";
 
-fn joined(call: &str, plain: Made<Stages>) {
+fn joined() {
     println!("{SINGLE_HEAD}");
     for (name, shape) in SHAPES {
         let fresh = Stages::new(shape, 50_000);
-        let times = race(name, &fresh, [proved::join, plain], |sample| sample.joined);
-        print_single(call, name, 2 * fresh.first.nodes, 1, times);
+        let times = race(name, &fresh, [proved::join, plain::join], |sample| sample.joined);
+        print_single(JOIN, name, 2 * fresh.first.nodes, 1, times);
     }
 }
 
@@ -248,8 +247,8 @@ fn main() {
     if chosen(ASSIGNMENT) {
         assigned();
     }
-    for (call, plain) in JOIN.into_iter().filter(|row| chosen(row.0)) {
-        joined(call, plain);
+    if chosen(JOIN) {
+        joined();
     }
     if chosen(BEFORE) {
         before_and_after();

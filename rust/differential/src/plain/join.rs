@@ -1,4 +1,4 @@
-//! Two graphs joined: words are put node by node, the second's as the first meets them, and bits are gathered in whole words.
+//! Two graphs joined: the first's words are copied at once, the second's put node by node as the first meets them, and bits are gathered in whole words.
 
 use super::bits::{bit, bits_of, words_for, Gather};
 use super::{admit, check_limits, check_room, Filled, Number, View};
@@ -55,32 +55,18 @@ fn meet_outputs(g: &View, h: &View, table: &mut [u32], bits: &mut [u64]) {
     gathered.end();
 }
 
-/// The first's words, node by node, each with its bits.
-fn copy_nodes(g: &View, table: &mut [u32], gathered: &mut Gather) {
-    for (v, (indices, put)) in g.indices().chunks_exact(3).zip(table.chunks_exact_mut(3)).enumerate() {
-        put.copy_from_slice(indices);
-        gathered.three(bits_of(g.bits(), v));
-    }
-}
-
 /// The first's words and bits at once.
-fn copy_whole(g: &View, table: &mut [u32], gathered: &mut Gather) {
+fn copy_nodes(g: &View, table: &mut [u32], gathered: &mut Gather) {
     table.copy_from_slice(g.indices());
     gathered.all(g.bits(), 3 * g.nodes as usize);
 }
 
-/// By how the first's words are put.
-fn join_by(
-    copy: impl FnOnce(&View, &mut [u32], &mut Gather),
-    g: &View,
-    h: &View,
-    joined: Filled,
-) -> Result<(u32, u32, u32), Number> {
+pub fn join(g: &View, h: &View, joined: Filled) -> Result<(u32, u32, u32), Number> {
     check(g, h, &joined)?;
     let (nodes, outputs) = ((g.nodes + h.nodes) as usize, h.outputs as usize);
     let (first, second) = joined.node_table[..3 * nodes].split_at_mut(3 * g.nodes as usize);
     let mut gathered = Gather::new(&mut joined.node_bits[..words_for(3 * nodes)]);
-    copy(g, first, &mut gathered);
+    copy_nodes(g, first, &mut gathered);
     meet_nodes(g, h, second, &mut gathered);
     gathered.end();
     meet_outputs(g, h, &mut joined.output_table[..outputs], &mut joined.output_bits[..words_for(outputs)]);
@@ -88,13 +74,4 @@ fn join_by(
     first.copy_from_slice(g.node_locks());
     second.copy_from_slice(h.node_locks());
     Ok((g.inputs, g.nodes + h.nodes, h.outputs))
-}
-
-pub fn join(g: &View, h: &View, joined: Filled) -> Result<(u32, u32, u32), Number> {
-    join_by(copy_nodes, g, h, joined)
-}
-
-/// By another programme, which copies the first's words at once.
-pub fn join_copied(g: &View, h: &View, joined: Filled) -> Result<(u32, u32, u32), Number> {
-    join_by(copy_whole, g, h, joined)
 }

@@ -101,7 +101,3 @@ pub fn assignment(s: &mut Pattern) -> u64 {
 pub fn join(s: &mut Stages) -> u64 {
     join::join(&view(&s.first), &view(&s.second), filled(&mut s.joined)).unwrap().1.into()
 }
-
-pub fn join_copied(s: &mut Stages) -> u64 {
-    join::join_copied(&view(&s.first), &view(&s.second), filled(&mut s.joined)).unwrap().1.into()
-}

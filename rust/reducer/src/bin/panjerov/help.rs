@@ -342,7 +342,7 @@ the first one first. A line on standard error says how many there are:
     found 4 of 8
 
 At worst, with 16 inputs, 100,000 nodes and no assignment that gives the
-pattern, it takes about half a second, and with --all a few seconds.
+pattern, it takes about half a second, and with --all about as long.
 
 The exit status is 0 where there is an assignment, 1 where there is none, and 2
 for whatever else: what is refused, or cannot be read, written or understood.
