@@ -293,6 +293,28 @@ pub fn put_three(
     gathered_three(got, stored_bit(x), stored_bit(y), stored_bit(z))
 }
 
+// Puts two edges and a third word from place j on, as `put_three` does, with one test of the mark.
+pub fn put_node(
+    table: &mut [u32],
+    bits: &mut [u64],
+    j: usize,
+    got: u64,
+    x: u32,
+    y: u32,
+    z: u32,
+) -> u64
+    requires { ⌜ (j + 3 ≤ held (literals (now table) (now bits))) × (index x < 2147483647) × (index y < 2147483647) × IsWord z ⌝ }
+    ensures { λ r. ⌜ literals (now (table .exit)) (begun (j + 3) r (now (bits .exit))) ≡ wordsPut j (x ∷ y ∷ z ∷ []) (literals (now (table .entry)) (begun j got (now (bits .entry)))) ⌝ }
+{
+    if 60 < j % 64 {
+        return put_three(table, bits, j, got, x, y, z);
+    }
+    table[j] = x / 2;
+    table[j + 1] = y / 2;
+    table[j + 2] = stored_index(z);
+    gathered_three(got, x % 2, y % 2, stored_bit(z))
+}
+
 // Puts the bit b at place j of words of bits that are written from the front, as `put_word` does.
 pub fn put_bit(bits: &mut [u64], j: usize, got: u64, b: u32) -> u64
     requires { ⌜ (j < 64 * length (now bits)) × (b ≤ 1) ⌝ }

@@ -6,7 +6,7 @@ ghost use lib.ListN.{length, getD};
 ghost use lib.Seq.{paste};
 ghost use Rattle.graph.specs.Finite.{tab, ifEqual};
 ghost use Rattle.graph.specs.Graph.{mark, index};
-ghost use Rattle.graph.specs.Inner.{IsWord, begun, wordsPut};
+ghost use Rattle.graph.specs.Inner.{IsWord, Readable, begun, threeBits, wordsPut};
 ghost use Rattle.graph.specs.Literals.{literals, held, filled};
 ghost use Rattle.join.specs.Filling.{metBy, metWordBy, Meets, Stand};
 use graph::literal::MARK;
@@ -14,8 +14,9 @@ use graph::literal::turned;
 use graph::table::copy_words;
 use graph::table::edge_at;
 use graph::table::put_last;
-use graph::table::put_three;
+use graph::table::put_node;
 use graph::table::put_word;
+use graph::table::raw_at;
 use graph::table::three_at;
 use graph::table::word_at;
 use graph::table::word_of;
@@ -45,6 +46,15 @@ pub fn met_third(x: u32, output_table: &[u32], output_bits: &[u64], base: u32, i
         return MARK;
     }
     met(x, output_table, output_bits, base, inputs)
+}
+
+// Word k of node v, whose words have these bits, where it is known to be an edge: without the test of the mark.
+pub fn edge_of(table: &[u32], bits: &[u64], v: usize, k: usize, three: u32) -> u32
+    requires { let l = literals (now table) (now bits) in
+        ⌜ Readable l v × (k ≤ 2) × (index (getD l (3 * v + k) 0) < 2147483647) × (three ≡ threeBits l v) ⌝ }
+    ensures { λ r. ⌜ r ≡ getD (literals (now (table .entry)) (now (bits .entry))) (3 * v + k) 0 ⌝ }
+{
+    2 * raw_at(table, 3 * v + k) + (three >> k) % 2
 }
 
 // Puts the words of the first's nodes: what has full words of bits is copied. Returns the bits that are gathered then.
@@ -106,13 +116,13 @@ pub fn meet_node(
         ⌜ literals (now («joined_node_table» .exit)) (begun (at + 3) r (now («joined_node_bits» .exit))) ≡ wordsPut at words before ⌝ }
 {
     let three = three_at(second_node_table, second_node_bits, v);
-    let first = word_of(second_node_table, second_node_bits, v, 0, three);
+    let first = edge_of(second_node_table, second_node_bits, v, 0, three);
     let x = met(first, output_table, output_bits, base, inputs);
-    let second = word_of(second_node_table, second_node_bits, v, 1, three);
+    let second = edge_of(second_node_table, second_node_bits, v, 1, three);
     let y = met(second, output_table, output_bits, base, inputs);
     let third = word_of(second_node_table, second_node_bits, v, 2, three);
     let z = met_third(third, output_table, output_bits, base, inputs);
-    put_three(joined_node_table, joined_node_bits, at, got, x, y, z)
+    put_node(joined_node_table, joined_node_bits, at, got, x, y, z)
 }
 
 // Puts the words of the second's nodes, met, from place `start` on, and the last word of bits.
