@@ -40,7 +40,10 @@
 use std::fmt;
 
 pub mod lent;
+mod node;
 pub mod raw;
+
+pub use node::Node;
 
 /// What stands in the node table as the third index of an XOR, and in lists of literals as its third literal.
 pub const MARK: u32 = 4_294_967_295;
@@ -187,23 +190,6 @@ impl Saving {
     /// Among all edges.
     pub fn total(self) -> i64 {
         self.own + self.others
-    }
-}
-
-/// A node's kind, with its literals.
-#[derive(Clone, Copy, Debug, PartialEq, Eq, Hash)]
-pub enum Node {
-    Majority([u32; 3]),
-    Xor([u32; 2]),
-}
-
-impl Node {
-    /// Three of a majority, two of an XOR.
-    pub fn literals(&self) -> &[u32] {
-        match self {
-            Node::Majority(literals) => literals,
-            Node::Xor(literals) => literals,
-        }
     }
 }
 
