@@ -39,11 +39,18 @@
 
 use std::fmt;
 
+pub mod aiger;
 pub mod lent;
+pub mod names;
 mod node;
+pub mod place;
 pub mod raw;
+mod read;
 
+pub use names::Names;
 pub use node::Node;
+pub use place::{Place, Refused};
+pub use read::{read, Format, Read};
 
 /// What stands in the node table as the third index of an XOR, and in lists of literals as its third literal.
 pub const MARK: u32 = 4_294_967_295;
