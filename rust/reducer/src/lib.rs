@@ -46,6 +46,7 @@ mod node;
 pub mod place;
 pub mod raw;
 mod read;
+pub mod verilog;
 
 pub use names::Names;
 pub use node::Node;
