@@ -19,6 +19,8 @@ mod joins;
 mod locks;
 #[path = "program/moves.rs"]
 mod moves;
+#[path = "program/names.rs"]
+mod names;
 #[path = "program/pictures.rs"]
 mod pictures;
 #[path = "program/reports.rs"]
@@ -106,6 +108,17 @@ fn holds(folder: &Path, names: &[&str]) {
     assert_eq!(found, names);
 }
 
+/// The line that is said where a graph becomes AIGER. A majority is four ANDs with five complemented edges, and one more where its first
+/// word is complemented. In the text a node is the complement of its last AND, so that literals of nodes turn.
+fn as_aiger(ands: usize, edges: usize, nodes: usize, complemented: usize) -> String {
+    let ending = |many: usize| if many == 1 { "" } else { "s" };
+    format!(
+        "as AIGER it has {ands} ANDs and {edges} complemented edges; the graph has {nodes} node{} and {complemented} complemented edge{}\n",
+        ending(nodes),
+        ending(complemented)
+    )
+}
+
 const FIGURES: &str = "inputs 3 nodes 1 outputs 1 before 4 after 0 rounds 2 own 3 others 1\n";
 
 #[test]
@@ -113,7 +126,11 @@ fn settling() {
     gives(&run(&["settle"], &p1()), &p1_settled(), FIGURES);
     gives(&run(&["settle", "-"], &p1()), &p1_settled(), FIGURES);
     gives(&run(&["settle", "--to", "tagged"], &p1()), &p1_settled(), FIGURES);
-    gives(&run(&["settle", "--to", "aiger"], &p1()), MAJORITY.as_bytes(), FIGURES);
+    gives(
+        &run(&["settle", "--to", "aiger"], &p1()),
+        MAJORITY.as_bytes(),
+        &format!("{FIGURES}{}", as_aiger(4, 6, 1, 0)),
+    );
     // An OR, as its ANDs have it, becomes the majority of the constant one and both inputs.
     let or = b"aag 3 2 0 1 1\n2\n4\n7\n6 3 5\n";
     let said = "inputs 2 nodes 1 outputs 1 before 3 after 1 rounds 2 own 1 others 1\n";
@@ -126,7 +143,9 @@ fn settling() {
     let figures = "inputs 3 nodes 1 outputs 3 before 4 after 2 rounds 2 own -1 others 3\n";
     gives(&run(&["settle"], &lost), &turned, figures);
     let as_text = "aag 6 2 0 1 4\n2\n4\n13\n6 3 5\n8 1 7\n10 2 4\n12 9 11\n";
-    gives(&run(&["settle"], or), as_text.as_bytes(), said);
+    gives(&run(&["settle", "--to", "aiger"], or), as_text.as_bytes(), &format!("{said}{}", as_aiger(4, 7, 1, 1)));
+    // Tagged, unless another form is asked for.
+    gives(&run(&["settle"], or), &settled, said);
 }
 
 #[test]
@@ -135,11 +154,13 @@ fn importing_and_exporting() {
     let imported =
         tagged(&[(1, &[3, 4, 1]), (2, nodes[0]), (2, nodes[1]), (2, nodes[2]), (2, nodes[3]), (4, &[15]), (5, &[])]);
     gives(&run(&["import"], MAJORITY.as_bytes()), &imported, "");
-    gives(&run(&["import"], format!("{MAJORITY}i0 x\nc\nmade by hand\n").as_bytes()), &imported, "");
+    gives(&run(&["import"], format!("{MAJORITY}c\nmade by hand\n").as_bytes()), &imported, "");
     gives(&run(&["import"], &p1()), &p1(), "");
-    gives(&run(&["export"], &p1_settled()), MAJORITY.as_bytes(), "");
+    gives(&run(&["export"], &p1_settled()), MAJORITY.as_bytes(), &as_aiger(4, 6, 1, 0));
     let xor = tagged(&[(1, &[2, 1, 1]), (3, &[2, 4]), (4, &[6]), (5, &[])]);
-    gives(&run(&["export"], &xor), b"aag 5 2 0 1 3\n2\n4\n11\n6 2 5\n8 3 4\n10 7 9\n", "");
+    gives(&run(&["export"], &xor), b"aag 5 2 0 1 3\n2\n4\n11\n6 2 5\n8 3 4\n10 7 9\n", &{
+        "as AIGER it has 3 ANDs and 5 complemented edges; the graph has 1 node and 0 complemented edges\n"
+    });
     gives(&run(&["export"], b"aag 1 1 0 1 0\n2\n3\n"), b"aag 1 1 0 1 0\n2\n3\n", "");
 }
 
@@ -229,7 +250,8 @@ fn previews_refused() {
         refused(&two_trees(), not, "nodes are 4 to 6");
     }
     refused(b"aag 1 1 0 1 0\n2\n3\n", "2", "there are no nodes");
-    let long = "panjerov: standard input: refused 6: there are bytes after the end field\n";
+    let long = "panjerov: standard input: refused 6: there are bytes after the end field; \
+                byte 40, after the end field: 1 byte more, and none is due\n";
     stops(&run(&["preview", "-", "4"], &[p1(), vec![0]].concat()), 1, long);
     for not in ["x", "4294967296", "+7", "7.0", ""] {
         let said = format!("ROOT is the index of a node, a number below 2 to the 32nd, and not {not}");
@@ -296,7 +318,7 @@ fn files_of_names() {
     gives(&run_in(&folder, &["settle", "in", "-o", "out"], b""), b"", FIGURES);
     assert_eq!(fs::read(folder.join("out")).unwrap(), p1_settled());
     gives(&run_in(&folder, &["settle", "in", "-o", "-"], b""), &p1_settled(), FIGURES);
-    gives(&run_in(&folder, &["export", "-o", "text", "out"], b""), b"", "");
+    gives(&run_in(&folder, &["export", "-o", "text", "out"], b""), b"", &as_aiger(4, 6, 1, 0));
     assert_eq!(fs::read(folder.join("text")).unwrap(), MAJORITY.as_bytes());
     // What it reads is what it writes.
     gives(&run_in(&folder, &["settle", "in", "-o", "in"], b""), b"", FIGURES);
@@ -365,49 +387,58 @@ fn refused_texts() {
     let numbering = "refused 12: M is not I + A, or inputs or gate numbers do not rise by 2 from literal 2";
     let bad_text = "refused 10: the header has no \"aag\", or a line lacks its decimal numbers";
     let bad_literal = "refused 5: a literal names an index that is not allowed there";
+    let over = "refused 3: there are too many inputs, nodes or outputs";
     let good = "aag 3 2 0 1 1\n2\n4\n6\n6 5 2\n";
-    for (from, to, line, due, why) in [
-        ("aag 3", "aag3", 1, "the header", bad_text),
-        ("3 2 0", "3 2 1", 1, "the header", "refused 11: there are latches"),
-        ("aag 3", "aag 4", 1, "the header", numbering),
-        ("3 2 0 1", "3 2 0 5000", 1, "the header", "refused 3: there are too many inputs, nodes or outputs"),
-        ("\n4\n", "\n04\n", 3, "input 2", bad_text),
-        ("\n2\n4\n", "\n4\n2\n", 2, "input 1", numbering),
-        ("\n4\n6\n", "\n4\n8\n", 4, "output 1", bad_literal),
-        ("6 5 2", "6 6 2", 5, "gate 1", bad_literal),
-        ("6 5 2", "8 5 2", 5, "gate 1", numbering),
-        ("6 5 2", "6 5", 5, "gate 1", bad_text),
+    let latches = "it says 1 latch; make each an input and an output first, by \
+                   berkeley-abc -c \"read_aiger OLD.aig; comb; write_aiger NEW.aig\"";
+    let header = "line 1, the header";
+    for (from, to, place, why, refusal) in [
+        ("aag 3", "aag3", header, "\"aag\" and five numbers are due, and \"aag3 2 0 1 1\" stands there", bad_text),
+        ("3 2 0", "3 2 1", header, latches, "refused 11: there are latches"),
+        ("aag 3", "aag 2", header, "M is 2, and I + A is 3", numbering),
+        ("3 2 0 1", "3 2 0 5000", header, "it says 5000 outputs, and 4096 are the most", over),
+        ("\n4\n", "\n04\n", "line 3, input 2 of 2", "one number is due, and \"04\" stands there", bad_text),
+        ("\n2\n4\n", "\n3\n4\n", "line 2, input 1 of 2", "literal 3 stands there, and 2 is due", numbering),
+        (
+            "\n4\n6\n",
+            "\n4\n8\n",
+            "line 4, output 1 of 1",
+            "it is literal 8, which names index 4, and 3 is the highest allowed there",
+            bad_literal,
+        ),
+        (
+            "6 5 2",
+            "6 6 2",
+            "line 5, gate 1 of 1",
+            "literal 6 leads back to the gate itself: there is a circle",
+            bad_literal,
+        ),
+        ("6 5 2", "8 5 2", "line 5, gate 1 of 1", "literal 8 stands there, and 6 is due", numbering),
+        ("6 5 2", "6 5", "line 5, gate 1 of 1", "three numbers are due, and \"6 5\" stands there", bad_text),
     ] {
         assert!(good.contains(from));
         let output = run(&["import"], good.replacen(from, to, 1).as_bytes());
-        stops(&output, 1, &format!("panjerov: standard input, line {line}, where {due} is due: {why}\n"));
+        stops(&output, 1, &format!("panjerov: standard input: {refusal}; {place}: {why}\n"));
     }
-    let cut = run(&["show"], &good.as_bytes()[..good.len() - 1]);
-    let said = format!("standard input, line 5, where gate 1 is due: {bad_text}; the text ends within it");
-    stops(&cut, 1, &format!("panjerov: {said}\n"));
-    let returns = run(&["show"], good.replace('\n', "\r\n").as_bytes());
-    let said = format!("standard input, line 1, where the header is due: {bad_text}; it has a carriage return");
-    stops(&returns, 1, &format!("panjerov: {said}\n"));
+    let cut = run(&["show"], &good.as_bytes()[..good.len() - 3]);
+    let said = "line 5, gate 1 of 1: three numbers are due, and \"6 5\" stands there, where the text ends";
+    stops(&cut, 1, &format!("panjerov: standard input: {bad_text}; {said}\n"));
 }
 
 #[test]
 fn refused_files() {
     let folder = folder("refused_files");
     fs::write(folder.join("long"), [p1(), vec![0]].concat()).unwrap();
-    let said = "panjerov: long: refused 6: there are bytes after the end field\n";
+    let said = "panjerov: long: refused 6: there are bytes after the end field; \
+                byte 40, after the end field: 1 byte more, and none is due\n";
     stops(&run_in(&folder, &["settle", "long"], b""), 1, said);
     let empty = "panjerov: standard input: refused 1: the bytes end within a field; it is empty\n";
     stops(&run(&["export"], b""), 1, empty);
     let other = "panjerov: standard input: refused 2: a field has not the tag or the length that is due; \
-                 neither a tagged file nor AIGER text begins so\n";
-    stops(&run(&["show"], b"module adder;\n"), 1, other);
+                 neither a tagged file nor AIGER begins so\n";
+    stops(&run(&["show"], b"\x02 adder\n"), 1, other);
     let missing = "panjerov: cannot read missing: No such file or directory (os error 2)\n";
     stops(&run_in(&folder, &["show", "missing"], b""), 1, missing);
-    let binary = "panjerov: standard input is AIGER in the binary format, and only ASCII is read. Either makes ASCII of it:\n    \
-                  aigtoaig OLD.aig NEW.aag\n    \
-                  yosys -p 'read_aiger OLD.aig; write_aiger -ascii -symbols NEW.aag'\n\
-                  yosys may put inputs and outputs that have names in another order; the symbols in the new file tell it.\n";
-    stops(&run(&["import"], b"aig 1 1 0 1 0\n2\n"), 1, binary);
 }
 
 #[test]
@@ -480,10 +511,10 @@ fn long_input() {
     let due = "format aiger\ninputs 4096 nodes 100000 outputs 4096\nmajorities 100000 xors 0\n\
                complemented edges 104096\nmajorities with just one complemented input 100000\ndepth 100000\nlocked nodes 0\n";
     gives(&run(&["show"], long.as_bytes()), due.as_bytes(), "");
-    let symbols = "i0 a name that is long enough\n".repeat(200_000);
-    gives(&run(&["show"], (long.clone() + &symbols).as_bytes()), due.as_bytes(), "");
+    let comment = format!("c\n{}", "a comment that is long enough\n".repeat(800_000));
+    gives(&run(&["show"], (long.clone() + &comment).as_bytes()), due.as_bytes(), "");
     let last = long.replacen("\n208192 208191 208190\n", "\n208192 208191 4294967295\n", 1);
-    let said = "panjerov: standard input, line 108193, where gate 100000 is due: \
-                refused 5: a literal names an index that is not allowed there\n";
+    let said = "panjerov: standard input: refused 5: a literal names an index that is not allowed there; line 108193, gate 100000 of \
+                100000: its word 2 is literal 4294967295, which names index 2147483647, and 104095 is the highest allowed there\n";
     stops(&run(&["show"], last.as_bytes()), 1, said);
 }

@@ -55,11 +55,7 @@ fn assigning_refused() {
     };
     refused(&["11"], &p1(), "PATTERN wants 2 outputs, and there are 1");
     refused(&["2=1"], &p1(), "there is no output 2: outputs are 1 to 1");
-    refused(
-        &["sum=1"],
-        &p1(),
-        "outputs are wanted by number, such as 3=1, and not sum=1: names of AIGER text are not kept",
-    );
+    refused(&["sum=1"], &p1(), "outputs are wanted by name or number, such as 3=1, and no output has the name sum");
     let many = tagged(&[(1, &[17, 0, 1]), (4, &[2]), (5, &[])]);
     refused(&["1"], &many, "refused 17: there are more than 16 inputs: 17 are here, and a search is made up to 16");
     refused(&["1"], b"", "refused 1: the bytes end within a field; it is empty");

@@ -17,7 +17,11 @@ fn finding() {
     gives(&run_in(&folder, &["find", "out", "-o", "out"], b""), b"", again);
     assert_eq!(fs::read(folder.join("out")).unwrap(), p1());
     let text = "aag 7 3 0 1 4\n2\n4\n6\n14\n8 4 6\n10 3 9\n12 5 7\n14 11 13\n";
-    gives(&run_in(&folder, &["find", "in.aag", "--to", "aiger"], b""), text.as_bytes(), FOUND);
+    gives(
+        &run_in(&folder, &["find", "in.aag", "--to", "aiger"], b""),
+        text.as_bytes(),
+        &format!("{FOUND}{}", as_aiger(4, 6, 1, 4)),
+    );
     holds(&folder, &["in.aag", "out"]);
 }
 
@@ -26,7 +30,9 @@ fn finding() {
 fn finding_and_settling() {
     let said = format!("{FOUND}{FIGURES}");
     gives(&run(&["settle", "--find", "--to", "tagged"], MAJORITY.as_bytes()), &p1_settled(), &said);
-    gives(&run(&["settle", "--find"], MAJORITY.as_bytes()), MAJORITY.as_bytes(), &said);
+    gives(&run(&["settle", "--find"], MAJORITY.as_bytes()), &p1_settled(), &said);
+    let aiger = format!("{said}{}", as_aiger(4, 6, 1, 0));
+    gives(&run(&["settle", "--find", "--to", "aiger"], MAJORITY.as_bytes()), MAJORITY.as_bytes(), &aiger);
     let none = "before nodes 1 majorities 1 complemented 4\nafter nodes 1 majorities 1 complemented 4\n";
     gives(&run(&["settle", "--find"], &p1()), &p1_settled(), &format!("{none}{FIGURES}"));
     let unfound = run(&["settle", "--to", "tagged"], MAJORITY.as_bytes());
@@ -48,20 +54,13 @@ fn finding_beside_locks() {
     gives(&run_in(&folder, &["find", "locked"], b""), &due, said);
     let lost = "AIGER text cannot hold locks: those of 1 node are lost, and a tagged file would keep them\n";
     let output = run_in(&folder, &["find", "locked", "--to", "aiger"], b"");
-    assert_eq!(text(&output.stderr), format!("{said}{lost}"));
+    assert_eq!(text(&output.stderr), format!("{said}{}{lost}", as_aiger(8, 11, 2, 4)));
 }
 
 #[test]
 fn finding_refused() {
     let refused = "panjerov: standard input: refused 1: the bytes end within a field; it is empty\n";
     stops(&run(&["find"], b""), 1, refused);
-    let folder = folder("finding_refused");
-    fs::write(folder.join("in"), MAJORITY).unwrap();
-    let output = run_in(&folder, &["find", "in", "-o", "out.aag"], b"");
-    let why = "panjerov: out.aag has the ending of AIGER, which has ANDs alone: find gives a tagged file, or with --to aiger each \
-               majority as four ANDs; `panjerov find --help` tells what find takes\n";
-    stops(&output, 2, why);
-    holds(&folder, &["in"]);
 }
 
 /// The examples, each found and then settled: never more nodes, and every output's value under 64 assignments.

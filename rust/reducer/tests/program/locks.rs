@@ -66,7 +66,8 @@ fn no_such_nodes() {
     let none =
         "panjerov: standard input: refused 7: there is no such node, root or word; 2 is no node: there are no nodes\n";
     stops(&run(&["lock", "-", "2"], b"aag 1 1 0 1 0\n2\n3\n"), 1, none);
-    let long = "panjerov: standard input: refused 6: there are bytes after the end field\n";
+    let long = "panjerov: standard input: refused 6: there are bytes after the end field; \
+                byte 55, after the end field: 1 byte more, and none is due\n";
     stops(&run_in(&folder, &["lock", "-", "6", "-o", "out"], &[p2(), vec![0]].concat()), 1, long);
     assert_eq!(fs::read(folder.join("out")).unwrap(), b"old");
     assert_eq!(fs::read(folder.join("in")).unwrap(), p2_locked(&[7]));
@@ -78,7 +79,7 @@ fn words_that_are_not_understood() {
     let folder = folder("words_that_are_not_understood");
     fs::write(folder.join("in"), p2()).unwrap();
     let nodes = "NODES are indices and runs of them, such as 7,9-12, or all";
-    let aiger = "AIGER text cannot hold locks: lock gives a tagged file";
+    let aiger = "AIGER cannot hold locks: lock gives a tagged file";
     let ending = "has the ending of AIGER, which cannot hold locks: lock gives a tagged file, so give it another name";
     for (words, why) in [
         (&["in"][..], format!("NODES is missing after FILE: {nodes}")),
@@ -124,6 +125,7 @@ fn settling_with_locks() {
 fn texts_lose_locks() {
     let p1_locked = tagged(&[(1, &[3, 1, 1]), (2, &[2, 4, 6]), (4, &[8]), (6, &[4]), (5, &[])]);
     let lost = "AIGER text cannot hold locks: those of 1 node are lost, and a tagged file would keep them\n";
+    let lost = &format!("{}{lost}", as_aiger(4, 6, 1, 0));
     gives(&run(&["export"], &p1_locked), MAJORITY.as_bytes(), lost);
     let figures = "inputs 3 nodes 1 outputs 1 before 0 after 0 rounds 1 own 0 others 0 locked 1\n";
     gives(&run(&["settle", "--to", "aiger"], &p1_locked), MAJORITY.as_bytes(), &format!("{figures}{lost}"));
@@ -147,7 +149,8 @@ fn showing_locks() {
     let due = "format tagged\ninputs 4096 nodes 100000 outputs 4096\nmajorities 100000 xors 0\ncomplemented edges 0\n\
                majorities with just one complemented input 0\ndepth 0\nlocked nodes 100000 at 4097-104096\n";
     gives(&run(&["show"], &long), due.as_bytes(), "");
-    let extra = "panjerov: standard input: refused 6: there are bytes after the end field\n";
+    let extra = "panjerov: standard input: refused 6: there are bytes after the end field; \
+                 byte 2228690, after the end field: 1 byte more, and none is due\n";
     stops(&run(&["show"], &[&long[..], &[0]].concat()), 1, extra);
 }
 
@@ -170,10 +173,10 @@ fn files_refused_by_13() {
     let refused = "panjerov: standard input: refused 13: a lock byte is above 1, or a lock of a file is at no node or not above the \
                    one before";
     for (locked, why) in [
-        (&[5][..], "the field 06 at byte 52 has index 5, and nodes are 6 to 7"),
-        (&[6, 8], "the field 06 at byte 59 has index 8, and nodes are 6 to 7"),
-        (&[7, 6], "the field 06 at byte 59 has index 6 after 7, and indices must rise"),
-        (&[6, 6], "the field 06 at byte 59 has index 6 after 6, and indices must rise"),
+        (&[5][..], "byte 52, a lock: it has index 5, and nodes are 6 to 7"),
+        (&[6, 8], "byte 59, a lock: it has index 8, and nodes are 6 to 7"),
+        (&[7, 6], "byte 59, a lock: it has index 6 after 7, and indices must rise"),
+        (&[6, 6], "byte 59, a lock: it has index 6 after 6, and indices must rise"),
     ] {
         stops(&run(&["show"], &p2_locked(locked)), 1, &format!("{refused}; {why}\n"));
     }

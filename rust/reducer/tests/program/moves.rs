@@ -45,7 +45,11 @@ fn applying_what_loses() {
     gives(&run_in(&folder, &["apply", "in", "-"], b""), &p1_settled(), figures);
     let figures = "inputs 3 nodes 1 outputs 1 before 0 after 4 saving -4 listed 1 moved 1\n";
     let text = "aag 7 3 0 1 4\n2\n4\n6\n14\n8 4 6\n10 3 9\n12 5 7\n14 11 13\n";
-    gives(&run_in(&folder, &["apply", "in", "-", "--to", "aiger"], b"4 1\n"), text.as_bytes(), figures);
+    gives(
+        &run_in(&folder, &["apply", "in", "-", "--to", "aiger"], b"4 1\n"),
+        text.as_bytes(),
+        &format!("{figures}{}", as_aiger(4, 6, 1, 4)),
+    );
 }
 
 /// What a preview gives with --moves is applied as it is, and ends in what the first line of the preview says.
@@ -89,7 +93,7 @@ fn applying_beside_locks() {
     // Without its locks, as text has none.
     let lost = "AIGER text cannot hold locks: those of 1 node are lost, and a tagged file would keep them\n";
     let output = run_in(&folder, &["apply", "in", "-", "--to", "aiger"], b"6 1\n");
-    assert_eq!(said(&output), format!("{}{lost}", figures.replace("listed 2", "listed 1")));
+    assert_eq!(said(&output), format!("{}{}{lost}", figures.replace("listed 2", "listed 1"), as_aiger(8, 12, 2, 2)));
 }
 
 /// Told with the line, and nothing is written.
@@ -120,7 +124,8 @@ fn lists_refused() {
     assert_eq!(missing.status.code(), Some(1));
     let long = "panjerov: standard input has more than 16777216 bytes, which no list of moves needs\n";
     stops(&run_in(&folder, &["apply", "in", "-", "-o", "out"], &vec![b'\n'; (1 << 24) + 1]), 1, long);
-    let extra = "panjerov: in: refused 6: there are bytes after the end field\n";
+    let extra = "panjerov: in: refused 6: there are bytes after the end field; \
+                 byte 55, after the end field: 1 byte more, and none is due\n";
     fs::write(folder.join("in"), [p2(), vec![0]].concat()).unwrap();
     stops(&run_in(&folder, &["apply", "in", "-", "-o", "out"], b"6 1"), 1, extra);
     assert_eq!(fs::read(folder.join("out")).unwrap(), b"old");

@@ -574,12 +574,12 @@ fn what_cannot_be_compared() {
         "p1 and standard input have not the same wiring: node 4 is a majority before and an XOR after",
     );
     // Settled and given as text again, an AND is four.
-    let exported = run_in(&folder, &["settle", "or"], b"").stdout;
+    let exported = run_in(&folder, &["settle", "or", "--to", "aiger"], b"").stdout;
     refused(
         &["or", "-"],
         &exported,
         "or and standard input have not the same wiring: 2 inputs, 1 node, 1 output before and 2 inputs, 4 nodes, 1 output \
-         after; as AIGER text a settled graph has other nodes, so compare with what `panjerov settle --to tagged` gives",
+         after; as AIGER a settled graph has other nodes, so compare with the tagged file that `panjerov settle` gives",
     );
     refused(&["p1", "missing"], b"", "cannot read missing: No such file or directory (os error 2)");
     refused(&["p1", "-"], b"", "standard input: refused 1: the bytes end within a field; it is empty");

@@ -178,7 +178,8 @@ fn a_report_of_a_part() {
         let output = run_with(&folder, &[&["report", "two", "-o", "out"], &words[..]].concat());
         stops(&output, 1, &format!("panjerov: two: {why}\n"));
     }
-    let long = "panjerov: standard input: refused 6: there are bytes after the end field\n";
+    let long = "panjerov: standard input: refused 6: there are bytes after the end field; \
+                byte 40, after the end field: 1 byte more, and none is due\n";
     stops(&run_in(&folder, &["report", "-o", "out"], &[p1(), vec![0]].concat()), 1, long);
     assert_eq!(fs::read(folder.join("out")).unwrap(), b"old");
     holds(&folder, &["bin", "in", "out", "two"]);

@@ -59,7 +59,7 @@ fn choosing_beside_locks() {
     gives(&run(&["resistive", "-", "5"], &locked), &locked, said);
     let lost = "AIGER text cannot hold locks: those of 1 node are lost, and a tagged file would keep them\n";
     let output = run(&["resistive", "-", "5", "--to", "aiger"], &locked);
-    assert_eq!(super::said(&output), format!("{said}{lost}"));
+    assert_eq!(super::said(&output), format!("{said}{}{lost}", as_aiger(8, 12, 2, 0)));
 }
 
 #[test]

@@ -108,7 +108,7 @@ mod tests {
     use super::*;
 
     fn text(lines: &str) -> Input {
-        Input { name: "moves".into(), bytes: lines.into() }
+        Input { name: "moves".into(), bytes: lines.into(), ..Input::default() }
     }
 
     /// Node 3 is a majority, nodes 4 and 5 are XORs, and node 4 is locked.

@@ -2,9 +2,10 @@
 
 use crate::locks::number;
 use crate::parts::count;
+use crate::picture::Named;
 use crate::progress::Progress;
 use crate::Given;
-use reducer::{Graph, Refusal, MOST_SEARCHED};
+use reducer::{Graph, Names, Refusal, MOST_SEARCHED};
 
 /// Under 64 assignments that follow each other the six lowest inputs are these words.
 const LOWEST: [u64; 6] = [
@@ -26,13 +27,11 @@ fn sign(sign: char) -> Option<u8> {
     }
 }
 
-/// Puts what a part such as 3=1 wants; outputs count from 1.
-fn put_named(wanted: &mut [u8], part: &str) -> Result<(), String> {
-    let (name, value) = part.split_once('=').unwrap_or((part, ""));
-    let Some(output) = number(name) else {
-        return Err(format!(
-            "outputs are wanted by number, such as 3=1, and not {part}: names of AIGER text are not kept"
-        ));
+/// Puts what a part such as 3=1 or sum[2]=1 wants; outputs count from 1.
+fn put_named(names: &Names, wanted: &mut [u8], part: &str) -> Result<(), String> {
+    let (name, value) = part.rsplit_once('=').unwrap_or((part, ""));
+    let Some(output) = names.output_named(name).or_else(|| number(name)) else {
+        return Err(format!("outputs are wanted by name or number, such as 3=1, and no output has the name {name}"));
     };
     let value = match value {
         "0" => 0,
@@ -51,12 +50,12 @@ fn put_named(wanted: &mut [u8], part: &str) -> Result<(), String> {
 }
 
 /// What the words of PATTERN want, a byte an output: a sign each, or by number and the others either.
-fn wanted(graph: &Graph, words: &[String]) -> Result<Vec<u8>, String> {
+fn wanted((graph, names): Named, words: &[String]) -> Result<Vec<u8>, String> {
     let outputs = graph.size.outputs as usize;
     if words.iter().any(|word| word.contains('=')) {
         let mut wanted = vec![2; outputs];
         let parts = words.iter().flat_map(|word| word.split(',')).filter(|part| !part.is_empty());
-        parts.into_iter().try_for_each(|part| put_named(&mut wanted, part))?;
+        parts.into_iter().try_for_each(|part| put_named(names, &mut wanted, part))?;
         return Ok(wanted);
     }
     let signs: Vec<char> = words.iter().flat_map(|word| word.chars()).collect();
@@ -132,11 +131,12 @@ fn all(graph: &Graph, wanted: &[u8], least: u32, working: &Progress) -> Result<(
 }
 
 /// The least assignment that gives a pattern, or all that do; status 1 where there is none.
-pub fn of(graph: &Graph, pattern: &[String], every: bool, working: &Progress) -> Result<Given, String> {
-    let wanted = wanted(graph, pattern)?;
+pub fn of(named: Named, pattern: &[String], every: bool, working: &Progress) -> Result<Given, String> {
+    let graph = named.0;
+    let wanted = wanted(named, pattern)?;
     let found = graph.assignment_for(&wanted).map_err(|refusal| refused(graph, refusal))?;
     let Some(least) = found else {
-        return Ok(Given { bytes: b"none\n".to_vec(), lines: vec![], status: 1 });
+        return Ok(Given::different("none".into()));
     };
     if !every {
         return Ok(Given::of(told(graph, least)?.into_bytes(), vec![]));
@@ -155,7 +155,8 @@ mod tests {
     }
 
     fn of_words(words: &[&str]) -> Result<Vec<u8>, String> {
-        wanted(&three(), &words.iter().map(|word| word.to_string()).collect::<Vec<_>>())
+        let names = Names::of_symbols(b"o1 carry\no2 s=t[0]\n", 2, 3).0;
+        wanted((&three(), &names), &words.iter().map(|word| word.to_string()).collect::<Vec<_>>())
     }
 
     #[test]
@@ -170,8 +171,9 @@ mod tests {
         assert_eq!(of_words(&["012"]), Err(signs.into()));
         assert_eq!(of_words(&["4=1"]), Err("there is no output 4: outputs are 1 to 3".into()));
         assert_eq!(of_words(&["0=1"]), Err("there is no output 0: outputs are 1 to 3".into()));
-        let names = "outputs are wanted by number, such as 3=1, and not sum=1: names of AIGER text are not kept";
+        let names = "outputs are wanted by name or number, such as 3=1, and no output has the name sum";
         assert_eq!(of_words(&["sum=1"]), Err(names.into()));
+        assert_eq!(of_words(&["carry=0,s=t[0]=1"]), Ok(vec![2, 0, 1]));
         assert_eq!(of_words(&["3=2"]), Err("an output is wanted to be 0, 1 or x, such as 3=1, and not 3=2".into()));
     }
 

@@ -7,7 +7,7 @@ use std::path::{Component, Path, PathBuf};
 use crate::class_page;
 use crate::class_sheet::{self, Row, Sheet, SheetForm};
 use crate::files::{self, Input};
-use crate::formats;
+use crate::formats::{self, Format, Loaded};
 use crate::parts::Wanted;
 use crate::progress::Progress;
 use crate::report;
@@ -30,7 +30,8 @@ fn files_in(path: &Path, output: Option<&Path>, found: &mut Vec<PathBuf>) -> Res
     let mut entries = entries.map_err(cannot)?;
     entries.sort();
     let hidden = |path: &Path| path.file_name().is_some_and(|name| name.as_encoded_bytes().starts_with(b"."));
-    for entry in entries.into_iter().filter(|entry| !hidden(entry)) {
+    let beside = |path: &Path| path.extension().is_some_and(|end| end == "names") && path.with_extension("").is_file();
+    for entry in entries.into_iter().filter(|entry| !hidden(entry) && !beside(entry)) {
         if entry.is_file() {
             found.push(entry);
         } else if entry.is_dir() && !entry.is_symlink() && fs::canonicalize(&entry).ok().as_deref() != output {
@@ -145,23 +146,27 @@ fn reason(why: String, name: &str) -> String {
     rest.lines().next().unwrap_or_default().into()
 }
 
-/// Settles a file and enters it; what was read, and the settled graph as bytes.
-fn enter(class: &mut Class, file: &Handed) -> Result<(Input, Vec<u8>), String> {
+/// Settles a file and enters it; what was read, and the settled graph as bytes with its names beside it.
+fn enter(class: &mut Class, file: &Handed) -> Result<(Input, Vec<u8>, Option<String>), String> {
     let input = files::read(file.path.as_deref())?;
-    let (mut graph, format) = formats::graph_of(&input).map_err(|why| reason(why, &input.name))?;
+    let Loaded { mut graph, names, .. } = formats::graph_of(&input).map_err(|why| reason(why, &input.name))?;
     class.enter(&mut graph).map_err(|refusal| match class.all() {
         Ok(all) if all.graphs == MOST_GRAPHS => {
             format!("refused 3: a class has {MOST_GRAPHS} graphs, and this is one more")
         }
         _ => told(refusal),
     })?;
-    Ok((input, formats::bytes_of(&graph, format)?))
+    let path = Path::new(&file.title);
+    let format = Format::of_ending(path).unwrap_or(Format::Tagged);
+    let (bytes, _) = formats::bytes_of(&graph, &names, format, Some(path))?;
+    let beside = formats::beside(&names, format, &bytes);
+    Ok((input, bytes, beside))
 }
 
 /// A file's row. What cannot be written ends the work; what cannot be read or settled is told in the row.
 fn row(class: &mut Class, file: &Handed, asked: &Work) -> Result<Row, String> {
     let before = class.all().map_err(told)?;
-    let (input, settled) = match enter(class, file) {
+    let (input, settled, beside) = match enter(class, file) {
         Ok(entered) => entered,
         Err(why) => return Ok(Row { title: file.title.clone(), told: Err(why), report: None }),
     };
@@ -169,9 +174,10 @@ fn row(class: &mut Class, file: &Handed, asked: &Work) -> Result<Row, String> {
     if let Some(folder) = &asked.output {
         let Target { settled: place, report: page } = target(folder, &file.title);
         write(&place, &settled)?;
+        files::write_beside(Some(&place), beside.as_deref())?;
         if asked.sheet == Some(SheetForm::Html) {
-            let (graph, _) = formats::graph_of(&input)?;
-            write(&page, &report::of(&input, &graph, Wanted::Whole)?.bytes)?;
+            let Loaded { graph, names, .. } = formats::graph_of(&input)?;
+            write(&page, &report::of(&input, (&graph, &names), Wanted::Whole)?.bytes)?;
             link = Some(format!("{}.html", file.title));
         }
     }

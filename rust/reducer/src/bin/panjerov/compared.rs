@@ -24,12 +24,12 @@ fn figures(graphs: [&Graph; 2], names: [&str; 2], moves: &[u8]) -> Result<Vec<St
 /// The moves that lead from a graph to another, or the first place that no moves explain.
 pub fn compare(asked: &Work, before: &Input, first: &Graph) -> Result<Given, String> {
     let after = files::read(asked.after.as_deref())?;
-    let (second, _) = formats::graph_of(&after)?;
+    let second = formats::graph_of(&after)?.graph;
     let names = [&before.name[..], &after.name];
     match turned::moves(first, &second) {
         Ok(moves) => {
             let lines = figures([first, &second], names, &moves)?;
-            Ok(Given { bytes: sheets::list_of(first, &moves).into_bytes(), lines, status: 0 })
+            Ok(Given::of(sheets::list_of(first, &moves).into_bytes(), lines))
         }
         Err(Apart::Wiring(why)) => Ok(Given::different(format!("other wiring: {why}"))),
         Err(Apart::Bit(_, what)) => Ok(Given::different(format!("no moves: {what}"))),
@@ -42,11 +42,11 @@ pub fn sheets(asked: &Work, graph: &Graph) -> Result<Given, String> {
     let sheet = files::read_moves(asked.moves.as_deref())?;
     let Some(other) = &asked.other else {
         let (text, line) = sheets::short(graph, &sheet)?;
-        return Ok(Given { bytes: text.into_bytes(), lines: vec![line], status: 0 });
+        return Ok(Given::of(text.into_bytes(), vec![line]));
     };
     let other = files::read_moves(other.as_deref())?;
     Ok(match sheets::first_difference(graph, [&sheet, &other])? {
-        None => Given { bytes: b"same\n".to_vec(), lines: vec![], status: 0 },
+        None => Given::of(b"same\n".to_vec(), vec![]),
         Some(why) => Given::different(why),
     })
 }

@@ -2,18 +2,24 @@
 
 use crate::files::{self, Input};
 use crate::formats::{self, Format};
+use crate::graphviz::Form;
 use crate::graphviz::{self, Failure};
 use crate::locks;
 use crate::parts::Part;
-use crate::picture;
+use crate::picture::{self, Named};
 use crate::turned::{self, Apart};
 use crate::words::Work;
 use crate::Given;
 use reducer::Graph;
 
+/// What Graphviz makes, as an option or the ending of the file's name says.
+fn form_of(asked: &Work) -> Option<Form> {
+    asked.form.or_else(|| asked.output.as_deref().and_then(Format::of_ending).and_then(Format::form))
+}
+
 /// As the DOT text, or as what Graphviz makes of it.
 fn formed(asked: &Work, text: String) -> Result<Vec<u8>, String> {
-    match asked.form {
+    match form_of(asked) {
         Some(form) => graphviz::picture(text, form).map_err(|failure| match failure {
             Failure::Missing => format!("{failure}; without --svg or --png a picture is given as DOT text"),
             _ => failure.to_string(),
@@ -27,17 +33,17 @@ fn part_of(asked: &Work, graph: &Graph, input: &Input) -> Result<Part, String> {
 }
 
 /// Draws a part of a graph, or all of it.
-pub fn draw(asked: &Work, input: &Input, graph: &Graph) -> Result<Given, String> {
-    let part = part_of(asked, graph, input)?;
-    let bytes = formed(asked, picture::of(graph, &part, &input.title())?)?;
+pub fn draw(asked: &Work, input: &Input, named: Named) -> Result<Given, String> {
+    let part = part_of(asked, named.0, input)?;
+    let bytes = formed(asked, picture::of(named, &part, &input.title())?)?;
     Ok(Given::of(bytes, part.line().into_iter().collect()))
 }
 
 /// Why two graphs are not compared.
 fn other_wiring(why: &str, inputs: [&Input; 2], formats: [Format; 2]) -> String {
-    let hint = match formats.contains(&Format::Aiger) {
+    let hint = match formats.iter().any(|&format| format != Format::Tagged) {
         true => {
-            "; as AIGER text a settled graph has other nodes, so compare with what `panjerov settle --to tagged` gives"
+            "; as AIGER a settled graph has other nodes, so compare with the tagged file that `panjerov settle` gives"
         }
         false => "",
     };
@@ -45,20 +51,21 @@ fn other_wiring(why: &str, inputs: [&Input; 2], formats: [Format; 2]) -> String 
 }
 
 /// Draws two graphs of the same wiring side by side, or a part of them.
-pub fn compare(asked: &Work, before: &Input, (first, format): (Graph, Format)) -> Result<Given, String> {
+pub fn compare(asked: &Work, before: &Input, first: Named, format: Format) -> Result<Given, String> {
     let after = &files::read(asked.after.as_deref())?;
-    let (second, second_format) = formats::graph_of(after)?;
-    let moves = turned::moves(&first, &second);
+    let second = formats::graph_of(after)?;
+    let graphs = [first.0, &second.graph];
+    let moves = turned::moves(graphs[0], graphs[1]);
     match &moves {
-        Err(Apart::Wiring(why)) => return Err(other_wiring(why, [before, after], [format, second_format])),
+        Err(Apart::Wiring(why)) => return Err(other_wiring(why, [before, after], [format, second.format])),
         Err(Apart::Refused(why)) => return Err(why.clone()),
         _ => {}
     }
-    let part = part_of(asked, &first, before)?;
+    let part = part_of(asked, graphs[0], before)?;
     let titles = [("before", before), ("after", after)].map(|(which, input)| format!("{which}: {}", input.title()));
-    let bytes = formed(asked, picture::compared([&first, &second], &part, &titles)?)?;
-    let lines = part.line().into_iter().chain(said_of([&first, &second], [&before.name, &after.name], moves));
-    Ok(Given::of(bytes, lines.collect()))
+    let bytes = formed(asked, picture::compared([first, (&second.graph, &second.names)], &part, &titles)?)?;
+    let lines = second.lines.into_iter().chain(part.line());
+    Ok(Given::of(bytes, lines.chain(said_of(graphs, [&before.name, &after.name], moves)).collect()))
 }
 
 /// What is said of two graphs of the same wiring: that no moves lead from one to the other, that their locks differ, and which nodes

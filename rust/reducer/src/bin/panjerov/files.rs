@@ -1,17 +1,21 @@
 //! Reading what is there, and writing so that no half of a file is ever left.
 
+use std::ffi::OsString;
 use std::fs::{self, File, Metadata, OpenOptions, Permissions};
 use std::io::{self, Read, Write};
 use std::os::unix::fs::{chown, MetadataExt, PermissionsExt};
 use std::path::{Path, PathBuf};
 
 use crate::progress::Progress;
-use reducer::{file_bytes, Size, MOST_INPUTS, MOST_NODES, MOST_OUTPUTS};
+use reducer::Names;
 
 /// A file as it was read.
+#[derive(Default)]
 pub struct Input {
     pub name: String,
     pub bytes: Vec<u8>,
+    /// What stands in the file of names beside it, if there is one.
+    pub beside: Option<Vec<u8>>,
 }
 
 impl Input {
@@ -22,13 +26,8 @@ impl Input {
     }
 }
 
-/// How much is read. The longest AIGER text up to its last gate has fewer bytes, each line with the digits that its largest
-/// number has; the longest tagged file has its nodes all majorities and all locked; then a line of the largest numbers that there are.
-fn most_bytes() -> u64 {
-    let text = 30 + 5 * MOST_INPUTS + 7 * MOST_OUTPUTS + 21 * MOST_NODES;
-    let file = file_bytes(Size { inputs: MOST_INPUTS, nodes: MOST_NODES, outputs: MOST_OUTPUTS });
-    u64::from(text).max(file as u64) + 64
-}
+/// How much is read. A tagged file or an AIGER text up to its last gate has less than a sixth; the rest is for names and comments.
+const MOST_BYTES: u64 = 1 << 24;
 
 fn read_from(from: impl Read, most: u64) -> io::Result<Vec<u8>> {
     let mut bytes = Vec::new();
@@ -36,9 +35,28 @@ fn read_from(from: impl Read, most: u64) -> io::Result<Vec<u8>> {
     Ok(bytes)
 }
 
-/// The graph's file of this name, or standard input.
+/// The graph's file of this name, or standard input, with the names beside it.
 pub fn read(path: Option<&Path>) -> Result<Input, String> {
-    read_front(path, most_bytes())
+    let mut input = read_front(path, MOST_BYTES + 1)?;
+    if input.bytes.len() as u64 > MOST_BYTES {
+        // A line that is cut would be another.
+        input.bytes.truncate(input.bytes.iter().rposition(|&byte| byte == b'\n').map_or(0, |end| end + 1));
+    }
+    input.beside = path.and_then(|path| read_beside(&beside_of(path)));
+    Ok(input)
+}
+
+/// The file of names beside another.
+pub fn beside_of(path: &Path) -> PathBuf {
+    let mut name = OsString::from(path);
+    name.push(".names");
+    name.into()
+}
+
+/// What stands in a file of names; nothing where it is there and cannot be read.
+fn read_beside(path: &Path) -> Option<Vec<u8>> {
+    let file = File::open(path).ok().filter(|_| path.is_file())?;
+    Some(read_from(file, MOST_BYTES).unwrap_or_default())
 }
 
 /// The most bytes of a list of moves. One with a move for as many nodes as there may be has less than a tenth; the rest is for comments.
@@ -62,7 +80,7 @@ fn read_front(path: Option<&Path>, most: u64) -> Result<Input, String> {
         None => read_from(io::stdin().lock(), most),
     };
     match bytes {
-        Ok(bytes) => Ok(Input { name, bytes }),
+        Ok(bytes) => Ok(Input { name, bytes, beside: None }),
         Err(error) => Err(format!("cannot read {name}: {error}")),
     }
 }
@@ -161,4 +179,17 @@ pub fn write(path: Option<&Path>, bytes: &[u8]) -> Result<(), String> {
         None => ("standard output".into(), write_out(bytes)),
     };
     written.map_err(|error| format!("cannot write {name}: {error}"))
+}
+
+/// Puts names beside a tagged file that was written, or takes away those that stand there of one that it has replaced.
+pub fn write_beside(path: Option<&Path>, names: Option<&str>) -> Result<(), String> {
+    let (Some(path), Some(names)) = (path.filter(|path| path.is_file()), names) else { return Ok(()) };
+    let beside = beside_of(path);
+    if !names.is_empty() {
+        return write(Some(&beside), names.as_bytes());
+    }
+    if read_beside(&beside).is_some_and(|text| Names::is_beside(&text)) {
+        fs::remove_file(&beside).map_err(|error| format!("cannot remove {}: {error}", beside.display()))?;
+    }
+    Ok(())
 }

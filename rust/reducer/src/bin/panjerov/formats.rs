@@ -1,69 +1,205 @@
 //! Graphs from what was read, and the bytes that are given for them.
 
-use crate::faults;
-use crate::files::Input;
-use reducer::{Graph, Refusal};
+use std::path::Path;
 
+use crate::files::Input;
+use crate::graphviz::{self, Form};
+use crate::hints;
+use crate::locks;
+use crate::parts::{count, Part, Wanted};
+use crate::picture;
+use crate::words::Work;
+use crate::Given;
+use reducer::{aiger, verilog, Graph, Names, Read};
+
+/// What a graph is given as.
 #[derive(Clone, Copy, Debug, PartialEq, Eq)]
 pub enum Format {
     Tagged,
     Aiger,
+    BinaryAiger,
+    Verilog,
+    Dot,
+    Svg,
+    Png,
 }
 
 impl Format {
+    const ALL: [Format; 7] =
+        [Format::Tagged, Format::Aiger, Format::BinaryAiger, Format::Verilog, Format::Dot, Format::Svg, Format::Png];
+
+    /// How `--to` says it.
     pub fn name(self) -> &'static str {
         match self {
             Format::Tagged => "tagged",
             Format::Aiger => "aiger",
+            Format::BinaryAiger => "aig",
+            Format::Verilog => "verilog",
+            Format::Dot => "dot",
+            Format::Svg => "svg",
+            Format::Png => "png",
+        }
+    }
+
+    /// How the names of such files end.
+    fn ending(self) -> &'static str {
+        match self {
+            Format::Tagged => "mig",
+            Format::Aiger => "aag",
+            Format::BinaryAiger => "aig",
+            Format::Verilog => "v",
+            Format::Dot => "dot",
+            Format::Svg => "svg",
+            Format::Png => "png",
+        }
+    }
+
+    /// What it is, in words.
+    pub fn told(self) -> &'static str {
+        match self {
+            Format::Tagged => "a tagged file",
+            Format::Aiger | Format::BinaryAiger => "AIGER",
+            Format::Verilog => "Verilog",
+            Format::Dot | Format::Svg | Format::Png => "a picture",
+        }
+    }
+
+    /// That `--to` names.
+    pub fn named(word: &str) -> Option<Format> {
+        Format::ALL.into_iter().find(|format| format.name() == word || format.ending() == word)
+    }
+
+    /// That the ending of a file's name says.
+    pub fn of_ending(path: &Path) -> Option<Format> {
+        let ending = path.extension()?;
+        Format::ALL.into_iter().find(|format| ending.eq_ignore_ascii_case(format.ending()))
+    }
+
+    fn of_read(format: reducer::Format) -> Format {
+        match format {
+            reducer::Format::Aiger => Format::Aiger,
+            reducer::Format::BinaryAiger => Format::BinaryAiger,
+            _ => Format::Tagged,
+        }
+    }
+
+    /// What Graphviz makes of it, if it is to.
+    pub fn form(self) -> Option<Form> {
+        match self {
+            Format::Svg => Some(Form::Svg),
+            Format::Png => Some(Form::Png),
+            _ => None,
         }
     }
 }
 
-fn binary(name: &str) -> String {
-    format!(
-        "{name} is AIGER in the binary format, and only ASCII is read. Either makes ASCII of it:\n    \
-         aigtoaig OLD.aig NEW.aag\n    \
-         yosys -p 'read_aiger OLD.aig; write_aiger -ascii -symbols NEW.aag'\n\
-         yosys may put inputs and outputs that have names in another order; the symbols in the new file tell it."
-    )
+/// A graph that was read.
+pub struct Loaded {
+    pub graph: Graph,
+    pub format: Format,
+    pub names: Names,
+    /// What was put right or left out, a line each.
+    pub lines: Vec<String>,
 }
 
-/// What refuses a tagged file, and what the file looks like.
-fn refused_file(input: &Input, refusal: Refusal) -> String {
-    let looks = match (input.bytes.first(), refusal) {
-        (None, _) => "; it is empty".into(),
-        (Some(1), Refusal::BadLock) => faults::bad_lock(&input.bytes).map_or(String::new(), |why| format!("; {why}")),
-        (Some(1), _) => String::new(),
-        (Some(_), _) => "; neither a tagged file nor AIGER text begins so".into(),
+/// The graph of a file, with the names in it or beside it.
+pub fn graph_of(input: &Input) -> Result<Loaded, String> {
+    let Read { graph, format, mut names, mut told, .. } =
+        reducer::read(&input.bytes).map_err(|refused| hints::refused(input, &refused))?;
+    let mut name = input.name.clone();
+    if let Some(beside) = input.beside.as_ref().filter(|_| format == reducer::Format::Tagged) {
+        (names, told) = Names::of_beside(beside, &input.bytes, graph.size);
+        name += ".names";
+    }
+    let lines = told.into_iter().map(|line| format!("{name}: {line}")).collect();
+    Ok(Loaded { graph, format: Format::of_read(format), names, lines })
+}
+
+/// What is said where a graph becomes AIGER: what the text has, and what the graph has.
+fn grown(graph: &Graph, text: &[u8]) -> Result<Option<String>, String> {
+    let nodes = graph.size.nodes;
+    let complemented = graph.complemented_edges().map_err(|refusal| refusal.to_string())?;
+    let (ands, edges) = aiger::counts(text).map_err(|place| place.to_string())?;
+    let told = |many: usize, what: &str, edges: usize| {
+        format!("{} and {}", count(many, what), count(edges, "complemented edge"))
     };
-    format!("{}: {refusal}{looks}", input.name)
+    let (text, own) = (told(ands, "AND", edges), told(nodes as usize, "node", complemented as usize));
+    Ok((nodes != 0).then(|| format!("as AIGER it has {text}; the graph has {own}")))
 }
 
-/// What refuses a text, and the line, where the reader beside finds the same number.
-fn refused_text(input: &Input, refusal: Refusal) -> String {
-    match faults::first(&input.bytes) {
-        Some(fault) if fault.number == refusal.number() => format!("{}, {fault}: {refusal}{}", input.name, fault.hint),
-        _ => format!("{}: {refusal}", input.name),
+/// The graph as AIGER with its names, and lines for what that says otherwise or cannot hold.
+fn as_aiger(graph: &Graph, names: &Names, binary: bool) -> Result<(Vec<u8>, Vec<String>), String> {
+    let text = graph.export().map_err(|refusal| refusal.to_string())?;
+    let lines = grown(graph, &text)?.into_iter().chain(locks::lost(graph)).collect();
+    let mut bytes = if binary { aiger::binary(&text).map_err(|place| place.to_string())? } else { text };
+    bytes.extend(names.symbols().into_bytes());
+    Ok((bytes, lines))
+}
+
+/// A picture of the whole graph.
+fn drawn(graph: &Graph, names: &Names, title: &str, form: Option<Form>) -> Result<Vec<u8>, String> {
+    let part = Part::of(graph, Wanted::Whole)?;
+    let text = picture::of((graph, names), &part, title)?;
+    match form {
+        Some(form) => graphviz::picture(text, form).map_err(|failure| failure.to_string()),
+        None => Ok(text.into_bytes()),
     }
 }
 
-/// The graph, and the format that it was in.
-pub fn graph_of(input: &Input) -> Result<(Graph, Format), String> {
-    if input.bytes.starts_with(b"aig ") {
-        return Err(binary(&input.name));
-    }
-    if input.bytes.starts_with(b"aag") {
-        let graph = Graph::import(&input.bytes).map_err(|refusal| refused_text(input, refusal))?;
-        return Ok((graph, Format::Aiger));
-    }
-    let graph = Graph::load(&input.bytes).map_err(|refusal| refused_file(input, refusal))?;
-    Ok((graph, Format::Tagged))
+/// The last name of a path without its ending.
+fn stem(path: Option<&Path>) -> String {
+    path.and_then(Path::file_stem).map_or("graph".into(), |stem| stem.to_string_lossy().into_owned())
 }
 
-pub fn bytes_of(graph: &Graph, format: Format) -> Result<Vec<u8>, String> {
-    let bytes = match format {
-        Format::Tagged => graph.write(),
-        Format::Aiger => graph.export(),
-    };
-    bytes.map_err(|refusal| refusal.to_string())
+/// The bytes of a graph in a format, for a file of this name, with lines for what the format says otherwise or cannot hold.
+pub fn bytes_of(
+    graph: &Graph,
+    names: &Names,
+    format: Format,
+    path: Option<&Path>,
+) -> Result<(Vec<u8>, Vec<String>), String> {
+    match format {
+        Format::Tagged => Ok((graph.write().map_err(|refusal| refusal.to_string())?, vec![])),
+        Format::Aiger => as_aiger(graph, names, false),
+        Format::BinaryAiger => as_aiger(graph, names, true),
+        Format::Verilog => {
+            let made = verilog::of(graph, names, &stem(path)).map_err(|refusal| refusal.to_string())?;
+            let (text, lost) = made;
+            Ok((text.into_bytes(), lost.into_iter().chain(locks::lost_in(graph, "Verilog")).collect()))
+        }
+        Format::Dot | Format::Svg | Format::Png => Ok((drawn(graph, names, &stem(path), format.form())?, vec![])),
+    }
+}
+
+/// The format that is asked for: by name, by the ending of the file that is written, or this one otherwise.
+pub fn wanted(asked: &Work, otherwise: Format) -> Format {
+    asked.to.or_else(|| asked.output.as_deref().and_then(Format::of_ending)).unwrap_or(otherwise)
+}
+
+/// What stands beside a tagged file; it is empty where there are no names.
+pub fn beside(names: &Names, format: Format, bytes: &[u8]) -> Option<String> {
+    (format == Format::Tagged).then(|| match names.is_empty() {
+        true => String::new(),
+        false => names.beside(bytes),
+    })
+}
+
+/// The graph in the format that is asked for, after lines that are said in any case.
+pub fn formed(
+    asked: &Work,
+    graph: &Graph,
+    names: &Names,
+    otherwise: Format,
+    mut lines: Vec<String>,
+) -> Result<Given, String> {
+    let format = wanted(asked, otherwise);
+    let none = Names::none(graph.size.inputs, graph.size.outputs);
+    let names = if asked.no_symbols { &none } else { names };
+    let (bytes, said) = bytes_of(graph, names, format, asked.output.as_deref())?;
+    lines.extend(said);
+    let beside = beside(names, format, &bytes);
+    if asked.output.is_none() && beside.as_ref().is_some_and(|text| !text.is_empty()) {
+        lines.push("names are lost: a tagged file has them in a file beside it, which -o FILE makes".into());
+    }
+    Ok(Given { beside, ..Given::of(bytes, lines) })
 }

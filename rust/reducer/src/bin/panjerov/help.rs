@@ -11,7 +11,7 @@ Reduces inversions in majority and XOR graphs. The commands:
     find       finds the majorities that and-inverter tools have hidden in ANDs
     resistive  turns edges so that most majorities have one complemented input
     import     gives the graph as a tagged file
-    export     gives the graph as ASCII AIGER text
+    export     gives the graph as AIGER, or in another form
     lock       locks nodes that are laid out already: then they do not turn
     unlock     frees locked nodes
     show       tells sizes, kinds, complemented edges, depth and locked nodes
@@ -29,12 +29,11 @@ Reduces inversions in majority and XOR graphs. The commands:
 ";
 
 const SETTLE: &str = "\
-usage: panjerov settle [FILE] [-o FILE] [--to tagged|aiger] [--find]
+usage: panjerov settle [FILE] [-o FILE] [--to FORM] [--find]
 
 Turns edges until no move at a node, on a pair or on a tree lowers the number of
-complemented edges. Wiring and function stay the same. The settled graph is
-given in the format that FILE has, or in the one that --to names. A line with
-the figures goes to standard error:
+complemented edges. Wiring and function stay the same. A line with the figures
+goes to standard error:
 
     inputs 3 nodes 1 outputs 1 before 4 after 0 rounds 2 own 3 others 1
 
@@ -53,13 +52,12 @@ With --find hidden majorities are found first, as `panjerov find` does it, and
 its two lines come before that of the figures. That is the usual way from AIGER
 text: import, find, settle.
 
-AIGER has ANDs alone: as text, each majority is four ANDs and each XOR three.
 Between two settlings keep the tagged file, which has one node for each AND that
 was imported.
 ";
 
 const FIND: &str = "\
-usage: panjerov find [FILE] [-o FILE] [--to tagged|aiger]
+usage: panjerov find [FILE] [-o FILE] [--to FORM]
 
 Finds majorities that lie hidden in ANDs, as AIGER text has them. Each free node
 by rising index is tried as a majority of three inputs or nodes that at most
@@ -78,17 +76,14 @@ complemented edges:
 Locked nodes stay as they are, and so does all that they read; their indices may
 be lower. The second line ends in their number where there are any (locked 2).
 
-What is given is a tagged file, also where FILE is AIGER text; with --to aiger
-each majority is four ANDs again.
-
 Most graphs take a fraction of a second, at 100,000 nodes too. There are some on
 which it takes time that grows with the square of their nodes; as long as it
 works, it can be interrupted, and no file has changed.
 ";
 
 const RESISTIVE: &str = "\
-usage: panjerov resistive FILE ROOT [-o FILE] [--to tagged|aiger]
-       panjerov resistive [FILE] --all [-o FILE] [--to tagged|aiger]
+usage: panjerov resistive FILE ROOT [-o FILE] [--to FORM]
+       panjerov resistive [FILE] --all [-o FILE] [--to FORM]
 
 Memories of resistive cells prefer majorities with just one complemented input.
 This makes those moves in the tree of ROOT, a node's index, after which most of
@@ -111,9 +106,6 @@ and may take single majorities away again: do that first.
 Locked nodes do not turn; the second line ends in their number where there are
 any (locked 2). A ROOT that is none is refused.
 
-The graph is given in the format that FILE has, or in the one that --to names.
-As AIGER text each majority is four ANDs and each XOR three.
-
 Each tree of more than one node takes a time that grows with the whole graph:
 --all took 15 seconds on a random graph of 100,000 nodes, and takes longer where
 more of its trees are such. It says each second at which tree it is. As long as
@@ -121,21 +113,23 @@ it works, no file has changed.
 ";
 
 const IMPORT: &str = "\
-usage: panjerov import [FILE] [-o FILE]
+usage: panjerov import [FILE] [-o FILE] [--no-symbols]
 
-Gives the graph as a tagged file. Each AND of AIGER text becomes a majority with
-the constant false as its first word, and every node is free. The text must have
-no latches, inputs from literal 2 on and gates after them, both rising by 2;
-what follows the last gate, symbols and comments, is not read. A tagged file is
-given back as it is once it has been checked.
+Gives the graph as a tagged file. Each AND of AIGER becomes a majority with the
+constant false as its first word, and every node is free. AIGER is read as tools
+write it, binary or ASCII; carriage returns, a missing last newline, headers of
+AIGER 1.9 whose further counts are 0 and numbers with gaps or in another order
+are put right, and a line on standard error tells each. Latches are refused
+(11). A tagged file is given back as it is once it has been checked.
 ";
 
 const EXPORT: &str = "\
-usage: panjerov export [FILE] [-o FILE]
+usage: panjerov export [FILE] [-o FILE] [--to FORM] [--no-symbols]
 
-Gives the graph as ASCII AIGER text, each majority as four ANDs and each XOR as
-three, without symbols or comments. Locks are lost, which a line on standard
-error says.
+Gives the graph as ASCII AIGER text unless the ending of the file's name or --to
+says another form: each majority is four ANDs and each XOR three, and names of
+inputs and outputs stand after the last gate. Locks are lost, which a line on
+standard error says.
 ";
 
 const LOCK: &str = "\
@@ -225,7 +219,7 @@ Without ROOT all roots are told, with the sizes of their trees:
 ";
 
 const APPLY: &str = "\
-usage: panjerov apply FILE MOVES [-o FILE] [--to tagged|aiger]
+usage: panjerov apply FILE MOVES [-o FILE] [--to FORM]
 
 Makes the moves that MOVES lists, all of them or none. MOVES is a file, or - for
 standard input, with a line for each node: its index and its move. Indices rise
@@ -254,9 +248,7 @@ other than 0 at a locked node (16) are told with the line's number, and then
 nothing is written. The line of figures ends in the number of locked nodes where
 there are any (locked 2).
 
-The graph is given in the format that FILE has, or in the one that --to names.
-AIGER has ANDs alone: as text, each majority is four ANDs and each XOR three, so
-that nodes have other indices. Keep the tagged file for further moves.
+Keep the tagged file for further moves: in AIGER nodes have other indices.
 ";
 
 const SHEETS: &str = "\
@@ -327,9 +319,9 @@ commas or spaces, all other outputs being either:
     panjerov assign graph 01x
     panjerov assign graph 1=0,2=1
 
-Names that AIGER text has for its outputs are not kept, so that outputs go by
-their numbers. What is told is the assignment's number, whose lowest bit is
-input 1, and all inputs and outputs under it:
+An output that has a name goes by it too: panjerov assign graph 'sum[2]=1'. What
+is told is the assignment's number, whose lowest bit is input 1, and all inputs
+and outputs under it:
 
     assignment 3
     inputs 1=1 2=1 3=0
@@ -349,7 +341,7 @@ for whatever else: what is refused, or cannot be read, written or understood.
 ";
 
 const JOIN: &str = "\
-usage: panjerov join FIRST SECOND [MORE...] [-o FILE] [--to tagged|aiger]
+usage: panjerov join FIRST SECOND [MORE...] [-o FILE] [--to FORM]
 
 Joins graphs that are stages of one circuit: output 1 of FIRST drives input 1 of
 SECOND, output 2 input 2 and so on, and what comes of it is joined with the next
@@ -366,8 +358,7 @@ A stage with another number of inputs than the one before has outputs is refused
 (19), and so are more than 100,000 nodes together (3). Indices of the second and
 later stages are other ones than before; locks go with their nodes.
 
-What is given is a tagged file, also where all are AIGER text, whose names of
-inputs and outputs are not kept; with --to aiger each majority is four ANDs.
+Inputs keep the names that they have in the first, outputs those of the last.
 ";
 
 const PICTURE: &str = "\
@@ -383,16 +374,17 @@ has a dot at its end. The constant, a 0 in a circle, is drawn at each reader. A
 locked node says so beside its index and has a thick border.
 
 Without an option it gives DOT text, which Graphviz and other programs read.
-With --svg or --png Graphviz makes the picture, by its program dot; where that
-is not installed or takes more than 4 seconds, nothing is given. A PNG has at
-most 4,800 points a side; SVG stays sharp at every size.
+With --svg or --png, or where the name after -o ends so, Graphviz makes the
+picture, by its program dot; where that is not installed or takes more than 4
+seconds, nothing is given. A PNG has at most 4,800 points a side; SVG stays
+sharp at every size.
 
 With --compare two graphs of the same wiring, as a graph and what settling made
 of it, are drawn side by side, and the edges that turned are thick and orange in
 both. One of the two may be -. Other wiring is refused. AIGER text has other
-nodes once it has been settled: compare it with what `panjerov settle --to
-tagged` gives. Lines on standard error say where the locks of the two differ,
-and which nodes turned though they are locked in BEFORE.
+nodes once it has been settled: compare tagged files. Lines on standard error
+say where the locks of the two differ, and which nodes turned though they are
+locked in BEFORE.
 
 A whole graph is drawn up to 300 nodes, and 600 inputs, nodes and outputs
 together; a larger one is refused. A part of a graph of any size is drawn by one
@@ -453,21 +445,35 @@ without hidden ones. A file is called by the end of its path that no other has.
     --html   a page with two bars a file, for before and after
 
 With -o each settled graph is written to the folder DIR, under the name that it
-has in the sheet and in the format that its file has. With --html the page is
-DIR/index.html then, and links to a report of each file (as `panjerov report`
-gives it), NAME.html; the sheet is given as text. No file that was handed in is
-replaced. Without -o nothing is written but the sheet.
+has in the sheet and in the form that its ending says, else tagged. With --html
+the page is DIR/index.html then, and links to a report of each file (as
+`panjerov report` gives it), NAME.html; the sheet is given as text. No file that
+was handed in is replaced. Without -o nothing is written but the sheet.
 
 A file that cannot be read or is refused has its reason in its line, counts in
 no sum, and the others go on; the exit status is then 1.
 ";
 
+const FORMS: &str = "
+The form of what is given follows the ending of the name after -o, or FORM, and
+is tagged otherwise:
+
+    .mig tagged    .aag aiger    .aig aig (binary AIGER)    .v verilog
+    .dot dot       .svg svg      .png png
+
+AIGER has ANDs alone, four for each majority and three for each XOR; a line on
+standard error says what it has, and what the graph has. Names of inputs and
+outputs stand after the last gate there, and beside a tagged file X in X.names;
+with --no-symbols they are left out. A name that fits nothing is told and left
+out.
+";
+
 const FILES: &str = "
-FILE is a tagged file or ASCII AIGER text, which is seen from its first bytes;
-without FILE, or where it is -, standard input is read. What is given goes to
-standard output, or with -o to a file, which is replaced only once all of it is
-there, and may be FILE itself. Work of more than a second says so on standard
-error.
+FILE is a tagged file or AIGER, binary or ASCII, which is seen from its first
+bytes; without FILE, or where it is -, standard input is read. What is given
+goes to standard output, or with -o to a file, which is replaced only once all
+of it is there, and may be FILE itself. Work of more than a second says so on
+standard error.
 ";
 
 const STATUS: &str = "
@@ -502,5 +508,6 @@ pub fn of(command: Command) -> String {
     };
     // What answers by its exit status tells of that itself.
     let status = if command.failed() == 1 { STATUS } else { "" };
-    format!("{own}{FILES}{status}")
+    let forms = if command.takes_format() { FORMS } else { "" };
+    format!("{own}{forms}{FILES}{status}")
 }

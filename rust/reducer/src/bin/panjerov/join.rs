@@ -3,7 +3,7 @@
 use std::path::PathBuf;
 
 use crate::files::{self, Input};
-use crate::formats;
+use crate::formats::{self, Loaded};
 use crate::parts::count;
 use reducer::{Graph, Refusal, MOST_NODES};
 
@@ -26,13 +26,17 @@ fn refused(names: [&str; 2], graphs: [&Graph; 2], refusal: Refusal) -> String {
     format!("{refusal}{why}")
 }
 
-/// A graph joined with those of further files, each with what the ones before have given.
-pub fn chain(first: &Input, graph: Graph, more: &[Option<PathBuf>]) -> Result<Graph, String> {
+/// A graph joined with those of further files, each with what the ones before have given: inputs have the names of the first, outputs
+/// those of the last.
+pub fn chain(first: &Input, graph: Loaded, more: &[Option<PathBuf>]) -> Result<Loaded, String> {
     let (mut joined, mut last) = (graph, first.name.clone());
     for path in more {
         let next = files::read(path.as_deref())?;
-        let (stage, _) = formats::graph_of(&next)?;
-        joined = joined.join(&stage).map_err(|refusal| refused([&last, &next.name], [&joined, &stage], refusal))?;
+        let stage = formats::graph_of(&next)?;
+        let graphs = [&joined.graph, &stage.graph];
+        let graph = graphs[0].join(graphs[1]).map_err(|refusal| refused([&last, &next.name], graphs, refusal))?;
+        let lines = [joined.lines, stage.lines].concat();
+        joined = Loaded { graph, names: joined.names.joined(stage.names), lines, ..joined };
         last = next.name;
     }
     Ok(joined)

@@ -108,10 +108,15 @@ pub fn words(graph: &Graph) -> String {
 
 /// What is said where a graph with locks is given as AIGER text.
 pub fn lost(graph: &Graph) -> Option<String> {
+    lost_in(graph, "AIGER text")
+}
+
+/// What is said where a graph with locks is given in a form that has none.
+pub fn lost_in(graph: &Graph, form: &str) -> Option<String> {
     let locked = graph.locked() as usize;
     let nodes = count(locked, "node");
     (locked != 0)
-        .then(|| format!("AIGER text cannot hold locks: those of {nodes} are lost, and a tagged file would keep them"))
+        .then(|| format!("{form} cannot hold locks: those of {nodes} are lost, and a tagged file would keep them"))
 }
 
 /// Where the locks of two graphs of the same wiring differ, these being their names.

@@ -9,12 +9,12 @@ mod class_page;
 mod class_sheet;
 mod compared;
 mod drawing;
-mod faults;
 mod files;
 mod formats;
 mod found;
 mod graphviz;
 mod help;
+mod hints;
 mod join;
 mod locks;
 mod nodes;
@@ -34,9 +34,9 @@ use std::io::{self, Write};
 use std::process::ExitCode;
 
 use files::Input;
-use formats::Format;
+use formats::{formed, Format, Loaded};
 use progress::Progress;
-use reducer::{Graph, Settled, Size};
+use reducer::{Graph, Names, Settled, Size};
 use words::{Asked, Command, Work};
 
 /// A line on standard error. Where that cannot be written to, nobody reads it.
@@ -61,25 +61,19 @@ struct Given {
     bytes: Vec<u8>,
     lines: Vec<String>,
     status: u8,
+    /// What is given is a tagged file: what stands in the file of names beside it, which is empty where there are none.
+    beside: Option<String>,
 }
 
 impl Given {
     fn of(bytes: Vec<u8>, lines: Vec<String>) -> Given {
-        Given { bytes, lines, status: 0 }
+        Given { bytes, lines, status: 0, beside: None }
     }
 
     /// The answer of a comparison that is not the same.
     fn different(line: String) -> Given {
-        Given { bytes: format!("{line}\n").into_bytes(), lines: vec![], status: 1 }
+        Given { status: 1, ..Given::of(format!("{line}\n").into_bytes(), vec![]) }
     }
-}
-
-/// The graph in a format, with a line that says so where its locks are lost by it.
-fn formed(graph: &Graph, format: Format, mut lines: Vec<String>) -> Result<Given, String> {
-    if format == Format::Aiger {
-        lines.extend(locks::lost(graph));
-    }
-    Ok(Given::of(formats::bytes_of(graph, format)?, lines))
 }
 
 /// A reason with the file that it is about.
@@ -87,60 +81,72 @@ fn of_file(input: &Input) -> impl Fn(String) -> String + '_ {
     move |why| format!("{}: {why}", input.name)
 }
 
-fn settled(asked: &Work, mut graph: Graph, got: Format) -> Result<Given, String> {
+fn settled(asked: &Work, mut graph: Graph, names: &Names) -> Result<Given, String> {
     let mut lines = if asked.find { found::find(&mut graph)? } else { vec![] };
     let settled = graph.settle().map_err(|refusal| refusal.to_string())?;
     lines.push(figures_of(&graph, settled));
-    formed(&graph, asked.to.unwrap_or(got), lines)
+    formed(asked, &graph, names, Format::Tagged, lines)
 }
 
-fn applied(asked: &Work, mut graph: Graph, got: Format) -> Result<Given, String> {
+fn applied(asked: &Work, mut graph: Graph, names: &Names) -> Result<Given, String> {
     let moves = files::read_moves(asked.moves.as_deref())?;
     let made = apply::make(&mut graph, &moves)?;
     let line = format!("{} {made}{}", sizes_of(&graph), locks::words(&graph));
-    formed(&graph, asked.to.unwrap_or(got), vec![line])
+    formed(asked, &graph, names, Format::Tagged, vec![line])
 }
 
 /// With nodes locked or freed.
-fn relocked(asked: &Work, mut graph: Graph) -> Result<Given, String> {
+fn relocked(asked: &Work, mut graph: Graph, names: &Names) -> Result<Given, String> {
     locks::set(&mut graph, &asked.nodes, asked.command == Command::Lock)?;
     let locked = locks::told(&locks::of(&graph));
-    formed(&graph, Format::Tagged, vec![format!("{} locked {locked}", sizes_of(&graph))])
+    formed(asked, &graph, names, Format::Tagged, vec![format!("{} locked {locked}", sizes_of(&graph))])
 }
 
-fn joined(asked: &Work, input: &Input, graph: Graph) -> Result<Given, String> {
-    let joined = join::chain(input, graph, &asked.files)?;
+fn joined(asked: &Work, input: &Input, first: Loaded) -> Result<Given, String> {
+    let Loaded { graph: joined, names, mut lines, .. } = join::chain(input, first, &asked.files)?;
     let complemented = joined.complemented_edges().map_err(|refusal| refusal.to_string())?;
     let line = format!("{} complemented {complemented}{}", sizes_of(&joined), locks::words(&joined));
-    formed(&joined, asked.to.unwrap_or(Format::Tagged), vec![line])
+    lines.push(line);
+    formed(asked, &joined, &names, Format::Tagged, lines)
 }
 
+/// What is asked for of a graph that was read, after the lines of its reading.
 fn given(asked: &Work, input: &Input, working: &Progress) -> Result<Given, String> {
-    let (mut graph, got) = formats::graph_of(input)?;
+    let mut loaded = formats::graph_of(input)?;
+    let mut lines = std::mem::take(&mut loaded.lines);
+    let mut given = given_of(asked, input, loaded, working)?;
+    lines.append(&mut given.lines);
+    Ok(Given { lines, ..given })
+}
+
+fn given_of(asked: &Work, input: &Input, loaded: Loaded, working: &Progress) -> Result<Given, String> {
+    if asked.command == Command::Join {
+        return joined(asked, input, loaded);
+    }
+    let Loaded { mut graph, format: got, names, .. } = loaded;
     match asked.command {
-        Command::Settle => settled(asked, graph, got),
+        Command::Settle => settled(asked, graph, &names),
         Command::Find => {
             let lines = found::find(&mut graph)?;
-            formed(&graph, asked.to.unwrap_or(Format::Tagged), lines)
+            formed(asked, &graph, &names, Format::Tagged, lines)
         }
         Command::Resistive => {
             let lines = resistive::choose(&mut graph, asked.root, working).map_err(of_file(input))?;
-            formed(&graph, asked.to.unwrap_or(got), lines)
+            formed(asked, &graph, &names, Format::Tagged, lines)
         }
-        Command::Apply => applied(asked, graph, got),
-        Command::Import => formed(&graph, Format::Tagged, vec![]),
-        Command::Export => formed(&graph, Format::Aiger, vec![]),
-        Command::Lock | Command::Unlock => relocked(asked, graph).map_err(of_file(input)),
-        Command::Show => Ok(Given::of(show::text_of(&graph, got)?.into_bytes(), vec![])),
-        Command::Preview => preview::of(&graph, asked.root, asked.only_moves).map_err(of_file(input)),
+        Command::Apply => applied(asked, graph, &names),
+        Command::Import => formed(asked, &graph, &names, Format::Tagged, vec![]),
+        Command::Export => formed(asked, &graph, &names, Format::Aiger, vec![]),
+        Command::Lock | Command::Unlock => relocked(asked, graph, &names).map_err(of_file(input)),
+        Command::Show => Ok(Given::of(show::text_of(&graph, &names, got)?.into_bytes(), vec![])),
+        Command::Preview => preview::of((&graph, &names), asked.root, asked.only_moves).map_err(of_file(input)),
         Command::Sheets => compared::sheets(asked, &graph),
         Command::Compare => compared::compare(asked, input, &graph),
-        Command::Join => joined(asked, input, graph),
-        Command::Assign => assign::of(&graph, &asked.pattern, asked.all, working).map_err(of_file(input)),
-        Command::Picture if asked.compare => drawing::compare(asked, input, (graph, got)),
-        Command::Picture => drawing::draw(asked, input, &graph),
-        Command::Report => report::of(input, &graph, asked.wanted),
-        Command::Class => unreachable!("a class has many files"),
+        Command::Assign => assign::of((&graph, &names), &asked.pattern, asked.all, working).map_err(of_file(input)),
+        Command::Picture if asked.compare => drawing::compare(asked, input, (&graph, &names), got),
+        Command::Picture => drawing::draw(asked, input, (&graph, &names)),
+        Command::Report => report::of(input, (&graph, &names), asked.wanted),
+        Command::Join | Command::Class => unreachable!("these have many files"),
     }
 }
 
@@ -151,8 +157,9 @@ fn work(asked: &Work) -> Result<u8, String> {
     }
     let input = files::read(asked.input.as_deref())?;
     let working = Progress::of(format!("{} {}", asked.command.doing(), input.name));
-    let Given { bytes, lines, status } = given(asked, &input, &working)?;
+    let Given { bytes, lines, status, beside } = given(asked, &input, &working)?;
     files::write(asked.output.as_deref(), &bytes)?;
+    files::write_beside(asked.output.as_deref(), beside.as_deref())?;
     drop(working);
     lines.iter().for_each(|line| say(line));
     Ok(status)

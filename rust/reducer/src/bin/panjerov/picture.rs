@@ -3,7 +3,7 @@
 use crate::locks::is_locked;
 use crate::nodes::{is_xor, output_of, words_of};
 use crate::parts::{count, Part};
-use reducer::Graph;
+use reducer::{Graph, Names};
 
 /// How everything looks unless a line says otherwise. A majority is a box with corners, an XOR one without; each has its words
 /// in a row below, and each word's edge ends there. The colours differ in lightness too. `nslimit` keeps large pictures quick.
@@ -30,9 +30,22 @@ fn quoted(text: &str) -> String {
     plain.replace('&', "&amp;").replace('\\', "\\\\").replace('"', "\\\"")
 }
 
+/// A graph with the names of its inputs and outputs.
+pub type Named<'a> = (&'a Graph, &'a Names);
+
+/// A name after what it is the name of, in a label with or without cells.
+fn after(what: String, name: Option<&str>) -> String {
+    let Some(name) = name else { return what };
+    // Signs that part cells; the entities are those of HTML.
+    let cells = [('{', "&#123;"), ('}', "&#125;"), ('|', "&#124;"), ('<', "&lt;"), ('>', "&gt;")];
+    let shown = cells.into_iter().fold(quoted(name), |text, (sign, entity)| text.replace(sign, entity));
+    format!("{what} {shown}")
+}
+
 /// A graph as it is drawn.
 struct Side<'a> {
     graph: &'a Graph,
+    names: &'a Names,
     /// The graph of the same wiring that it is compared with.
     other: Option<&'a Graph>,
     part: &'a Part,
@@ -134,13 +147,17 @@ impl Side<'_> {
 
     fn output_line(&self, output: u32) -> String {
         let Edges { reader, words, .. } = self.output_edges(output);
-        format!("{reader} [label=\"{{output {output}|<w1> {}}}\", shape=record];", words[0])
+        let called = after(format!("output {output}"), self.names.output(output));
+        format!("{reader} [label=\"{{{called}|<w1> {}}}\", shape=record];", words[0])
     }
 
     /// From the inputs up.
     fn lines(&self) -> Vec<String> {
         let Part { inputs, nodes, beyond, outputs, .. } = self.part;
-        let input = |at: &u32| format!("{}i{at} [label=\"input {at}\"];", self.prefix);
+        let input = |&at: &u32| {
+            let called = after(format!("input {at}"), self.names.input(at));
+            format!("{}i{at} [label=\"{called}\"];", self.prefix)
+        };
         let mut lines = self.row("source", inputs.iter().map(input).collect());
         let dashed = |&at: &u32| {
             let (prefix, kind, border) = (self.prefix, self.kind(at), self.border(at));
@@ -225,17 +242,17 @@ fn alone(side: &Side, title: &str) -> Result<String, String> {
 }
 
 /// The picture of a part of a graph, under a title.
-pub fn of(graph: &Graph, part: &Part, title: &str) -> Result<String, String> {
+pub fn of((graph, names): Named, part: &Part, title: &str) -> Result<String, String> {
     let rows = crossed(graph, part) <= MOST_CROSSED;
-    alone(&Side { graph, other: None, part, prefix: "", rows }, title)
+    alone(&Side { graph, names, other: None, part, prefix: "", rows }, title)
 }
 
 /// The pictures of a part of two graphs of the same wiring, before and after, each by itself.
-pub fn both(graphs: [&Graph; 2], part: &Part) -> Result<[String; 2], String> {
+pub fn both(graphs: [&Graph; 2], names: &Names, part: &Part) -> Result<[String; 2], String> {
     let [before, after] = graphs;
     let rows = crossed(before, part) <= MOST_CROSSED;
-    let first = Side { graph: before, other: Some(after), part, prefix: "before_", rows };
-    let second = Side { graph: after, other: Some(before), part, prefix: "after_", rows };
+    let first = Side { graph: before, names, other: Some(after), part, prefix: "before_", rows };
+    let second = Side { graph: after, names, other: Some(before), part, prefix: "after_", rows };
     Ok([alone(&first, "before")?, alone(&second, "after")?])
 }
 
@@ -249,11 +266,11 @@ fn framed(side: &Side, title: &str) -> Result<Vec<String>, String> {
 }
 
 /// The picture of a part of two graphs of the same wiring, before and after, each under its title.
-pub fn compared(graphs: [&Graph; 2], part: &Part, titles: &[String; 2]) -> Result<String, String> {
-    let [before, after] = graphs;
+pub fn compared(graphs: [Named; 2], part: &Part, titles: &[String; 2]) -> Result<String, String> {
+    let [(before, names), (after, names_after)] = graphs;
     let rows = 2 * crossed(before, part) <= MOST_CROSSED;
-    let first = Side { graph: before, other: Some(after), part, prefix: "before_", rows };
-    let second = Side { graph: after, other: Some(before), part, prefix: "after_", rows };
+    let first = Side { graph: before, names, other: Some(after), part, prefix: "before_", rows };
+    let second = Side { graph: after, names: names_after, other: Some(before), part, prefix: "after_", rows };
     let turned = format!("label=\"{}, thick and orange\";", count(first.turned(), "turned edge"));
     // Each frame is laid out by itself, and so both alike; but what does not hang together would be torn apart.
     let packed = part.connected(before).then(|| "packmode=array_u2;".into());

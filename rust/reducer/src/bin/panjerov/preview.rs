@@ -1,6 +1,8 @@
 //! What `panjerov preview` tells.
 
 use crate::locks::listed;
+use crate::nodes::{output_of, words_of};
+use crate::picture::Named;
 use crate::trees::{Kinds, Trees};
 use crate::Given;
 use reducer::{Graph, Refusal, Saving};
@@ -48,7 +50,20 @@ fn only_numbers(trees: &Trees, moved: &[(u32, u8)], figures: String) -> Given {
     Given::of(text.into_bytes(), [figures].into_iter().chain(told).collect())
 }
 
-fn tree_of(graph: &Graph, root: u32, only_moves: bool) -> Result<Given, Refusal> {
+/// A line for each named input that a tree reads, and for each named output that reads its root.
+fn names_at(named: Named, moved: &[(u32, u8)], root: u32) -> String {
+    let (graph, names) = named;
+    let mut read: Vec<u32> = moved.iter().flat_map(|&(node, _)| words_of(graph, node)).map(|word| word / 2).collect();
+    read.sort_unstable();
+    read.dedup();
+    let inputs = read.into_iter().filter_map(|at| Some(format!("reads input {at} {}\n", names.input(at)?)));
+    let outputs = (1..=graph.size.outputs).filter(|&at| output_of(graph, at) / 2 == root);
+    let outputs = outputs.filter_map(|at| Some(format!("drives output {at} {}\n", names.output(at)?)));
+    inputs.chain(outputs).collect()
+}
+
+fn tree_of(named: Named, root: u32, only_moves: bool) -> Result<Given, Refusal> {
+    let graph = named.0;
     let told = graph.preview(root)?;
     let before = graph.complemented_edges()?;
     let (saving, Saving { own, others }) = (told.saving.total(), told.saving);
@@ -64,16 +79,17 @@ fn tree_of(graph: &Graph, root: u32, only_moves: bool) -> Result<Given, Refusal>
     Ok(match only_moves {
         true => only_numbers(&trees, &moved, figures),
         false => {
-            let text = format!("{figures}\ntree {}\n{}", kinds.told(), lines(&trees, &moved));
+            let names = names_at(named, &moved, root);
+            let text = format!("{figures}\ntree {}\n{}{names}", kinds.told(), lines(&trees, &moved));
             Given::of(text.into_bytes(), vec![])
         }
     })
 }
 
 /// The preview of a root's tree, or of none the roots.
-pub fn of(graph: &Graph, root: Option<u32>, only_moves: bool) -> Result<Given, String> {
+pub fn of(named: Named, root: Option<u32>, only_moves: bool) -> Result<Given, String> {
     match root {
-        Some(root) => tree_of(graph, root, only_moves).map_err(|refusal| refused(graph, root, refusal)),
-        None => Ok(Given::of(roots_of(graph).into_bytes(), vec![])),
+        Some(root) => tree_of(named, root, only_moves).map_err(|refusal| refused(named.0, root, refusal)),
+        None => Ok(Given::of(roots_of(named.0).into_bytes(), vec![])),
     }
 }

@@ -7,13 +7,13 @@ use crate::graphviz::{self, Form};
 use crate::locks;
 use crate::nodes::{is_xor, words_of};
 use crate::parts::{count, Part, Wanted};
-use crate::picture;
+use crate::picture::{self, Named};
 use crate::preview::turns;
 use crate::resistive::single;
-use crate::show::depth;
+use crate::show::{depth, names_of};
 use crate::turned;
 use crate::{figures_of, Given};
-use reducer::{Graph, Settled};
+use reducer::{Graph, Names, Settled};
 
 /// The cells of an inverter, a majority and an XOR.
 const CELLS: [u64; 3] = [13, 5, 12];
@@ -32,6 +32,7 @@ const ONE_MOVE: &str =
 struct Report<'a> {
     name: String,
     before: &'a Graph,
+    names: &'a Names,
     after: Graph,
     settled: Settled,
     /// By node: its move.
@@ -203,6 +204,20 @@ impl Report<'_> {
     }
 }
 
+/// The names of inputs and outputs, where there are any.
+fn names_section(report: &Report) -> String {
+    let row = |line: &str| {
+        let (kind, rest) = line.split_once(' ').unwrap_or_default();
+        let (number, name) = rest.split_once(' ').unwrap_or_default();
+        format!("<tr><td>{kind}<td>{number}<td class=\"text\">{}\n", escaped(name))
+    };
+    let rows: String = names_of(report.before, report.names).lines().map(row).collect();
+    match rows.is_empty() {
+        true => String::new(),
+        false => format!("<h2>Names</h2>\n<table class=\"turned\">\n{rows}</table>\n"),
+    }
+}
+
 /// An SVG of Graphviz as a part of a page: without its head, and with names that no other picture has.
 fn inlined(svg: &[u8], which: &str) -> String {
     let svg = String::from_utf8_lossy(svg).replace(" id=\"", &format!(" id=\"{which}_"));
@@ -211,7 +226,7 @@ fn inlined(svg: &[u8], which: &str) -> String {
 
 /// Both pictures, or why there are none.
 fn pictures(report: &Report, part: &Part) -> Result<String, String> {
-    let texts = picture::both([report.before, &report.after], part)?;
+    let texts = picture::both([report.before, &report.after], report.names, part)?;
     let made = thread::scope(|scope| {
         texts.map(|text| scope.spawn(|| graphviz::picture(text, Form::Svg))).map(|drawing| drawing.join())
     });
@@ -243,12 +258,13 @@ fn page(report: &Report, pictures: &str) -> String {
     let head =
         format!("<meta charset=\"utf-8\">\n<title>{name}: complemented edges</title>\n<style>\n{STYLE}</style>\n");
     let top = format!("<h1>{name}</h1>\n<p class=\"summary\">{}</p>\n", report.summary());
-    let parts = [top, report.figures(), pictures.into(), report.turned_section(), report.locked_section()].concat();
+    let sections = [report.turned_section(), report.locked_section(), names_section(report)].concat();
+    let parts = [top, report.figures(), pictures.into(), sections].concat();
     format!("<!DOCTYPE html>\n<html lang=\"en\">\n<head>\n{head}</head>\n<body>\n{parts}</body>\n</html>\n")
 }
 
 /// Settles a graph and reports on it. A whole graph that is too large to draw has a page without pictures.
-pub fn of(input: &Input, graph: &Graph, wanted: Wanted) -> Result<Given, String> {
+pub fn of(input: &Input, (graph, names): Named, wanted: Wanted) -> Result<Given, String> {
     let part = Part::of(graph, wanted);
     if let (Err(why), true) = (&part, wanted != Wanted::Whole) {
         return Err(format!("{}: {why}", input.name));
@@ -258,7 +274,7 @@ pub fn of(input: &Input, graph: &Graph, wanted: Wanted) -> Result<Given, String>
     let moves =
         turned::moves(graph, &after).map_err(|apart| format!("no moves lead to the settled graph: {apart:?}"))?;
     let drawn = part.as_ref().ok().and_then(|part| part.line());
-    let report = Report { name: input.title(), before: graph, after, settled, moves };
+    let report = Report { name: input.title(), before: graph, names, after, settled, moves };
     let (section, none) = picture_section(&report, part);
     let lines = [Some(figures_of(graph, settled)), none.or(drawn)].into_iter().flatten().collect();
     Ok(Given::of(page(&report, &section).into_bytes(), lines))

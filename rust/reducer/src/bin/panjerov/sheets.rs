@@ -34,7 +34,7 @@ pub fn list_of(graph: &Graph, moves: &[u8]) -> String {
 pub fn short(graph: &Graph, sheet: &Input) -> Result<(String, String), String> {
     let (entries, moves) = read(graph, sheet)?;
     let text = list_of(graph, &moves);
-    let short = Input { name: sheet.name.clone(), bytes: text.clone().into_bytes() };
+    let short = Input { name: sheet.name.clone(), bytes: text.clone().into_bytes(), ..Input::default() };
     let made = apply::make(&mut graph.clone(), &short)?;
     Ok((text, format!("lines {} {made}", entries.len())))
 }
@@ -69,7 +69,7 @@ mod tests {
     use reducer::MARK;
 
     fn sheet(name: &str, lines: &str) -> Input {
-        Input { name: name.into(), bytes: lines.into() }
+        Input { name: name.into(), bytes: lines.into(), ..Input::default() }
     }
 
     /// Node 3 is a majority, nodes 4 and 5 are XORs.

@@ -4,7 +4,7 @@ use crate::formats::Format;
 use crate::locks;
 use crate::nodes::{is_xor, output_of, words_of};
 use crate::resistive::single;
-use reducer::{Graph, Size};
+use reducer::{Graph, Names, Size};
 
 /// The most nodes on a way from an output down, of a graph that the library has admitted.
 pub fn depth(graph: &Graph) -> u32 {
@@ -18,18 +18,27 @@ pub fn depth(graph: &Graph) -> u32 {
     (1..=outputs).map(|output| below(&depths, output_of(graph, output))).max().unwrap_or(0)
 }
 
-pub fn text_of(graph: &Graph, format: Format) -> Result<String, String> {
+/// A line for each input and output that has a name.
+pub fn names_of(graph: &Graph, names: &Names) -> String {
+    let Size { inputs, outputs, .. } = graph.size;
+    let inputs = (1..=inputs).filter_map(|at| Some(format!("input {at} {}\n", names.input(at)?)));
+    let outputs = (1..=outputs).filter_map(|at| Some(format!("output {at} {}\n", names.output(at)?)));
+    inputs.chain(outputs).collect()
+}
+
+pub fn text_of(graph: &Graph, names: &Names, format: Format) -> Result<String, String> {
     let complemented = graph.complemented_edges().map_err(|refusal| refusal.to_string())?;
     let Size { inputs, nodes, outputs } = graph.size;
     let xors = (inputs + 1..=inputs + nodes).filter(|&node| is_xor(graph, node)).count() as u32;
     Ok(format!(
         "format {}\ninputs {inputs} nodes {nodes} outputs {outputs}\nmajorities {} xors {xors}\n\
-         complemented edges {complemented}\nmajorities with just one complemented input {}\ndepth {}\nlocked nodes {}\n",
+         complemented edges {complemented}\nmajorities with just one complemented input {}\ndepth {}\nlocked nodes {}\n{}",
         format.name(),
         nodes - xors,
         single(graph),
         depth(graph),
-        locks::told(&locks::of(graph))
+        locks::told(&locks::of(graph)),
+        names_of(graph, names)
     ))
 }
 

@@ -106,9 +106,9 @@ impl Command {
     }
 
     /// Whether the format of the graph that it gives can be asked for.
-    fn takes_format(self) -> bool {
+    pub fn takes_format(self) -> bool {
         let gives_one = matches!(self, Command::Settle | Command::Find | Command::Resistive | Command::Apply);
-        gives_one || self.sets_locks() || self == Command::Join
+        gives_one || self.sets_locks() || matches!(self, Command::Join | Command::Export)
     }
 
     /// The exit status where it fails: of what answers by 0 and 1 another.
@@ -131,8 +131,10 @@ pub struct Work {
     pub command: Command,
     pub input: Option<PathBuf>,
     pub output: Option<PathBuf>,
-    /// The format that is given; none is that of the input.
+    /// The format that is given; none is that of the ending of the output's name.
     pub to: Option<Format>,
+    /// Whether names are left out of what is given.
+    pub no_symbols: bool,
     /// Whether hidden majorities are found before settling.
     pub find: bool,
     /// Which nodes are locked or freed.
@@ -170,6 +172,7 @@ impl Work {
             input: None,
             output: None,
             to: None,
+            no_symbols: false,
             find: false,
             nodes: Vec::new(),
             root: None,
@@ -243,11 +246,8 @@ pub fn asked(mut words: impl Iterator<Item = OsString>) -> Result<Asked, String>
 }
 
 fn format_named(word: Option<OsString>) -> Result<Format, String> {
-    match word.as_ref().and_then(|word| word.to_str()) {
-        Some("tagged") => Ok(Format::Tagged),
-        Some("aiger") => Ok(Format::Aiger),
-        _ => Err("--to wants tagged or aiger after it".into()),
-    }
+    let format = word.as_ref().and_then(|word| word.to_str()).and_then(Format::named);
+    format.ok_or_else(|| "--to wants tagged, aiger, aig, verilog, dot, svg or png after it".into())
 }
 
 /// Puts a value where none is yet.
@@ -329,26 +329,6 @@ fn no_more(mut words: impl Iterator<Item = OsString>) -> Result<(), String> {
     words.next().map_or(Ok(()), |word| Err(format!("{} is one word too many", word.to_string_lossy())))
 }
 
-/// The file that is written, where its name ends as those of AIGER do.
-fn named_aiger(work: &Work) -> Option<&PathBuf> {
-    work.output.as_ref().filter(|path| {
-        let ending = path.extension().unwrap_or_default();
-        ["aag", "aig"].iter().any(|aiger| ending.eq_ignore_ascii_case(aiger))
-    })
-}
-
-/// That what the finder or a join gives has the form that its name says.
-fn holds_majorities(work: &Work) -> Result<(), String> {
-    let name = work.command.name();
-    match named_aiger(work).filter(|_| work.to.is_none()) {
-        Some(path) => Err(format!(
-            "{} has the ending of AIGER, which has ANDs alone: {name} gives a tagged file, or with --to aiger each majority as four ANDs",
-            path.display()
-        )),
-        None => Ok(()),
-    }
-}
-
 /// That either one root is named or all are.
 fn one_or_all(work: &Work) -> Result<(), String> {
     match (work.root, work.all) {
@@ -361,13 +341,16 @@ fn one_or_all(work: &Work) -> Result<(), String> {
 /// That what a command gives can hold locks.
 fn holds_locks(work: &Work) -> Result<(), String> {
     let name = work.command.name();
-    if work.to == Some(Format::Aiger) {
-        return Err(format!("AIGER text cannot hold locks: {name} gives a tagged file"));
+    let other = |format: &Format| *format != Format::Tagged;
+    if let Some(format) = work.to.filter(other) {
+        return Err(format!("{} cannot hold locks: {name} gives a tagged file", format.told()));
     }
-    match named_aiger(work) {
-        Some(path) => Err(format!(
-            "{} has the ending of AIGER, which cannot hold locks: {name} gives a tagged file, so give it another name",
-            path.display()
+    let ending = |path: &PathBuf| {
+        Format::of_ending(path).filter(other).map(|format| (path.display().to_string(), format.told()))
+    };
+    match work.output.as_ref().and_then(ending) {
+        Some((path, form)) => Err(format!(
+            "{path} has the ending of {form}, which cannot hold locks: {name} gives a tagged file, so give it another name"
         )),
         None => Ok(()),
     }
@@ -459,6 +442,7 @@ fn asked_of(command: Command, mut words: impl Iterator<Item = OsString>) -> Resu
             "--help" | "-h" => return Ok(Asked::Help(help::of(command))),
             "-o" => put(&mut output, words.next().ok_or("-o wants a file after it")?, "-o")?,
             "--to" if command.takes_format() => put(&mut work.to, format_named(words.next())?, "--to")?,
+            "--no-symbols" if command.takes_format() || command == Command::Import => work.no_symbols = true,
             "--all" if matches!(command, Command::Resistive | Command::Assign) => work.all = true,
             "--moves" if command == Command::Preview => work.only_moves = true,
             "--find" if command == Command::Settle => work.find = true,
@@ -479,7 +463,6 @@ fn asked_of(command: Command, mut words: impl Iterator<Item = OsString>) -> Resu
     work.output = output.and_then(file);
     match command {
         Command::Lock | Command::Unlock => holds_locks(&work)?,
-        Command::Find | Command::Join => holds_majorities(&work)?,
         Command::Resistive => one_or_all(&work)?,
         _ => {}
     }
@@ -519,6 +502,30 @@ mod tests {
         assert_eq!(of(&["show", "--", "-o"]), work(Command::Show, Some("-o"), None, None));
         let settled = work(Command::Settle, Some("a"), None, Some(Format::Aiger));
         assert_eq!(of(&["settle", "--to", "aiger", "a"]), settled);
+    }
+
+    #[test]
+    fn forms() {
+        let of_name = |name: &str| Format::of_ending(&PathBuf::from(name));
+        for (ending, word, format) in [
+            ("aag", "aiger", Format::Aiger),
+            ("aig", "aig", Format::BinaryAiger),
+            ("mig", "tagged", Format::Tagged),
+            ("v", "verilog", Format::Verilog),
+            ("dot", "dot", Format::Dot),
+            ("svg", "svg", Format::Svg),
+            ("png", "png", Format::Png),
+        ] {
+            assert_eq!(
+                (of_name(&format!("x.{ending}")), of_name(&format!("x.y.{}", ending.to_uppercase()))),
+                (Some(format), Some(format))
+            );
+            assert_eq!(of(&["settle", "a", "--to", word]), work(Command::Settle, Some("a"), None, Some(format)));
+            assert_eq!(of(&["export", "a", "--to", ending]), work(Command::Export, Some("a"), None, Some(format)));
+        }
+        assert_eq!((of_name("aag"), of_name(".aag"), of_name("x.aag/y"), of_name("x.")), (None, None, None, None));
+        let bare = Work { input: Some("a".into()), no_symbols: true, ..Work::of(Command::Export) };
+        assert_eq!(of(&["export", "--no-symbols", "a"]), Ok(Asked::Work(bare)));
     }
 
     #[test]
@@ -688,12 +695,12 @@ mod tests {
             &["settle", "-o"],
             &["settle", "-o", "a", "-o", "b"],
             &["settle", "--to"],
-            &["settle", "--to", "verilog"],
+            &["settle", "--to", "blif"],
             &["settle", "--to", "aiger", "--to", "aiger"],
             &["import", "--to", "tagged"],
             &["find", "a", "b"],
-            &["find", "a", "-o", "b.aag"],
-            &["find", "a", "--to", "verilog"],
+            &["find", "a", "--to", "blif"],
+            &["show", "a", "--no-symbols"],
             &["find", "a", "--find"],
             &["show", "a", "--find"],
             &["show", "--verbose"],
@@ -729,13 +736,15 @@ mod tests {
             &["lock", "a", "7", "--to", "aiger"],
             &["lock", "a", "7", "-o", "b.aag"],
             &["unlock", "a", "7", "-o", "b.AIG"],
+            &["lock", "a", "7", "-o", "b.v"],
+            &["lock", "a", "7", "--to", "verilog"],
             &["lock", "a", "7", "--moves"],
             &["apply"],
             &["apply", "a"],
             &["apply", "-", "-"],
             &["apply", "a", "b", "c"],
             &["apply", "a", "b", "--moves"],
-            &["apply", "a", "b", "--to", "dot"],
+            &["apply", "a", "b", "--to", "html"],
             &["apply", "a", "b", "--root", "7"],
             &["sheets"],
             &["sheets", "a"],
@@ -756,7 +765,6 @@ mod tests {
             &["join", "a"],
             &["join", "-", "-"],
             &["join", "a", "-", "b", "-"],
-            &["join", "a", "b", "-o", "c.aag"],
             &["join", "a", "b", "--all"],
             &["class"],
             &["class", "-", "a", "-"],
