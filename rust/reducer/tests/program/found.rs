@@ -52,7 +52,7 @@ fn finding_beside_locks() {
     let said = "before nodes 4 majorities 0 complemented 6\nafter nodes 2 majorities 1 complemented 4 locked 1\n";
     let due = tagged(&[(1, &[3, 2, 1]), (2, &[0, 4, 6]), (2, &[3, 5, 7]), (4, &[11]), (6, &[4]), (5, &[])]);
     gives(&run_in(&folder, &["find", "locked"], b""), &due, said);
-    let lost = "AIGER text cannot hold locks: those of 1 node are lost, and a tagged file would keep them\n";
+    let lost = "AIGER cannot hold locks: those of 1 node are lost, and a tagged file would keep them\n";
     let output = run_in(&folder, &["find", "locked", "--to", "aiger"], b"");
     assert_eq!(text(&output.stderr), format!("{said}{}{lost}", as_aiger(8, 11, 2, 4)));
 }

@@ -56,7 +56,7 @@ fn joining_refused() {
     stops(&run_in(&folder, &["join", "-", "first"], b""), 1, refused);
     let usage = |why: &str| format!("panjerov: {why}; `panjerov join --help` tells what join takes\n");
     stops(&run_in(&folder, &["join", "first"], b""), 2, &usage("join wants FIRST and SECOND"));
-    let lost = "AIGER text cannot hold locks: those of 1 node are lost, and a tagged file would keep them\n";
+    let lost = "AIGER cannot hold locks: those of 1 node are lost, and a tagged file would keep them\n";
     assert_eq!(
         said(&run_in(&folder, &["join", "first", "second", "--to", "aiger"], b"")),
         format!("{JOINED}{}{lost}", as_aiger(8, 12, 2, 4))

@@ -124,7 +124,7 @@ fn settling_with_locks() {
 #[test]
 fn texts_lose_locks() {
     let p1_locked = tagged(&[(1, &[3, 1, 1]), (2, &[2, 4, 6]), (4, &[8]), (6, &[4]), (5, &[])]);
-    let lost = "AIGER text cannot hold locks: those of 1 node are lost, and a tagged file would keep them\n";
+    let lost = "AIGER cannot hold locks: those of 1 node are lost, and a tagged file would keep them\n";
     let lost = &format!("{}{lost}", as_aiger(4, 6, 1, 0));
     gives(&run(&["export"], &p1_locked), MAJORITY.as_bytes(), lost);
     let figures = "inputs 3 nodes 1 outputs 1 before 0 after 0 rounds 1 own 0 others 0 locked 1\n";

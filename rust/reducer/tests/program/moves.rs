@@ -91,7 +91,7 @@ fn applying_beside_locks() {
                    and cannot have move 1\n";
     stops(&run_in(&folder, &["apply", "in", "-"], b"6 1\n7 1\n"), 1, refused);
     // Without its locks, as text has none.
-    let lost = "AIGER text cannot hold locks: those of 1 node are lost, and a tagged file would keep them\n";
+    let lost = "AIGER cannot hold locks: those of 1 node are lost, and a tagged file would keep them\n";
     let output = run_in(&folder, &["apply", "in", "-", "--to", "aiger"], b"6 1\n");
     assert_eq!(said(&output), format!("{}{}{lost}", figures.replace("listed 2", "listed 1"), as_aiger(8, 12, 2, 2)));
 }

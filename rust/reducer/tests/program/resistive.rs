@@ -57,7 +57,7 @@ fn choosing_beside_locks() {
     let locked = tagged(&[(1, &[3, 2, 1]), (2, &[2, 4, 6]), (2, &[8, 2, 4]), (4, &[10]), (6, &[4]), (5, &[])]);
     let said = "before majorities 2 single 0 complemented 0\nafter majorities 2 single 0 complemented 0 locked 1\n";
     gives(&run(&["resistive", "-", "5"], &locked), &locked, said);
-    let lost = "AIGER text cannot hold locks: those of 1 node are lost, and a tagged file would keep them\n";
+    let lost = "AIGER cannot hold locks: those of 1 node are lost, and a tagged file would keep them\n";
     let output = run(&["resistive", "-", "5", "--to", "aiger"], &locked);
     assert_eq!(super::said(&output), format!("{said}{}{lost}", as_aiger(8, 12, 2, 0)));
 }

@@ -108,7 +108,7 @@ pub fn words(graph: &Graph) -> String {
 
 /// What is said where a graph with locks is given as AIGER text.
 pub fn lost(graph: &Graph) -> Option<String> {
-    lost_in(graph, "AIGER text")
+    lost_in(graph, "AIGER")
 }
 
 /// What is said where a graph with locks is given in a form that has none.
