@@ -221,6 +221,37 @@ static inline void reducer_set_literal(uint32_t *table, uint64_t *bits, size_t p
     bits[place / 64] = (bits[place / 64] & ~(UINT64_C(1) << (place % 64))) | bit << (place % 64);
 }
 
+/* Why a number is returned, in words. */
+static inline const char *reducer_why(uint32_t number)
+{
+    switch (number) {
+    case REDUCER_OK: return "it is accepted";
+    case REDUCER_MISSING_BYTES: return "the bytes end within a field";
+    case REDUCER_WRONG_FIELD: return "a field has not the tag or the length that is due";
+    case REDUCER_OVER_LIMIT: return "there are too many inputs, nodes, outputs or graphs of a class";
+    case REDUCER_SHORT_SLICE: return "a table or a slice of locks, inputs, results or moves is too short";
+    case REDUCER_BAD_LITERAL: return "a literal names an index that is not allowed there";
+    case REDUCER_EXTRA_BYTES: return "there are bytes after the end field";
+    case REDUCER_NO_SUCH_NODE: return "there is no such node, root or word";
+    case REDUCER_SHORT_SCRATCH: return "the scratch is too short";
+    case REDUCER_SHORT_BUFFER: return "the buffer is too short";
+    case REDUCER_BAD_TEXT: return "the header has no \"aag\", or a line lacks its decimal numbers";
+    case REDUCER_HAS_LATCHES: return "there are latches";
+    case REDUCER_WRONG_NUMBERING: return "M is not I + A, or inputs or gate numbers do not rise by 2 from literal 2";
+    case REDUCER_BAD_LOCK: return "a lock byte is above 1, or a lock of a file is at no node or not above the one before";
+    case REDUCER_NOT_RISING: return "an index of the list is not above the one before";
+    case REDUCER_NO_SUCH_MOVE: return "a node of this kind has no such move";
+    case REDUCER_MOVE_OF_LOCKED: return "a move other than 0 is at a locked node";
+    case REDUCER_MANY_INPUTS: return "there are more than 16 inputs";
+    case REDUCER_BAD_WANTED: return "a wanted byte is above 2";
+    case REDUCER_STAGES_DIFFER: return "the first graph's outputs and the second's inputs differ in number";
+    case REDUCER_LEFT_OVER: return "words of the list are left over: they are not three a call";
+    case REDUCER_UNKNOWN_KIND: return "a call of the list has a kind that is none";
+    case REDUCER_PART_OUTSIDE: return "a many call's part, or a majority call's triple, reaches past the end of the list";
+    default: return "there is no such number";
+    }
+}
+
 /*
  * The field at the front of the bytes: payload[0] is where its payload starts in them, payload[1] the payload's length.
  * Refusals: 1, 2.

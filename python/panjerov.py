@@ -60,7 +60,7 @@ MOST_SEARCHED = 16
 _WHY = {
     1: "the bytes end within a field",
     2: "a field has not the tag or the length that is due",
-    3: "there are too many inputs, nodes or outputs, or the record of a class takes no more",
+    3: "there are too many inputs, nodes, outputs or graphs of a class",
     4: "a table or a slice of locks, inputs, results or moves is too short",
     5: "a literal names an index that is not allowed there",
     6: "there are bytes after the end field",
@@ -77,6 +77,7 @@ _WHY = {
     17: "there are more than 16 inputs",
     18: "a wanted byte is above 2",
     19: "the first graph's outputs and the second's inputs differ in number",
+    101: "words of the list are left over: they are not three a call",
     102: "a call of the list has a kind that is none",
     105: "a many call's part, or a majority call's triple, reaches past the end of the list",
 }

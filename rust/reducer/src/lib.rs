@@ -14,7 +14,9 @@
 //! std::fs::write("settled.bin", graph.write().unwrap()).unwrap();
 //! ```
 //!
-//! [`Graph::import`] and [`Graph::export`] do the same for ASCII AIGER, the text of and-inverter tools.
+//! [`Graph::import`] and [`Graph::export`] do the same for ASCII AIGER, the text of and-inverter tools. [`read`] takes a file of either
+//! form, AIGER as tools write it, binary or not, and tells the place where it refuses one; the modules [`aiger`], [`names`], [`place`] and
+//! [`verilog`] have its parts.
 //!
 //! A node that is already laid out is locked ([`Graph::lock`]): no call turns it, and its file says so.
 //!
@@ -72,6 +74,7 @@ pub const MOST_GRAPHS: u64 = 1_000;
 /// Why a call is refused. A refused call has changed nothing that it was lent.
 #[derive(Clone, Copy, Debug, PartialEq, Eq, Hash)]
 #[repr(u32)]
+#[non_exhaustive]
 pub enum Refusal {
     /// Fewer bytes are left than the due field's head of 3 bytes, or than its payload.
     MissingBytes = 1,
@@ -117,11 +120,13 @@ pub enum Refusal {
 
 impl Refusal {
     /// The refusal's number, 1 to 19.
+    #[must_use]
     pub fn number(self) -> u32 {
         self as u32
     }
 
     /// The refusal that has this number, if there is one.
+    #[must_use]
     pub fn from_number(number: u32) -> Option<Refusal> {
         match number {
             1 => Some(Refusal::MissingBytes),
@@ -153,7 +158,7 @@ impl fmt::Display for Refusal {
         let why = match self {
             Refusal::MissingBytes => "the bytes end within a field",
             Refusal::WrongField => "a field has not the tag or the length that is due",
-            Refusal::OverLimit => "there are too many inputs, nodes or outputs",
+            Refusal::OverLimit => "there are too many inputs, nodes, outputs or graphs of a class",
             Refusal::ShortSlice => "a table or a slice of locks, inputs, results or moves is too short",
             Refusal::BadLiteral => "a literal names an index that is not allowed there",
             Refusal::ExtraBytes => "there are bytes after the end field",
@@ -196,6 +201,7 @@ pub struct Saving {
 
 impl Saving {
     /// Among all edges.
+    #[must_use]
     pub fn total(self) -> i64 {
         self.own + self.others
     }
@@ -284,6 +290,7 @@ impl Class {
 }
 
 /// What a majority call answers.
+#[must_use = "a node may not have been made a majority"]
 #[derive(Clone, Copy, Debug, PartialEq, Eq, Hash)]
 pub enum Majority {
     /// The node is now one majority of the three.
@@ -341,6 +348,7 @@ impl Difference {
 }
 
 /// What a comparison of two graphs tells.
+#[must_use]
 #[derive(Clone, Debug, PartialEq, Eq, Hash)]
 pub enum Compared {
     /// The moves that lead from the first to the second, a byte a node by rising index.
@@ -350,6 +358,7 @@ pub enum Compared {
 }
 
 /// What a preview tells of a tree call that is not made.
+#[must_use]
 #[derive(Clone, Debug, PartialEq, Eq, Hash)]
 pub struct Preview {
     /// What the tree call would save.
@@ -427,6 +436,7 @@ pub type Replayed = (Graph, Vec<Result<Told, Refusal>>);
 
 /// Why a replay is refused.
 #[derive(Clone, Copy, Debug, PartialEq, Eq, Hash)]
+#[non_exhaustive]
 pub enum ReplayRefusal {
     /// The words of the list are not three a call.
     LeftOver,
@@ -438,23 +448,50 @@ pub enum ReplayRefusal {
     Refused(Refusal),
 }
 
+impl fmt::Display for ReplayRefusal {
+    fn fmt(&self, f: &mut fmt::Formatter<'_>) -> fmt::Result {
+        let (number, why) = match self {
+            ReplayRefusal::LeftOver => (101, "words of the list are left over: they are not three a call"),
+            ReplayRefusal::UnknownKind => (102, "a call of the list has a kind that is none"),
+            ReplayRefusal::PartOutside => {
+                (105, "a many call's part, or a majority call's triple, reaches past the end of the list")
+            }
+            ReplayRefusal::Refused(refusal) => return refusal.fmt(f),
+        };
+        write!(f, "refused {number}: {why}")
+    }
+}
+
+impl std::error::Error for ReplayRefusal {
+    fn source(&self) -> Option<&(dyn std::error::Error + 'static)> {
+        match self {
+            ReplayRefusal::Refused(refusal) => Some(refusal),
+            _ => None,
+        }
+    }
+}
+
 /// How many words of complement bits so many literals have.
+#[must_use]
 pub fn bit_words(literals: usize) -> usize {
     literals.div_ceil(64)
 }
 
 /// How many words of scratch the tree call, its preview, the resistive call, settling, a class, the majority call and the finder need for
 /// so many nodes.
+#[must_use]
 pub fn scratch_words(nodes: u32) -> usize {
     8 * nodes as usize
 }
 
 /// How many bytes are enough for the file of a graph of this size, all its nodes being locked.
+#[must_use]
 pub fn file_bytes(size: Size) -> usize {
     18 + 22 * size.nodes as usize + 7 * size.outputs as usize
 }
 
 /// How many bytes are enough for the ASCII AIGER text of a graph of this size.
+#[must_use]
 pub fn text_bytes(size: Size) -> usize {
     30 + 5 * size.inputs as usize + 84 * size.nodes as usize + 7 * size.outputs as usize
 }
@@ -512,6 +549,7 @@ fn literals(table: &[u32], bits: &[u64], many: usize) -> Result<Vec<u32>, Refusa
 impl Graph {
     /// The graph of these literals, three a node and one an output, every node free. The third literal of an XOR is [`MARK`]; what is
     /// left over of less than three makes no node.
+    #[must_use]
     pub fn new(inputs: u32, mut node_literals: Vec<u32>, mut output_literals: Vec<u32>) -> Graph {
         let nodes = node_literals.len() / 3;
         node_literals.truncate(3 * nodes);
@@ -605,6 +643,7 @@ impl Graph {
     }
 
     /// How many nodes are locked.
+    #[must_use]
     pub fn locked(&self) -> u32 {
         let nodes = self.locks.iter().take(self.size.nodes as usize);
         nodes.filter(|&&byte| byte == 1).count() as u32
@@ -859,6 +898,7 @@ impl Graph {
     }
 
     /// The graph as calls on two take it.
+    #[must_use]
     pub fn lent(&self) -> lent::Lent<'_> {
         lent::Lent {
             size: self.size,

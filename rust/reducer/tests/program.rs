@@ -385,7 +385,7 @@ fn refused_texts() {
     let numbering = "refused 12: M is not I + A, or inputs or gate numbers do not rise by 2 from literal 2";
     let bad_text = "refused 10: the header has no \"aag\", or a line lacks its decimal numbers";
     let bad_literal = "refused 5: a literal names an index that is not allowed there";
-    let over = "refused 3: there are too many inputs, nodes or outputs";
+    let over = "refused 3: there are too many inputs, nodes, outputs or graphs of a class";
     let good = "aag 3 2 0 1 1\n2\n4\n6\n6 5 2\n";
     let latches = "it says 1 latch; make each an input and an output first, by \
                    berkeley-abc -c \"read_aiger OLD.aig; comb; write_aiger NEW.aig\"";

@@ -65,7 +65,7 @@ fn joining_refused() {
     (0..60_000).for_each(|_| large.extend(tagged(&[(2, &[2, 2, 2])])));
     large.extend(tagged(&[(4, &[2]), (5, &[])]));
     fs::write(folder.join("large"), large).unwrap();
-    let many = "panjerov: refused 3: there are too many inputs, nodes or outputs; with large there would be 120000 nodes, and 100000 are allowed\n";
+    let many = "panjerov: refused 3: there are too many inputs, nodes, outputs or graphs of a class; with large there would be 120000 nodes, and 100000 are allowed\n";
     stops(&run_in(&folder, &["join", "large", "large"], b""), 1, many);
     holds(&folder, &["first", "four", "large", "second", "three"]);
 }
