@@ -1,12 +1,13 @@
 """The inversion reducer for majority and XOR graphs, for Python.
 
     import panjerov
-    graph = panjerov.load(open("graph.bin", "rb").read())
+    graph = panjerov.load_file("graph")
     print(graph.evaluate([0xF0, 0xCC, 0xAA]))
     print(graph.settle())
     open("settled.bin", "wb").write(graph.write())
 
-import_aiger and Graph.export_aiger do the same for ASCII AIGER, the text of and-inverter tools. Graph.lock locks a node that is laid
+load_file takes a tagged file or AIGER, binary or ASCII. import_aiger and Graph.export_aiger are for ASCII AIGER, the text of and-inverter
+tools. Graph.lock locks a node that is laid
 out already: no call turns it, and its file says so. Graph.many makes moves that the caller has chosen, all of them or none.
 Graph.find finds the majorities that and-inverter tools have hidden in ANDs, and Graph.majority makes a node one. Graph.resistive_call
 chooses a tree's moves for memories of resistive cells, which want majorities with just one complemented input. A Class settles graphs
@@ -14,8 +15,8 @@ one after another and sums up their figures. Graph.compare tells the moves that 
 Graph.assignment_for finds the least assignment that gives a wanted output pattern. Graph.join puts two graphs together, the outputs of
 one driving the inputs of the other.
 
-Every call is one of the proved library's. A call that cannot be made raises: Refused, with the number of the refusal, where
-the library refuses it; TypeError or ValueError where an argument is not of the kind that the library takes. Either way
+Every call is one of the proved library's. A call that cannot be made raises: Refused, with the number of the refusal and of a file the
+place, where the library refuses it; TypeError or ValueError where an argument is not of the kind that the library takes. Either way
 nothing has changed.
 
 A graph keeps its tables as the library takes them, and Graph.nodes and Graph.outputs show them as lists of literals (Literals), so
@@ -30,15 +31,17 @@ import ctypes
 import enum
 import operator
 import os
+import shutil
 import subprocess
 from array import array
+from collections import Counter
 from collections.abc import MutableSequence
 from pathlib import Path
 from typing import Iterable, Iterator, List, NamedTuple, Optional, Sequence, Tuple, Type, Union
 
 __all__ = [
-    "Class", "Compared", "Difference", "Figures", "Graph", "Literals", "Majority", "Preview", "Refused", "Saving", "Settled", "Told",
-    "load", "import_aiger", "field", "replay",
+    "Class", "Compared", "Difference", "Figures", "Graph", "Literals", "Majority", "Place", "Preview", "Refused", "Saving", "Settled", "Told",
+    "load", "load_file", "import_aiger", "field", "place_of", "replay",
     "NODE", "PAIR", "TREE", "SETTLE", "MANY", "MAJORITY", "FIND", "RESISTIVE",
     "MARK", "MOST_INPUTS", "MOST_NODES", "MOST_OUTPUTS", "MOST_GRAPHS", "MOST_SEARCHED", "CLASS_WORDS",
 ]
@@ -83,12 +86,32 @@ _WHY = {
 }
 
 
-class Refused(Exception):
-    """A call that the library refuses. `number` is 1 to 19, or 102 or 105 of a replay; nothing has changed."""
+class Place(NamedTuple):
+    """Where a file or a text is refused: the number, the line of a text, counted from 1, or the byte of a file, counted from 0, where the field
+    at fault begins, which field or line that is, as "node 17 of 40", and what stands there and what is due."""
 
-    def __init__(self, number: int) -> None:
-        super().__init__(f"refused {number}: {_WHY.get(number, 'for no known cause')}")
-        self.number = number
+    number: int
+    line: Optional[int]
+    byte: Optional[int]
+    field: str
+    why: str
+
+    def __str__(self) -> str:
+        at = f"byte {self.byte}" if self.line is None else f"line {self.line}"
+        return f"{at}, {self.field}: {self.why}"
+
+
+class Refused(Exception):
+    """A call that the library refuses. `number` is 1 to 19, or 102 or 105 of a replay, and `place` where a file is refused; nothing has
+    changed."""
+
+    def __init__(self, number: int, place: Optional[Place] = None) -> None:
+        at = "" if place is None else f"; {place}"
+        super().__init__(f"refused {number}: {_WHY.get(number, 'for no known cause')}{at}")
+        self.number, self.place = number, place
+
+    def __reduce__(self):
+        return Refused, (self.number, self.place)
 
 
 class Saving(NamedTuple):
@@ -525,20 +548,259 @@ def field(data: bytes) -> bytes:
     return data[payload[0] : payload[0] + payload[1]]
 
 
+class _Fault(Exception):
+    """A fault that a reader here has found, with its place."""
+
+    def __init__(self, place: Place) -> None:
+        super().__init__(str(place))
+        self.place = place
+
+
+def _told_many(many: int, what: str) -> str:
+    """One byte, two bytes."""
+    return f"{many} {what}{'' if many == 1 else 's'}"
+
+
+def _over_limit(inputs: int, nodes: int, outputs: int, node: str) -> Optional[str]:
+    """What of I, N and O is over its limit, in words."""
+    limits = [(inputs, "input", MOST_INPUTS), (nodes, node, MOST_NODES), (outputs, "output", MOST_OUTPUTS)]
+    return next((f"it says {many} {what}s, and {most} are the most" for many, what, most in limits if many > most), None)
+
+
+def _too_high(literal: int, what: str, highest: int) -> str:
+    return f"{what} is literal {literal}, which names index {literal // 2}, and {highest} is the highest allowed there"
+
+
+class _FileReader:
+    """Finds the place where a tagged file is refused."""
+
+    LENGTHS = {1: 12, 2: 12, 3: 8, 4: 4, 5: 0, 6: 4}
+
+    def __init__(self, file: bytes) -> None:
+        self.file, self.at, self.field = file, 0, ""
+
+    def fault(self, number: int, why: str) -> _Fault:
+        return _Fault(Place(number, None, self.at, self.field, why))
+
+    def short(self, due: int, what: str) -> _Fault:
+        return self.fault(1, f"{_told_many(len(self.file) - self.at, 'byte')} left, and {what} has {due}")
+
+    def next(self, field: str, *due: int) -> Tuple[int, List[int]]:
+        """The tag and the numbers of the field that is next, one of these tags being due; the place goes past it with the next."""
+        self.field = field
+        head = self.file[self.at : self.at + 3]
+        if len(head) < 3:
+            raise self.short(3, "the head of a field")
+        tag, length = head[0], 256 * head[1] + head[2]
+        if tag not in due or length != self.LENGTHS[tag]:
+            wanted = " or ".join(f"{one:02x} of length {self.LENGTHS[one]}" for one in due)
+            raise self.fault(2, f"tag {tag:02x} of length {length} stands there, and {wanted} is due")
+        payload = self.file[self.at + 3 : self.at + 3 + length]
+        if len(payload) < length:
+            raise self.short(3 + length, "the field")
+        return tag, [int.from_bytes(payload[at : at + 4], "big") for at in range(0, length, 4)]
+
+    def words(self, highest: int, words: List[int], alone: bool) -> None:
+        """Tests the literals of a field, and goes past it."""
+        for at, literal in enumerate(words, 1):
+            if literal // 2 > highest:
+                raise self.fault(5, _too_high(literal, "it" if alone else f"word {at} of node {highest + 1}", highest))
+        self.at += 3 + 4 * len(words)
+
+    def locks(self, inputs: int, nodes: int) -> None:
+        last = None
+        while True:
+            tag, words = self.next("a lock or the end", 6, 5)
+            if tag == 5:
+                self.at += 3
+                return
+            self.lock(words[0], last, inputs, nodes)
+            last = words[0]
+            self.at += 7
+
+    def lock(self, index: int, last: Optional[int], inputs: int, nodes: int) -> None:
+        self.field = "a lock"
+        if not inputs < index <= inputs + nodes:
+            known = f"nodes are {inputs + 1} to {inputs + nodes}" if nodes else "there are no nodes"
+            raise self.fault(13, f"it has index {index}, and {known}")
+        if last is not None and index <= last:
+            raise self.fault(13, f"it has index {index} after {last}, and indices must rise")
+
+    def walk(self) -> None:
+        _, (inputs, nodes, outputs) = self.next("the head", 1)
+        over = _over_limit(inputs, nodes, outputs, "node")
+        if over:
+            raise self.fault(3, over)
+        self.at += 15
+        for at in range(1, nodes + 1):
+            self.words(inputs + at - 1, self.next(f"node {at} of {nodes}", 2, 3)[1], False)
+        for at in range(1, outputs + 1):
+            self.words(inputs + nodes, self.next(f"output {at} of {outputs}", 4)[1], True)
+        self.locks(inputs, nodes)
+        more = len(self.file) - self.at
+        if more:
+            self.field = "after the end field"
+            raise self.fault(6, f"{_told_many(more, 'byte')} more, and none is due")
+
+
+#: What to do about latches.
+_LATCHES = 'make each an input and an output first, by berkeley-abc -c "read_aiger OLD.aig; comb; write_aiger NEW.aig"'
+
+
+class _TextReader:
+    """Finds the place where an AIGER text is refused; and makes text of a binary file."""
+
+    def __init__(self, data: bytes) -> None:
+        self.data, self.at, self.line, self.field = data, 0, 0, ""
+
+    def fault(self, number: int, why: str) -> _Fault:
+        return _Fault(Place(number, self.line, None, self.field, why))
+
+    ESCAPED = {9: "\\t", 10: "\\n", 13: "\\r", 34: '\\"', 39: "\\'", 92: "\\\\"}
+
+    @classmethod
+    def shown(cls, line: bytes) -> str:
+        """The front of a line, in quotes."""
+        signs = [cls.ESCAPED.get(byte) or (chr(byte) if 32 <= byte < 127 else f"\\x{byte:02x}") for byte in line[:40]]
+        return f'"{"".join(signs)}"' + ("..." if len(line) > 40 else "")
+
+    def next(self, field: str) -> bytes:
+        """The next line, without its newline."""
+        self.field, self.line = field, self.line + 1
+        rest = self.data[self.at : self.at + 4096]
+        if not rest:
+            raise self.fault(10, "the text ends before it")
+        line, newline, _ = rest.partition(b"\n")
+        self.at += len(line) + len(newline)
+        if not newline:
+            raise self.fault(10, f"{self.shown(line)}, and no newline ends it")
+        if line.endswith(b"\r"):
+            raise self.fault(10, f"{self.shown(line[:-1])}, and a carriage return ends it")
+        return line
+
+    @staticmethod
+    def number(word: bytes) -> Optional[int]:
+        """A decimal number below 2 to the 32nd without leading zeros."""
+        plain = word.isdigit() and len(word) <= 10 and (word == b"0" or word[:1] != b"0")
+        return int(word) if plain and int(word) <= MARK else None
+
+    def numbers(self, field: str, many: int, first: Optional[bytes] = None) -> List[int]:
+        """The numbers of the next line, so many, after its first word where there is one."""
+        line = self.next(field)
+        words = line.split(b" ")
+        start = 0 if first is None else 1
+        numbers = [self.number(word) for word in words[start:]]
+        if len(numbers) != many or None in numbers or (start and words[0] != first):
+            due = f'"{first.decode()}" and five numbers are due' if first else ["", "one number is due", "", "three numbers are due"][many]
+            raise self.fault(10, f"{due}, and {self.shown(line)} stands there")
+        return numbers
+
+    def header(self, first: bytes) -> Tuple[int, int, int, int]:
+        """M, I, O and A."""
+        last, inputs, latches, outputs, gates = self.numbers("the header", 5, first)
+        if latches:
+            raise self.fault(11, f"it says {latches} {'latch' if latches == 1 else 'latches'}; {_LATCHES}")
+        if last != inputs + gates:
+            raise self.fault(12, f"M is {last}, and I + A is {inputs + gates}")
+        over = _over_limit(inputs, gates, outputs, "gate")
+        if over:
+            raise self.fault(3, over)
+        return last, inputs, outputs, gates
+
+    def own(self, literal: int, due: int) -> None:
+        if literal != due:
+            raise self.fault(12, f"literal {literal} stands there, and {due} is due")
+
+    def outputs(self, last: int, many: int) -> List[int]:
+        literals = []
+        for at in range(1, many + 1):
+            literals += self.numbers(f"output {at} of {many}", 1)
+            if literals[-1] // 2 > last:
+                raise self.fault(5, _too_high(literals[-1], "it", last))
+        return literals
+
+    def walk(self) -> None:
+        last, inputs, outputs, gates = self.header(b"aag")
+        for at in range(1, inputs + 1):
+            self.own(self.numbers(f"input {at} of {inputs}", 1)[0], 2 * at)
+        self.outputs(last, outputs)
+        for at in range(1, gates + 1):
+            own, *words = self.numbers(f"gate {at} of {gates}", 3)
+            self.own(own, 2 * (inputs + at))
+            for word, literal in enumerate(words, 1):
+                if literal >= own:
+                    raise self.fault(5, _too_high(literal, f"its word {word}", own // 2 - 1))
+
+    def delta(self, start: int, field: str) -> int:
+        """A number of seven bits a byte, the lowest first; a byte from 128 on says that more follow."""
+        total = 0
+        for place in range(5):
+            if self.at >= len(self.data):
+                raise _Fault(Place(10, None, start, field, "the file ends within it"))
+            byte = self.data[self.at]
+            self.at += 1
+            total |= (byte & 127) << (7 * place)
+            if byte < 128 and total <= MARK:
+                return total
+        raise _Fault(Place(10, None, start, field, "it has a number of more than 32 bits"))
+
+    def text(self) -> bytes:
+        """The ASCII text of a binary file."""
+        last, inputs, outputs, gates = self.header(b"aig")
+        lines = [f"aag {last} {inputs} 0 {outputs} {gates}", *(str(2 * at) for at in range(1, inputs + 1))]
+        lines += map(str, self.outputs(last, outputs))
+        for at in range(1, gates + 1):
+            start, own, field = self.at, 2 * (inputs + at), f"gate {at} of {gates}"
+            first, second = self.delta(start, field), self.delta(start, field)
+            if not 0 < first <= own or second > own - first:
+                why = f"its words lie {first} and then {second} below its literal {own}, which is too far or not below"
+                raise _Fault(Place(5, None, start, field, why))
+            lines.append(f"{own} {own - first} {own - first - second}")
+        return "\n".join(lines).encode() + b"\n"
+
+
+def place_of(data: bytes) -> Optional[Place]:
+    """Where load refuses these bytes, or import_aiger where they begin with "aag"; None where they are accepted."""
+    data, _ = _bytes(data, "data")
+    try:
+        (_TextReader if data.startswith(b"aag") else _FileReader)(data).walk()
+    except _Fault as fault:
+        return fault.place
+    return None
+
+
+def _filled(function, data: bytes, tables: _Tables) -> "Graph":
+    """The graph that a call fills tables with from bytes; what it refuses is told with its place, where that is found."""
+    numbers = (_U32 * 3)()
+    try:
+        _call(function, data, len(data), *tables.arrays(), numbers)
+    except Refused as refused:
+        place = place_of(data)
+        raise Refused(refused.number, place if place and place.number == refused.number else None) from None
+    return _graph(numbers[0], tables)
+
+
 def load(file: bytes) -> "Graph":
     """The graph that a tagged file holds, with its locks."""
-    file, length = _bytes(file, "file")
-    tables, numbers = _room(file), (_U32 * 3)()
-    _call(_load, file, length, *tables.arrays(), numbers)
-    return _graph(numbers[0], tables)
+    file, _ = _bytes(file, "file")
+    return _filled(_load, file, _room(file))
 
 
 def import_aiger(text: bytes) -> "Graph":
     """The graph that an ASCII AIGER text says: a majority of the constant and two literals for each AND, every node free."""
-    text, length = _bytes(text, "text")
-    tables, numbers = _text_room(text), (_U32 * 3)()
-    _call(_import, text, length, *tables.arrays(), numbers)
-    return _graph(numbers[0], tables)
+    text, _ = _bytes(text, "text")
+    return _filled(_import, text, _text_room(text))
+
+
+def load_file(path: Union[str, "os.PathLike[str]"]) -> "Graph":
+    """The graph of a file: of AIGER, binary or ASCII, where it begins so, and else of a tagged file."""
+    data = Path(path).read_bytes()
+    if data.startswith(b"aig "):
+        try:
+            return import_aiger(_TextReader(data).text())
+        except _Fault as fault:
+            raise Refused(fault.place.number, fault.place) from None
+    return import_aiger(data) if data.startswith(b"aag") else load(data)
 
 
 def _told(kind: int, number: int, own: int, others: int) -> Told:
@@ -616,8 +878,22 @@ class Graph:
             self._outputs = Literals(literals, "outputs")
 
     def __repr__(self) -> str:
+        if len(self._nodes) + len(self._outputs) > _MOST_SHOWN:
+            sizes = [(self.inputs, "input"), (len(self._nodes) // 3, "node"), (len(self._outputs), "output")]
+            told = ", ".join(_told_many(many, what) for many, what in sizes)
+            return f"<Graph: {told}, {len(self.locked)} locked>"
         locked = f", {self.locked}" if any(self._locks) else ""
         return f"Graph({self.inputs}, {self.nodes}, {self.outputs}{locked})"
+
+    def _repr_svg_(self) -> Optional[str]:
+        """A picture for notebooks, by Graphviz; None, so that the text is shown, where its program dot is not there or there is too much."""
+        if shutil.which("dot") is None or self.inputs + len(self._nodes) // 3 + len(self._outputs) > _MOST_DRAWN:
+            return None
+        try:
+            done = subprocess.run(["dot", "-Tsvg"], input=_dot(self), capture_output=True, text=True, timeout=4, check=True)
+        except (OSError, subprocess.SubprocessError):
+            return None
+        return done.stdout[done.stdout.find("<svg") :]
 
     def __eq__(self, other: object) -> bool:
         if not isinstance(other, Graph):
@@ -628,6 +904,17 @@ class Graph:
     def __copy__(self) -> "Graph":
         # Tables of its own: calls change them in place.
         return _graph(self.inputs, _Tables(Literals(self._nodes, "nodes"), Literals(self._outputs, "outputs"), self._locks[:]))
+
+    def copy(self) -> "Graph":
+        """A graph of its own with the same literals and locks."""
+        return self.__copy__()
+
+    def roots(self) -> List[int]:
+        """The indices of the roots, rising: of all nodes but those that have just one reader and that in the node table."""
+        self.complemented_edges()
+        first, last = self.inputs + 1, self.inputs + len(self._nodes) // 3
+        readers, read_out = Counter(self._nodes.indices), set(self._outputs.indices)
+        return [index for index in range(first, last + 1) if readers[index] != 1 or index in read_out]
 
     def _has(self, index: int) -> bool:
         """Whether this is the index of a node."""
@@ -831,6 +1118,32 @@ class Graph:
         room = 8 * lent[1]
         _call(_settle, *lent, _array(_U32, room), room, figures, savings)
         return Settled(*figures, *savings)
+
+
+#: The most literals that are shown one by one, and the most inputs, nodes and outputs that are drawn.
+_MOST_SHOWN = 60
+_MOST_DRAWN = 600
+
+
+def _dot(graph: Graph) -> str:
+    """The graph in the language of Graphviz: inputs below, a dot on each complemented edge, the constant at each reader."""
+    lines = ["digraph graph_ {", "rankdir=BT; node [shape=box, style=filled, fillcolor=white]; edge [arrowhead=none];"]
+    lines += [f'x{at} [label="input {at}"];' for at in range(1, graph.inputs + 1)]
+    literals, first = list(graph.nodes), graph.inputs + 1
+    boxes = [(f"x{first + at // 3}", literals[at : at + 3]) for at in range(0, len(literals), 3)]
+    for name, words in boxes:
+        kind, colour = ("XOR", "#fbdf9d") if words[2] == MARK else ("majority", "#dcebf7")
+        locked = ", penwidth=3" if graph.is_locked(int(name[1:])) else ""
+        lines.append(f'{name} [label="{kind} {name[1:]}", fillcolor="{colour}"{locked}];')
+    outputs = [(f"o{at}", [literal]) for at, literal in enumerate(graph.outputs, 1)]
+    lines += [f'{name} [label="output {name[1:]}"];' for name, _ in outputs]
+    for name, words in boxes + outputs:
+        for word, literal in enumerate(word for word in words if word != MARK):
+            source = f"x{literal // 2}" if literal > 1 else f"{name}_{word}"
+            if literal <= 1:
+                lines.append(f'{source} [label="0", shape=circle, width=0.2, fixedsize=true];')
+            lines.append(f"{source} -> {name}{' [arrowhead=dot]' if literal % 2 else ''};")
+    return "\n".join(lines + ["}"])
 
 
 def _second(graph: Graph) -> list:

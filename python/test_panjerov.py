@@ -6,8 +6,10 @@ In the repository's root: python3 python/test_panjerov.py
 
 import copy
 import itertools
+import os
 import pickle
 import random
+import shutil
 import subprocess
 import tempfile
 import threading
@@ -150,7 +152,7 @@ class Good(unittest.TestCase):
         for _ in range(1000):
             graph = random_graph(generator)
             root = generator.randrange(graph.inputs + 1, graph.inputs + 2 + len(graph.nodes) // 3)
-            before, after = repr(graph), copied(graph)
+            before, after = kept(graph), copied(graph)
             try:
                 told = graph.preview(root)
             except Refused as refused:
@@ -158,7 +160,7 @@ class Good(unittest.TestCase):
                     after.tree_call(root)
                 self.assertEqual((refused.number, caught.exception.number), (7, 7))
                 continue
-            self.assertEqual(repr(graph), before)
+            self.assertEqual(kept(graph), before)
             self.assertEqual(after.tree_call(root), told.saving)
             self.assertEqual(made(graph, told.moves), after)
             self.assertTrue(all(told.moves[index - graph.inputs - 1] == 0 for index in graph.locked))
@@ -456,11 +458,11 @@ class Good(unittest.TestCase):
 
 class Bad(unittest.TestCase):
     def refused(self, number: int, graph: Graph, call: str, *arguments: object) -> None:
-        before = repr(graph)
+        before = kept(graph)
         with self.assertRaises(Refused) as caught:
             getattr(graph, call)(*arguments)
         self.assertEqual(caught.exception.number, number)
-        self.assertEqual(repr(graph), before)
+        self.assertEqual(kept(graph), before)
 
     def test_refused_trials(self) -> None:
         graph = Graph(5, [3, 5, 6, 12, 9, 10], [15], [6])
@@ -527,10 +529,10 @@ class Bad(unittest.TestCase):
             (TypeError, 3, [1]),
             (TypeError, [3], 1),
         ]:
-            before = repr(graph)
+            before = kept(graph)
             with self.assertRaises(error):
                 graph.many(indices, moves)
-            self.assertEqual(repr(graph), before)
+            self.assertEqual(kept(graph), before)
         with self.assertRaisesRegex(Refused, "refused 16: a move other than 0 is at a locked node"):
             graph.many([4], [1])
 
@@ -1307,7 +1309,7 @@ class Packed(unittest.TestCase):
         self.assertTrue(mine != [2, MARK] and mine != Literals([2, MARK]) and mine != Literals([3]) and mine != (3, MARK))
         graph = chain(30, 3)
         graph.lock(9)
-        for other in [copy.copy(graph), copy.deepcopy(graph), pickle.loads(pickle.dumps(graph)), eval(repr(graph))]:
+        for other in [copy.copy(graph), copy.deepcopy(graph), pickle.loads(pickle.dumps(graph)), graph.copy()]:
             self.assertEqual(other, graph)
             other.settle()
             other.lock(8)
@@ -1360,7 +1362,7 @@ class Packed(unittest.TestCase):
                 if MARK > index >= 2**31 - 1 or (index, bit) == (MARK, 1):
                     with self.assertRaises(Refused):
                         table[place]
-                    self.assertIn(str(index), repr(graph))
+                    self.assertIn(str(index), repr(table))
 
     def test_too_few_words(self) -> None:
         for graph in [Graph(5, [3, 5, 6, 13, 8, 11], [14]), chain(22, 65), chain(64, 64)]:
@@ -1465,8 +1467,200 @@ class Packed(unittest.TestCase):
         self.assertTrue(told <= {0, 4, 5, ValueError} and 0 in told, told)
 
 
+#: Cases that the tests of the Rust crate read too.
+PLACES = ROOT / "rust" / "reducer" / "tests" / "places.txt"
+
+
+def case_bytes(written: str) -> bytes:
+    """The bytes of a case: a text with its escapes, or hexadecimal."""
+    if not written.startswith("aag"):
+        return bytes.fromhex(written)
+    for escape, sign in [("\\n", "\n"), ("\\r", "\r"), ("\\t", "\t"), ("\\\\", "\\")]:
+        written = written.replace(escape, sign)
+    return written.encode()
+
+
+def damaged(whole: bytes) -> list:
+    """Cut off at each place, and there with a byte changed, taken out and put in."""
+    some = [0, 1, 2, 3, 4, 5, 6, 8, 10, 12, 13, 32, 45, 48, 49, 50, 57, 97, 128, 255]
+    files = [whole[:at] for at in range(len(whole))] + [whole[:at] + whole[at + 1 :] for at in range(len(whole))]
+    for at, byte in itertools.product(range(len(whole)), some):
+        files += [whole[:at] + bytes([byte]) + whole[at + 1 :], whole[:at] + bytes([byte]) + whole[at:]]
+    return files
+
+
+class Places(unittest.TestCase):
+    """Where files and texts are refused."""
+
+    def test_sentences(self) -> None:
+        cases = [line.split("\t") for line in PLACES.read_text().splitlines() if not line.startswith("#")]
+        self.assertGreaterEqual(len(cases), 30)
+        for written, due in cases:
+            data = case_bytes(written)
+            place = panjerov.place_of(data)
+            self.assertEqual("none" if place is None else f"{place.number} {place}", due, written)
+            if place is not None:
+                with self.assertRaises(Refused) as caught:
+                    (panjerov.import_aiger if data.startswith(b"aag") else panjerov.load)(data)
+                self.assertEqual((caught.exception.number, caught.exception.place), (place.number, place))
+                self.assertTrue(str(caught.exception).endswith(f"; {place}"))
+
+    def test_numbers_are_the_library_s(self) -> None:
+        locked = Graph(5, [3, 5, 6, 13, 8, 11], [14], [6, 7]).write()
+        for call, whole in [(panjerov.load, locked), (panjerov.import_aiger, MAJORITY)]:
+            for data in damaged(whole):
+                if data.startswith(b"aag") == (call is panjerov.import_aiger):
+                    place = panjerov.place_of(data)
+                    try:
+                        call(data)
+                        number = None
+                    except Refused as refused:
+                        number = refused.number
+                    self.assertEqual(place and place.number, number, data)
+
+    def test_kept_by_copies(self) -> None:
+        with self.assertRaises(Refused) as caught:
+            panjerov.load(b"")
+        again = pickle.loads(pickle.dumps(caught.exception))
+        self.assertEqual((str(again), again.number, again.place), (str(caught.exception), 1, caught.exception.place))
+        with self.assertRaises(Refused) as caught:
+            p1().node_call(9)
+        self.assertIsNone(caught.exception.place)
+
+
+class Users(unittest.TestCase):
+    """What makes the module handy."""
+
+    #: The half adder of AIGER's description, in both formats.
+    ASCII = b"aag 5 2 0 2 3\n2\n4\n10\n6\n6 4 2\n8 5 3\n10 9 7\n"
+    BINARY = b"aig 5 2 0 2 3\n10\n6\n\x02\x02\x03\x02\x01\x02i0 x\nc\nhalf adder\n"
+
+    def test_files(self) -> None:
+        half = Graph(2, [0, 4, 2, 0, 5, 3, 0, 9, 7], [10, 6])
+        with tempfile.TemporaryDirectory() as folder:
+            path = Path(folder) / "graph"
+            for data in [half.write(), self.ASCII, self.BINARY]:
+                path.write_bytes(data)
+                self.assertEqual((panjerov.load_file(path), panjerov.load_file(str(path))), (half, half))
+            for data, due in [
+                (self.BINARY[:23], "refused 10: .*; byte 23, gate 3 of 3: the file ends within it"),
+                (self.BINARY[:19] + b"\0\2", "refused 5: .*; byte 19, gate 1 of 3: its words lie 0 and then 2 below its literal 6, which"),
+                (b"aig 5 2 1 2 2\n", "refused 11: .*; line 1, the header: it says 1 latch; make each an input and an output first"),
+                (b"aig 5 2 0 2 3\r\n", "refused 10: .*; line 1, the header: .* and a carriage return ends it"),
+                (b"", "refused 1: .*; byte 0, the head: 0 bytes left, and the head of a field has 3"),
+            ]:
+                path.write_bytes(data)
+                with self.assertRaisesRegex(Refused, due):
+                    panjerov.load_file(path)
+            with self.assertRaises(FileNotFoundError):
+                panjerov.load_file(Path(folder) / "none")
+        for path in EXAMPLES.glob("*.aag"):
+            self.assertEqual(panjerov.load_file(path), panjerov.import_aiger(path.read_bytes()))
+
+    def test_roots(self) -> None:
+        # Node 4 is read by an output and by node 6, node 5 by node 6 alone, twice; node 7 by node 8 alone; nothing reads node 8.
+        graph = Graph(3, [3, 5, 7, 3, 5, MARK, 10, 8, 11, 2, 4, 6, 14, 2, 4], [9, 12])
+        self.assertEqual(graph.roots(), [4, 5, 6, 8])
+        generator = random.Random(11)
+        for _ in range(200):
+            graph = random_graph(generator)
+            due = []
+            for index in range(graph.inputs + 1, graph.inputs + 1 + len(graph.nodes) // 3):
+                try:
+                    graph.preview(index)
+                    due.append(index)
+                except Refused as refused:
+                    self.assertEqual(refused.number, 7)
+            self.assertEqual(graph.roots(), due)
+        with self.assertRaises(Refused):
+            Graph(1, [9, 9, 9], []).roots()
+
+    def test_one_line(self) -> None:
+        self.assertEqual(repr(p1()), "Graph(3, [3, 5, 7], [9])")
+        graph = chain(1000, 5)
+        graph.lock(7)
+        self.assertEqual(repr(graph), "<Graph: 2 inputs, 1000 nodes, 5 outputs, 1 locked>")
+
+    def test_svg(self) -> None:
+        if shutil.which("dot") is None:
+            self.skipTest("Graphviz is not there")
+        graph = Graph(3, [3, 5, 7, 8, 1, MARK], [11, 0], [4])
+        svg = graph._repr_svg_()
+        self.assertTrue(svg.startswith("<svg") and svg.rstrip().endswith("</svg>"))
+        # A dot at each complemented edge is filled black; the constant's circles are not.
+        self.assertEqual(svg.count('<ellipse fill="black"'), graph.complemented_edges())
+        for label in ["input 3", "majority 4", "XOR 5", "output 2"]:
+            self.assertIn(f">{label}<", svg)
+        self.assertIsNone(chain(1000, 5)._repr_svg_())
+        path = os.environ["PATH"]
+        try:
+            os.environ["PATH"] = ""
+            self.assertIsNone(graph._repr_svg_())
+        finally:
+            os.environ["PATH"] = path
+
+    def test_node_calls_cost_what_they_cost_in_c(self) -> None:
+        """Of 100,000 nodes: at most twice the time, each at its best of many."""
+        generator = random.Random(3)
+        words = [generator.randrange(2 * (1000 + at // 3)) for at in range(300000)]
+        graph = Graph(1000, words, [2 * 101000])
+        lines = [
+            "#define _POSIX_C_SOURCE 199309L",
+            "#include <stdio.h>",
+            "#include <time.h>",
+            '#include "reducer.h"',
+            "static uint8_t file[REDUCER_FILE_BYTES(100000, 1)], locks[100000];",
+            "static uint32_t nodes[300000], outputs[1], numbers[3];",
+            "static uint64_t bits[REDUCER_BIT_WORDS(300000)], output_bits[1];",
+            "int main(void) {",
+            "    size_t length = fread(file, 1, sizeof file, stdin);",
+            "    double best = 1e9;",
+            "    if (reducer_load(file, length, nodes, 300000, bits, REDUCER_BIT_WORDS(300000), outputs, 1, output_bits, 1, locks, 100000, numbers))",
+            "        return 1;",
+            "    for (int k = 0; k < 200; k++) {",
+            "        struct timespec a, b;",
+            "        int64_t saving[2];",
+            "        clock_gettime(CLOCK_MONOTONIC, &a);",
+            "        reducer_node(1000, 100000, 1, nodes, 300000, bits, REDUCER_BIT_WORDS(300000), outputs, 1, output_bits, 1, locks, 100000, 51000, saving);",
+            "        clock_gettime(CLOCK_MONOTONIC, &b);",
+            "        double took = 1e9 * (double)(b.tv_sec - a.tv_sec) + (double)(b.tv_nsec - a.tv_nsec);",
+            "        if (took < best) best = took;",
+            "    }",
+            '    printf("%.0f", best);',
+            "    return 0;",
+            "}",
+        ]
+        in_c = float(run_c("\n".join(lines) + "\n", graph.write())) / 1e9
+        here = []
+        for _ in range(200):
+            start = time.perf_counter()
+            graph.node_call(51000)
+            here.append(time.perf_counter() - start)
+        self.assertLess(min(here), 2 * in_c)
+
+
+def run_c(source: str, given: bytes = b"") -> str:
+    """What a program in C prints."""
+    with tempfile.TemporaryDirectory() as folder:
+        file, program, library = Path(folder) / "program.c", Path(folder) / "program", ROOT / "target" / "staticlib" / "libreducer.a"
+        file.write_text(source)
+        words = ["gcc", "-O2", "-std=c99", "-Wall", "-Wextra", "-pedantic", "-Werror", f"-I{ROOT / 'include'}"]
+        subprocess.run([*words, str(file), str(library), "-o", str(program)], check=True)
+        return subprocess.run([str(program)], check=True, capture_output=True, input=given).stdout.decode()
+
+
 class Header(unittest.TestCase):
     """What include/reducer.h gives a caller in C."""
+
+    def test_why(self) -> None:
+        """The sentences are those that Python says, and docs/REFUSALS.md lists."""
+        numbers = [*range(20), 101, 102, 105, 20]
+        calls = "".join(f"puts(reducer_why({number}));" for number in numbers)
+        told = run_c(f'#include <stdio.h>\n#include "reducer.h"\nint main(void) {{ {calls} return 0; }}\n').splitlines()
+        due = [panjerov._WHY.get(number, "there is no such number") for number in numbers]
+        self.assertEqual(told, ["it is accepted", *due[1:]])
+        rows = [line.split(" | ")[1] for line in (ROOT / "docs" / "REFUSALS.md").read_text().splitlines() if line.startswith("| ")]
+        self.assertEqual(rows[1:], told[:20])
 
     def run_c(self, source: Path) -> str:
         with tempfile.TemporaryDirectory() as folder:

@@ -150,7 +150,7 @@ impl<'a> Reader<'a> {
         let (_, words) = self.next(format!("node {at} of {nodes}"), &[2, 3])?;
         let highest = inputs + at - 1;
         if let Some(word) = words.iter().position(|literal| literal / 2 > highest) {
-            let why = too_high(words[word], &format!("word {}", word + 1), highest);
+            let why = too_high(words[word], &format!("word {} of node {}", word + 1, highest + 1), highest);
             return Err(self.fault(Refusal::BadLiteral, why));
         }
         self.pass(&words);
