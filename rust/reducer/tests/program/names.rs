@@ -128,6 +128,10 @@ fn in_a_class() {
     assert_eq!(rows, ["file", "graph", "in.aag", "all", "latest", "fell"]);
     assert_eq!(beside(&folder.join("out"), "graph"), SYMBOLS);
     assert!(fs::read_to_string(folder.join("out/in.aag")).unwrap().ends_with(SYMBOLS));
+    assert!(said(&output).starts_with("in.aag: as AIGER it has 16 ANDs and "), "{}", said(&output));
+    fs::write(folder.join("in.aag"), named().replace('\n', "\r\n")).unwrap();
+    let output = run_in(&folder, &["class", "in.aag"], b"");
+    assert_eq!(said(&output), "in.aag: its lines end in carriage returns, which are passed over\n");
 }
 
 #[test]
@@ -190,6 +194,17 @@ fn layouts_told() {
                 standard input: its header is one of AIGER 1.9, whose further counts are all 0\n\
                 standard input: its numbers have gaps or another order: inputs are numbered in its order, then gates anew\n";
     gives(&run(&["import"], text.as_bytes()), &due, said);
+}
+
+/// What is said of reading a second graph is said too.
+#[test]
+fn of_two_graphs() {
+    let folder = imported("of_two_graphs");
+    let output = run_in(&folder, &["compare", "graph", "-"], named().replace('\n', "\r\n").as_bytes());
+    let due = "standard input: its lines end in carriage returns, which are passed over\nbefore 6 after 6 saving 0 moved 0 left ";
+    assert!(said(&output).starts_with(due), "{}", said(&output));
+    let output = run_in(&folder, &["picture", "--compare", "graph", "in.aag"], b"");
+    assert_eq!(text(&output.stdout).matches("output 1 sum[2]|").count(), 2);
 }
 
 /// Damaged files change nothing.

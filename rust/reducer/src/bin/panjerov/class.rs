@@ -146,10 +146,20 @@ fn reason(why: String, name: &str) -> String {
     rest.lines().next().unwrap_or_default().into()
 }
 
-/// Settles a file and enters it; what was read, and the settled graph as bytes with its names beside it.
-fn enter(class: &mut Class, file: &Handed) -> Result<(Input, Vec<u8>, Option<String>), String> {
+/// A file that was settled: what was read, the settled graph as bytes, its names beside it, and what is said of reading and of writing.
+struct Entered {
+    input: Input,
+    settled: Vec<u8>,
+    beside: Option<String>,
+    read: Vec<String>,
+    written: Vec<String>,
+}
+
+/// Settles a file and enters it.
+fn enter(class: &mut Class, file: &Handed) -> Result<Entered, String> {
     let input = files::read(file.path.as_deref())?;
-    let Loaded { mut graph, names, .. } = formats::graph_of(&input).map_err(|why| reason(why, &input.name))?;
+    let Loaded { mut graph, names, lines: read, .. } =
+        formats::graph_of(&input).map_err(|why| reason(why, &input.name))?;
     class.enter(&mut graph).map_err(|refusal| match class.all() {
         Ok(all) if all.graphs == MOST_GRAPHS => {
             format!("refused 3: a class has {MOST_GRAPHS} graphs, and this is one more")
@@ -158,20 +168,23 @@ fn enter(class: &mut Class, file: &Handed) -> Result<(Input, Vec<u8>, Option<Str
     })?;
     let path = Path::new(&file.title);
     let format = Format::of_ending(path).unwrap_or(Format::Tagged);
-    let (bytes, _) = formats::bytes_of(&graph, &names, format, Some(path))?;
-    let beside = formats::beside(&names, format, &bytes);
-    Ok((input, bytes, beside))
+    let (settled, written) = formats::bytes_of(&graph, &names, format, Some(path))?;
+    let beside = formats::beside(&names, format, &settled);
+    let written = written.into_iter().map(|line| format!("{}: {line}", file.title)).collect();
+    Ok(Entered { input, settled, beside, read, written })
 }
 
 /// A file's row. What cannot be written ends the work; what cannot be read or settled is told in the row.
-fn row(class: &mut Class, file: &Handed, asked: &Work) -> Result<Row, String> {
+fn row(class: &mut Class, file: &Handed, asked: &Work, lines: &mut Vec<String>) -> Result<Row, String> {
     let before = class.all().map_err(told)?;
-    let (input, settled, beside) = match enter(class, file) {
+    let Entered { input, settled, beside, read, written } = match enter(class, file) {
         Ok(entered) => entered,
         Err(why) => return Ok(Row { title: file.title.clone(), told: Err(why), report: None }),
     };
+    lines.extend(read);
     let mut link = None;
     if let Some(folder) = &asked.output {
+        lines.extend(written);
         let Target { settled: place, report: page } = target(folder, &file.title);
         write(&place, &settled)?;
         files::write_beside(Some(&place), beside.as_deref())?;
@@ -207,12 +220,13 @@ pub fn work(asked: &Work) -> Result<bool, String> {
         places_are_free(folder, &handed)?;
     }
     let working = Progress::of("settling files".into());
-    let (mut class, mut rows) = (Class::new(), Vec::new());
+    let (mut class, mut rows, mut lines) = (Class::new(), Vec::new(), Vec::new());
     for (at, file) in handed.iter().enumerate() {
         working.reached(at + 1, handed.len());
-        rows.push(row(&mut class, file, asked)?);
+        rows.push(row(&mut class, file, asked, &mut lines)?);
     }
     drop(working);
+    lines.iter().for_each(|line| crate::say(line));
     let sheet = Sheet { rows, all: class.all().map_err(told)?, latest: class.latest().map_err(told)? };
     give(&sheet, asked)?;
     Ok(sheet.refused() == 0)

@@ -24,17 +24,19 @@ fn figures(graphs: [&Graph; 2], names: [&str; 2], moves: &[u8]) -> Result<Vec<St
 /// The moves that lead from a graph to another, or the first place that no moves explain.
 pub fn compare(asked: &Work, before: &Input, first: &Graph) -> Result<Given, String> {
     let after = files::read(asked.after.as_deref())?;
-    let second = formats::graph_of(&after)?.graph;
+    let second = formats::graph_of(&after)?;
     let names = [&before.name[..], &after.name];
-    match turned::moves(first, &second) {
+    let mut given = match turned::moves(first, &second.graph) {
         Ok(moves) => {
-            let lines = figures([first, &second], names, &moves)?;
-            Ok(Given::of(sheets::list_of(first, &moves).into_bytes(), lines))
+            let lines = figures([first, &second.graph], names, &moves)?;
+            Given::of(sheets::list_of(first, &moves).into_bytes(), lines)
         }
-        Err(Apart::Wiring(why)) => Ok(Given::different(format!("other wiring: {why}"))),
-        Err(Apart::Bit(_, what)) => Ok(Given::different(format!("no moves: {what}"))),
-        Err(Apart::Refused(why)) => Err(why),
-    }
+        Err(Apart::Wiring(why)) => Given::different(format!("other wiring: {why}")),
+        Err(Apart::Bit(_, what)) => Given::different(format!("no moves: {what}")),
+        Err(Apart::Refused(why)) => return Err(why),
+    };
+    given.lines.splice(..0, second.lines);
+    Ok(given)
 }
 
 /// The short form of a sheet, or whether two end in the same graph.

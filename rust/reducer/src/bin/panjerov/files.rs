@@ -55,8 +55,8 @@ pub fn beside_of(path: &Path) -> PathBuf {
 
 /// What stands in a file of names; nothing where it is there and cannot be read.
 fn read_beside(path: &Path) -> Option<Vec<u8>> {
-    let file = File::open(path).ok().filter(|_| path.is_file())?;
-    Some(read_from(file, MOST_BYTES).unwrap_or_default())
+    // A pipe of that name would be waited for.
+    path.is_file().then(|| File::open(path).and_then(|file| read_from(file, MOST_BYTES)).unwrap_or_default())
 }
 
 /// The most bytes of a list of moves. One with a move for as many nodes as there may be has less than a tenth; the rest is for comments.
