@@ -79,6 +79,8 @@ struct Reader<'a> {
     mended: Mended,
     /// Where the proved import, which puts nothing right, refuses the text.
     strict: Option<Place>,
+    /// Whether the limits of a graph hold; an exported text may have more gates.
+    limited: bool,
 }
 
 fn number(word: &[u8]) -> Option<u32> {
@@ -97,7 +99,13 @@ fn shown(line: &[u8]) -> String {
 
 impl<'a> Reader<'a> {
     fn new(bytes: &'a [u8]) -> Reader<'a> {
-        Reader { bytes, at: 0, line: 0, due: Due::Header, mended: Mended::default(), strict: None }
+        let (due, mended) = (Due::Header, Mended::default());
+        Reader { bytes, at: 0, line: 0, due, mended, strict: None, limited: true }
+    }
+
+    /// Of a text that [`crate::Graph::export`] gave: four ANDs a node may be more gates than a graph may have nodes.
+    fn of_export(text: &'a [u8]) -> Reader<'a> {
+        Reader { limited: false, ..Reader::new(text) }
     }
 
     fn fault(&self, refusal: Refusal, why: String) -> Place {
@@ -186,7 +194,7 @@ impl<'a> Reader<'a> {
             self.mended.numbers = true;
             self.mends(Refusal::WrongNumbering, both);
         }
-        if let Some(why) = over_limit(inputs, gates, outputs, "gate") {
+        if let Some(why) = over_limit(inputs, gates, outputs, "gate").filter(|_| self.limited) {
             return Err(self.fault(Refusal::OverLimit, why));
         }
         Ok(Header { last, inputs, outputs, gates })
@@ -467,9 +475,9 @@ pub(crate) fn strict_place(text: &[u8]) -> Option<Place> {
     reader.strict.or(read.err())
 }
 
-/// The binary form of a text that [`crate::Graph::import`] takes, without what follows its last gate.
+/// The binary form of a text that [`crate::Graph::import`] takes or [`crate::Graph::export`] gave, without what follows its last gate.
 pub fn binary(text: &[u8]) -> Result<Vec<u8>, Place> {
-    let mut reader = Reader::new(text);
+    let mut reader = Reader::of_export(text);
     let Circuit { header, outputs, gates, .. } = reader.ascii()?;
     if let Some(place) = reader.strict {
         return Err(place);
@@ -492,9 +500,9 @@ fn put_delta(bytes: &mut Vec<u8>, mut number: u32) {
     bytes.push(number as u8);
 }
 
-/// How many ANDs and complemented edges a text has that [`crate::Graph::import`] takes.
+/// How many ANDs and complemented edges a text has that [`crate::Graph::import`] takes or [`crate::Graph::export`] gave.
 pub fn counts(text: &[u8]) -> Result<(usize, usize), Place> {
-    let circuit = Reader::new(text).ascii()?;
+    let circuit = Reader::of_export(text).ascii()?;
     let words = circuit.gates.iter().flat_map(|[_, x, y]| [*x, *y]).chain(circuit.outputs.iter().copied());
     Ok((circuit.gates.len(), words.filter(|literal| literal % 2 == 1).count()))
 }

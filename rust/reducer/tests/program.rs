@@ -511,6 +511,14 @@ fn long_input() {
     gives(&run(&["show"], long.as_bytes()), due.as_bytes(), "");
     let comment = format!("c\n{}", "a comment that is long enough\n".repeat(800_000));
     gives(&run(&["show"], (long.clone() + &comment).as_bytes()), due.as_bytes(), "");
+    // More of it than is read: the last name is not a part of one.
+    let named = format!("{long}{}", "i0 a name that is long enough\n".repeat(600_000));
+    let output = run(&["show"], named.as_bytes());
+    assert!(said(&output).ends_with(" further names\n"));
+    assert!(text(&output.stdout).ends_with("\nlocked nodes 0\ninput 1 a name that is long enough\n"));
+    let other = "panjerov: standard input: refused 2: a field has not the tag or the length that is due; \
+                 neither a tagged file nor AIGER begins so\n";
+    stops(&run(&["show"], &vec![0; (1 << 24) + 1]), 1, other);
     let last = long.replacen("\n208192 208191 208190\n", "\n208192 208191 4294967295\n", 1);
     let said = "panjerov: standard input: refused 5: a literal names an index that is not allowed there; line 108193, gate 100000 of \
                 100000: its word 2 is literal 4294967295, which names index 2147483647, and 104095 is the highest allowed there\n";

@@ -184,6 +184,26 @@ fn binary_files() {
     holds(&folder, &["adder.aig", "graph", "graph.names"]);
 }
 
+/// More ANDs than a graph may have nodes, which others read all the same.
+#[test]
+fn many_ands() {
+    let folder = folder("many_ands");
+    let mut large = tagged(&[(1, &[3, 30_000, 1])]);
+    (0..30_000).for_each(|_| large.extend(tagged(&[(2, &[2, 4, 6])])));
+    large.extend(tagged(&[(4, &[8]), (5, &[])]));
+    fs::write(folder.join("large"), large).unwrap();
+    // Five a majority, and the output.
+    let said = as_aiger(120_000, 150_001, 30_000, 0);
+    gives(&run_in(&folder, &["export", "large", "-o", "out.aag"], b""), b"", &said);
+    gives(&run_in(&folder, &["export", "large", "-o", "out.aig"], b""), b"", &said);
+    let starts = |name: &str, due: &[u8]| assert!(fs::read(folder.join(name)).unwrap().starts_with(due), "{name}");
+    starts("out.aag", b"aag 120003 3 0 1 120000\n2\n4\n6\n15\n8 5 7\n");
+    starts("out.aig", b"aig 120003 3 0 1 120000\n15\n\x01\x02");
+    let over = "panjerov: out.aig: refused 3: there are too many inputs, nodes, outputs or graphs of a class; \
+                line 1, the header: it says 120000 gates, and 100000 are the most\n";
+    stops(&run_in(&folder, &["show", "out.aig"], b""), 1, over);
+}
+
 /// What was put right is told, with the file.
 #[test]
 fn layouts_told() {

@@ -40,7 +40,8 @@ pub fn read(path: Option<&Path>) -> Result<Input, String> {
     let mut input = read_front(path, MOST_BYTES + 1)?;
     if input.bytes.len() as u64 > MOST_BYTES {
         // A line that is cut would be another.
-        input.bytes.truncate(input.bytes.iter().rposition(|&byte| byte == b'\n').map_or(0, |end| end + 1));
+        let end = input.bytes.iter().rposition(|&byte| byte == b'\n');
+        input.bytes.truncate(end.map_or(MOST_BYTES as usize, |end| end + 1));
     }
     input.beside = path.and_then(|path| read_beside(&beside_of(path)));
     Ok(input)
