@@ -154,6 +154,14 @@ fn form_by_the_ending() {
         let aiger = said(&output).ends_with(&as_aiger(4, 6, 1, 0));
         assert_eq!(aiger, name.contains(".a"), "{name}");
     }
+    if Command::new("dot").arg("-V").output().is_ok() {
+        for (name, begin) in [("out.svg", &b"<?xml"[..]), ("out.png", b"\x89PNG")] {
+            assert_eq!(run_in(&folder, &["settle", "in.aag", "-o", name], b"").status.code(), Some(0), "{name}");
+            assert_eq!(run_in(&folder, &["picture", "in.aag", "-o", "drawn.svg"], b"").status.code(), Some(0));
+            assert!(fs::read(folder.join(name)).unwrap().starts_with(begin), "{name}");
+            assert!(fs::read(folder.join("drawn.svg")).unwrap().starts_with(b"<?xml"));
+        }
+    }
     // What the ending says gives way to what is asked for.
     assert_eq!(run_in(&folder, &["export", "in.aag", "--to", "tagged", "-o", "x.aag"], b"").status.code(), Some(0));
     assert_eq!(fs::read(folder.join("x.aag")).unwrap(), fs::read(folder.join("graph")).unwrap());
@@ -227,21 +235,31 @@ fn of_two_graphs() {
     assert_eq!(text(&output.stdout).matches("output 1 sum[2]|").count(), 2);
 }
 
-/// Damaged files change nothing.
+/// Damaged files that are refused change nothing; of what is accepted, the file that is given is whole.
 #[test]
 fn damaged_files() {
     let folder = folder("damaged_files");
-    fs::write(folder.join("out"), "old").unwrap();
     let adder = b"aig 5 2 0 2 3\n10\n6\n\x02\x02\x03\x02\x01\x02";
-    for at in 0..adder.len() {
-        let mut file = adder.to_vec();
-        file.truncate(at);
-        let output = run_in(&folder, &["settle", "-", "-o", "out"], &file);
-        assert_eq!((output.status.code(), &output.stdout[..]), (Some(1), &b""[..]), "{at}");
-        assert!(said(&output).starts_with("panjerov: standard input: refused "), "{at}");
+    let changed = |at: usize, byte: u8| [&adder[..at], &[byte], &adder[at + 1..]].concat();
+    let files = (0..adder.len()).flat_map(|at| [adder[..at].to_vec(), changed(at, 0xff), changed(at, b'1')]);
+    let mut refused = 0;
+    for file in files {
+        fs::write(folder.join("in"), &file).unwrap();
+        fs::write(folder.join("out"), "old").unwrap();
+        let output = run_in(&folder, &["settle", "in", "-o", "out"], b"");
+        let given = fs::read(folder.join("out")).unwrap();
+        match output.status.code() {
+            Some(0) => assert!(reducer::Graph::load(&given).is_ok(), "{}", file.escape_ascii()),
+            status => {
+                assert_eq!((status, &given[..], &output.stdout[..]), (Some(1), &b"old"[..], &b""[..]));
+                assert!(said(&output).starts_with("panjerov: in: refused "), "{}", said(&output));
+                refused += 1;
+            }
+        }
+        assert_eq!(fs::read(folder.join("in")).unwrap(), file);
+        holds(&folder, &["in", "out"]);
     }
-    assert_eq!(fs::read(folder.join("out")).unwrap(), b"old");
-    holds(&folder, &["out"]);
+    assert!((60..75).contains(&refused), "{refused}");
 }
 
 /// What is no graph says what makes one of it.
