@@ -183,7 +183,8 @@ Tells of the graph:
 
 Complemented edges from the constant count like all others, also as inputs of
 majorities. The depth is the most nodes on a way from an output down. Locked
-nodes are told as `panjerov unlock` takes them: locked nodes 5 at 7,9-12.
+nodes are told as `panjerov unlock` takes them: locked nodes 5 at 7,9-12. Then
+there is a line for each input and output that has a name: output 3 sum[2].
 ";
 
 const PREVIEW: &str = "\
@@ -206,7 +207,8 @@ is the root with every other node that leads to it through no root. A ROOT that
 is none is refused.
 
 A locked node has move 0, and its line says that it is locked; the line of the
-tree then ends in their number.
+tree then ends in their number. Inputs that the tree reads and outputs that its
+root drives are told after the nodes, where they have names.
 
 With --moves each line is a node's index and its move, for all nodes of the
 tree, as `panjerov apply` takes them, and the first line above goes to standard
