@@ -643,8 +643,9 @@ class _FileReader:
             raise self.fault(6, f"{_told_many(more, 'byte')} more, and none is due")
 
 
-#: What to do about latches.
-_LATCHES = 'make each an input and an output first, by berkeley-abc -c "read_aiger OLD.aig; comb; write_aiger NEW.aig"'
+#: What makes latches inputs and outputs; it reads the binary format alone.
+_COMB = 'berkeley-abc -c "read_aiger OLD.aig; comb; write_aiger NEW.aig"'
+_BINARY_FIRST = 'yosys -p "read_aiger OLD.aag; write_aiger OLD.aig" and '
 
 
 class _TextReader:
@@ -691,7 +692,9 @@ class _TextReader:
         start = 0 if first is None else 1
         numbers = [self.number(word) for word in words[start:]]
         if len(numbers) != many or None in numbers or (start and words[0] != first):
-            due = f'"{first.decode()}" and five numbers are due' if first else ["", "one number is due", "", "three numbers are due"][many]
+            due = "one number is due" if many == 1 else "three numbers are due"
+            if first is not None:
+                due = f'"{first.decode()}" and five numbers are due'
             raise self.fault(10, f"{due}, and {self.shown(line)} stands there")
         return numbers
 
@@ -699,7 +702,8 @@ class _TextReader:
         """M, I, O and A."""
         last, inputs, latches, outputs, gates = self.numbers("the header", 5, first)
         if latches:
-            raise self.fault(11, f"it says {latches} {'latch' if latches == 1 else 'latches'}; {_LATCHES}")
+            many, before = "latch" if latches == 1 else "latches", _BINARY_FIRST if first == b"aag" else ""
+            raise self.fault(11, f"it says {latches} {many}; make each an input and an output first, by {before}{_COMB}")
         if last != inputs + gates:
             raise self.fault(12, f"M is {last}, and I + A is {inputs + gates}")
         over = _over_limit(inputs, gates, outputs, "gate")

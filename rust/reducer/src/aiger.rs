@@ -8,7 +8,7 @@ use std::collections::HashMap;
 use std::fmt;
 
 use crate::names::Names;
-use crate::place::{count, over_limit, too_high, Place};
+use crate::place::{over_limit, too_high, Place};
 use crate::Refusal;
 
 /// An AIGER file as plain text.
@@ -182,7 +182,10 @@ impl<'a> Reader<'a> {
     fn header(&mut self, magic: &str) -> Result<Header, Place> {
         let [last, inputs, latches, outputs, gates] = self.counts(magic)?;
         if latches != 0 {
-            let why = format!("it says {}; {LATCHES}", count(latches as usize, "latch").replace("latchs", "latches"));
+            let ending = if latches == 1 { "" } else { "es" };
+            let first = if magic == "aag" { BINARY_FIRST } else { "" };
+            let why =
+                format!("it says {latches} latch{ending}; make each an input and an output first, by {first}{COMB}");
             return Err(self.fault(Refusal::HasLatches, why));
         }
         let all = u64::from(inputs) + u64::from(gates);
@@ -311,9 +314,9 @@ impl<'a> Reader<'a> {
     }
 }
 
-/// What to do about latches.
-const LATCHES: &str = "make each an input and an output first, by \
-                       berkeley-abc -c \"read_aiger OLD.aig; comb; write_aiger NEW.aig\"";
+/// What makes latches inputs and outputs; it reads the binary format alone.
+const COMB: &str = "berkeley-abc -c \"read_aiger OLD.aig; comb; write_aiger NEW.aig\"";
+const BINARY_FIRST: &str = "yosys -p \"read_aiger OLD.aag; write_aiger OLD.aig\" and ";
 
 /// Gives each index that a circuit defines its number: inputs in their order, then gates, each after those that it reads.
 struct Numbering {

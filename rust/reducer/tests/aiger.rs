@@ -95,9 +95,13 @@ fn layouts() {
 
 #[test]
 fn refusals() {
-    let latches = "it says 2 latches; make each an input and an output first, by berkeley-abc -c \"read_aiger OLD.aig; comb; write_aiger NEW.aig\"";
-    assert_eq!(refused(b"aag 5 1 2 0 2\n"), format!("11 line 1, the header: {latches}"));
-    assert_eq!(refused(b"aig 5 1 2 0 2\n"), format!("11 line 1, the header: {latches}"));
+    let latches = "11 line 1, the header: it says 2 latches; make each an input and an output first, by";
+    let (yosys, abc) = (
+        "yosys -p \"read_aiger OLD.aag; write_aiger OLD.aig\"",
+        "berkeley-abc -c \"read_aiger OLD.aig; comb; write_aiger NEW.aig\"",
+    );
+    assert_eq!(refused(b"aag 5 1 2 0 2\n"), format!("{latches} {yosys} and {abc}"));
+    assert_eq!(refused(b"aig 5 1 2 0 2\n"), format!("{latches} {abc}"));
     let counts =
         "the counts after the fifth are of bad states, constraints, justice and fairness, of which none can be read";
     assert_eq!(refused(b"aag 1 1 0 0 0 1\n2\n2\n"), format!("10 line 1, the header: {counts}"));

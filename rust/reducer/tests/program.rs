@@ -388,7 +388,7 @@ fn refused_texts() {
     let over = "refused 3: there are too many inputs, nodes, outputs or graphs of a class";
     let good = "aag 3 2 0 1 1\n2\n4\n6\n6 5 2\n";
     let latches = "it says 1 latch; make each an input and an output first, by \
-                   berkeley-abc -c \"read_aiger OLD.aig; comb; write_aiger NEW.aig\"";
+                   yosys -p \"read_aiger OLD.aag; write_aiger OLD.aig\" and berkeley-abc -c \"read_aiger OLD.aig; comb; write_aiger NEW.aig\"";
     let header = "line 1, the header";
     for (from, to, place, why, refusal) in [
         ("aag 3", "aag3", header, "\"aag\" and five numbers are due, and \"aag3 2 0 1 1\" stands there", bad_text),

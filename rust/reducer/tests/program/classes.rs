@@ -50,13 +50,13 @@ fn a_sheet_for_programs() {
     fs::write(folder.join("a, \"b\""), "aag 1 1 1 1 0\n").unwrap();
     let due = "row,file,graphs,before,after,fall,rounds,cells_before,cells_after,reason\n\
                file,p1,1,4,0,4,2,57,5,\n\
-               refused,\"a, \"\"b\"\"\",0,,,,,,,\"refused 11: there are latches; line 1, the header: it says 1 latch; make each an input and an output first, by berkeley-abc -c \"\"read_aiger OLD.aig; comb; write_aiger NEW.aig\"\"\"\n\
+               refused,\"a, \"\"b\"\"\",0,,,,,,,\"refused 11: there are latches; line 1, the header: it says 1 latch; make each an input and an output first, by yosys -p \"\"read_aiger OLD.aag; write_aiger OLD.aig\"\" and berkeley-abc -c \"\"read_aiger OLD.aig; comb; write_aiger NEW.aig\"\"\"\n\
                all,,1,4,0,4,2,57,5,\n\
                latest,,1,4,0,4,2,57,5,\n";
     told(&run_in(&folder, &["class", "p1", "a, \"b\"", "--csv"], b""), 1, due);
     let due = "{\n  \"files\": [\n    \
                {\"file\": \"p1\", \"before\": 4, \"after\": 0, \"fall\": 4, \"rounds\": 2, \"cells_before\": 57, \"cells_after\": 5},\n    \
-               {\"file\": \"a, \\\"b\\\"\", \"refused\": \"refused 11: there are latches; line 1, the header: it says 1 latch; make each an input and an output first, by berkeley-abc -c \\\"read_aiger OLD.aig; comb; write_aiger NEW.aig\\\"\"}\n  ],\n  \
+               {\"file\": \"a, \\\"b\\\"\", \"refused\": \"refused 11: there are latches; line 1, the header: it says 1 latch; make each an input and an output first, by yosys -p \\\"read_aiger OLD.aag; write_aiger OLD.aig\\\" and berkeley-abc -c \\\"read_aiger OLD.aig; comb; write_aiger NEW.aig\\\"\"}\n  ],\n  \
                \"all\": {\"graphs\": 1, \"before\": 4, \"after\": 0, \"fall\": 4, \"rounds\": 2, \"cells_before\": 57, \"cells_after\": 5},\n  \
                \"latest\": {\"graphs\": 1, \"before\": 4, \"after\": 0, \"fall\": 4, \"rounds\": 2, \"cells_before\": 57, \"cells_after\": 5},\n  \
                \"refused\": 1\n}\n";
