@@ -267,7 +267,7 @@ fn damaged_files() {
 fn other_files() {
     let wrong = "panjerov: standard input: refused 2: a field has not the tag or the length that is due";
     let yosys = "it looks like Verilog, of which yosys makes AIGER: \
-                 yosys -p \"read_verilog FILE.v; synth -flatten; aigmap; opt_clean; write_aiger -symbols NEW.aig\"";
+                 yosys -p \"read_verilog FILE.v; synth -auto-top -flatten; aigmap; opt_clean; write_aiger -symbols NEW.aig\"";
     stops(&run(&["show"], b"// an adder\nmodule adder (a);\n"), 1, &format!("{wrong}; {yosys}\n"));
     let abc = "it looks like BLIF, of which berkeley-abc makes AIGER: \
                berkeley-abc -c \"read_blif FILE.blif; strash; write_aiger -s NEW.aig\"";

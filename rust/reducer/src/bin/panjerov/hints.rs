@@ -5,7 +5,7 @@ use reducer::Refused;
 
 /// What makes AIGER of Verilog.
 const VERILOG: &str = "it looks like Verilog, of which yosys makes AIGER: \
-                       yosys -p \"read_verilog FILE.v; synth -flatten; aigmap; opt_clean; write_aiger -symbols NEW.aig\"";
+                       yosys -p \"read_verilog FILE.v; synth -auto-top -flatten; aigmap; opt_clean; write_aiger -symbols NEW.aig\"";
 /// What makes AIGER of BLIF.
 const BLIF: &str = "it looks like BLIF, of which berkeley-abc makes AIGER: \
                     berkeley-abc -c \"read_blif FILE.blif; strash; write_aiger -s NEW.aig\"";
