@@ -13,8 +13,12 @@ mod assignments;
 mod classes;
 #[path = "program/found.rs"]
 mod found;
+#[path = "program/habits.rs"]
+mod habits;
 #[path = "program/joins.rs"]
 mod joins;
+#[path = "program/json.rs"]
+mod json;
 #[path = "program/locks.rs"]
 mod locks;
 #[path = "program/moves.rs"]
@@ -228,10 +232,19 @@ fn previewing_moves_alone() {
 
 #[test]
 fn previewing_without_a_root() {
-    gives(&run(&["preview"], &p2()), b"roots 1\nroot 7 nodes 2 majorities 2 xors 0\n", "");
-    let due = "roots 2\nroot 4 nodes 1 majorities 1 xors 0\nroot 6 nodes 2 majorities 1 xors 1\n";
+    gives(&run(&["preview"], &p2()), b"roots 1\nroot 7 nodes 2 majorities 2 xors 0 saving 2\n", "");
+    let due = "roots 2\nroot 4 nodes 1 majorities 1 xors 0 saving 3\nroot 6 nodes 2 majorities 1 xors 1 saving 2\n";
     gives(&run(&["preview", "-"], &two_trees()), due.as_bytes(), "");
+    gives(&run(&["preview", "--sort", "index"], &two_trees()), due.as_bytes(), "");
     gives(&run(&["preview"], b"aag 1 1 0 1 0\n2\n3\n"), b"roots 0\n", "");
+    // Root 5 saves most; 4 and 6 save alike, and stay in their order.
+    let three =
+        [(1, &[3, 3, 3][..]), (2, &[3, 5, 6]), (2, &[3, 5, 7]), (2, &[2, 5, 7]), (4, &[8]), (4, &[11]), (4, &[12])];
+    let three = tagged(&[&three[..], &[(5, &[])]].concat());
+    let line = |root, saving| format!("root {root} nodes 1 majorities 1 xors 0 saving {saving}\n");
+    let [four, five, six] = [line(4, 0), line(5, 4), line(6, 0)];
+    gives(&run(&["preview"], &three), format!("roots 3\n{four}{five}{six}").as_bytes(), "");
+    gives(&run(&["preview", "--sort", "saving"], &three), format!("roots 3\n{five}{four}{six}").as_bytes(), "");
 }
 
 #[test]

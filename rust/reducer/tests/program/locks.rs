@@ -165,7 +165,8 @@ fn previewing_locks() {
     gives(&run(&["preview", "-", "7"], &p2_locked(&[6])), due.as_bytes(), "");
     let line = "root 7 before 4 after 2 saving 2 own 2 others 0\nlocked in the tree: 7\n";
     gives(&run(&["preview", "-", "7", "--moves"], &p2_locked(&[7])), b"6 1\n7 0\n", line);
-    gives(&run(&["preview"], &p2_locked(&[6, 7])), b"roots 1\nroot 7 nodes 2 majorities 2 xors 0 locked 2\n", "");
+    let due = b"roots 1\nroot 7 nodes 2 majorities 2 xors 0 locked 2 saving 0\n";
+    gives(&run(&["preview"], &p2_locked(&[6, 7])), due, "");
 }
 
 #[test]

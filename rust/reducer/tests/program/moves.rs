@@ -25,6 +25,7 @@ fn applying() {
     gives(&run_in(&folder, &["apply", "in", "moves"], b""), &p2_turned(), MADE);
     gives(&run_in(&folder, &["apply", "-", "moves"], &p2()), &p2_turned(), MADE);
     gives(&run_in(&folder, &["apply", "in", "-"], b"6 1\r\n7 0"), &p2_turned(), MADE);
+    gives(&run_in(&folder, &["apply", "in", "-"], b"6 1 # drawn again\n7 0# stays\n"), &p2_turned(), MADE);
     // Its own place, and back again.
     gives(&run_in(&folder, &["apply", "in", "moves", "-o", "in"], b""), b"", MADE);
     let back = "inputs 5 nodes 2 outputs 1 before 2 after 4 saving -2 listed 2 moved 1\n";

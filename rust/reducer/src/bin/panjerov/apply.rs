@@ -1,5 +1,6 @@
 //! Moves that a text lists, a line a node, and what `panjerov apply` tells of them.
 
+use crate::figures::Figures;
 use crate::files::Input;
 use crate::locks;
 use crate::nodes;
@@ -29,12 +30,12 @@ fn not_understood(line: &str) -> String {
     format!("a line is a node's index and its move, such as 7 1, and not {}", shown.escape_debug())
 }
 
-/// The entry of a line, or none where the line is passed over.
+/// The entry of a line, or none where the line has none. What follows a # is a comment.
 fn entry(line: usize, text: &str) -> Result<Option<Entry>, String> {
-    let words: Vec<&str> = text.split_ascii_whitespace().collect();
+    let before = text.split('#').next().unwrap_or_default();
+    let words: Vec<&str> = before.split_ascii_whitespace().collect();
     match words[..] {
         [] => Ok(None),
-        [first, ..] if first.starts_with('#') => Ok(None),
         [node, number] => match (locks::number(node), locks::number(number)) {
             (Some(node), Some(number)) => Ok(Some(Entry { line, node, number })),
             _ => Err(not_understood(text.trim())),
@@ -93,14 +94,15 @@ pub fn each_is_a_move(graph: &Graph, moves: &Input, entries: &[Entry]) -> Result
 }
 
 /// Makes the moves that are listed, all or none, on a graph that the library has admitted; the figures.
-pub fn make(graph: &mut Graph, moves: &Input) -> Result<String, String> {
+pub fn make(graph: &mut Graph, moves: &Input) -> Result<Figures, String> {
     let entries = listed(moves)?;
     let (list, bytes): (Vec<u32>, Vec<u8>) = entries.iter().map(|entry| (entry.node, entry.byte())).unzip();
     let before = graph.complemented_edges().map_err(|refusal| refusal.to_string())?;
     let saving = graph.many(&list, &bytes).map_err(|refusal| refused(graph, moves, &entries, refusal))?;
     let after = i64::from(before) - saving;
     let moved = bytes.iter().filter(|&&number| number != 0).count();
-    Ok(format!("before {before} after {after} saving {saving} listed {} moved {moved}", list.len()))
+    let edges = Figures::of("before", before).with("after", after).with("saving", saving);
+    Ok(edges.with("listed", list.len()).with("moved", moved))
 }
 
 #[cfg(test)]
@@ -128,9 +130,21 @@ mod tests {
         assert_eq!(entries("3 1\n4 0\n"), due(&[(1, 3, 1), (2, 4, 0)]));
         assert_eq!(entries("# first\n\n  3\t1 \r\n#\r\n\r\n007 300"), due(&[(3, 3, 1), (6, 7, 300)]));
         assert_eq!(entries("4294967295 4294967295"), due(&[(1, u32::MAX, u32::MAX)]));
-        for bad in
-            ["3", "3 1 0", "x 1", "3 x", "-3 1", "3 -1", "3 +1", "3,1", "3 1 # turned", "4294967296 0", "3 4294967296"]
-        {
+        assert_eq!(entries("3 1 # turned\n4 2# and\r\n5 0 ## 3 1\n"), due(&[(1, 3, 1), (2, 4, 2), (3, 5, 0)]));
+        for bad in [
+            "3",
+            "3 1 0",
+            "x 1",
+            "3 x",
+            "-3 1",
+            "3 -1",
+            "3 +1",
+            "3,1",
+            "3 # 1",
+            "3 1 0 # no",
+            "4294967296 0",
+            "3 4294967296",
+        ] {
             let why = format!("moves, line 2: a line is a node's index and its move, such as 7 1, and not {bad}");
             assert_eq!(entries(&format!("3 1\n{bad}\n9 9 9\n")), Err(why));
         }

@@ -1,5 +1,6 @@
 //! Assignments for a wanted output pattern.
 
+use crate::figures::{Figures, Value};
 use crate::locks::number;
 use crate::parts::count;
 use crate::picture::Named;
@@ -105,29 +106,44 @@ fn given_by(graph: &Graph, wanted: &[u8], first: u32) -> Result<u64, Refusal> {
     Ok(wanted.iter().zip(results).map(agrees).fold(u64::MAX, |all, one| all & one))
 }
 
-/// The least assignment in words, with the outputs under it.
-fn told(graph: &Graph, assignment: u32) -> Result<String, String> {
+/// The least assignment, with the inputs and the outputs under it.
+fn told(graph: &Graph, assignment: u32) -> Result<Given, Refusal> {
     let inputs = (1..=graph.size.inputs).map(|input| u64::from(bit(assignment, input)));
     let place = assignment % 64;
-    let results = graph.evaluate(&words(graph, assignment - place)).map_err(|refusal| refusal.to_string())?;
-    let outputs = results.into_iter().map(|word| word >> place & 1);
-    Ok(format!("assignment {assignment}\ninputs{}\noutputs{}\n", listed(inputs), listed(outputs)))
+    let results = graph.evaluate(&words(graph, assignment - place))?;
+    let outputs = results.iter().map(|word| word >> place & 1);
+    let text =
+        format!("assignment {assignment}\ninputs{}\noutputs{}\n", listed(inputs.clone()), listed(outputs.clone()));
+    let [inputs, outputs] = [bits(inputs), bits(outputs)];
+    let figures = Figures::of("assignment", assignment).with("inputs", inputs).with("outputs", outputs);
+    Ok(Given::of(text.into_bytes(), figures))
 }
 
-/// A line for each assignment from the least on: its number, and its inputs from input 1 on.
-fn all(graph: &Graph, wanted: &[u8], least: u32, working: &Progress) -> Result<(String, u32), Refusal> {
-    let (mut text, mut found, end) = (String::new(), 0, 1u32 << graph.size.inputs);
+fn bits(bits: impl Iterator<Item = u64>) -> Value {
+    bits.map(|bit| bit as u8).collect()
+}
+
+/// The assignments from the least on.
+fn all(graph: &Graph, wanted: &[u8], least: u32, working: &Progress) -> Result<Vec<u32>, Refusal> {
+    let (mut found, end) = (Vec::new(), 1u32 << graph.size.inputs);
     for first in (least - least % 64..end).step_by(64) {
         working.reached(first as usize + 1, end as usize);
         let agree = given_by(graph, wanted, first)?;
-        for assignment in (first..end.min(first + 64)).filter(|assignment| agree >> (assignment % 64) & 1 == 1) {
-            let inputs: String =
-                (1..=graph.size.inputs).map(|input| char::from(b'0' + bit(assignment, input) as u8)).collect();
-            text += &format!("{assignment} {inputs}\n");
-            found += 1;
-        }
+        found.extend((first..end.min(first + 64)).filter(|assignment| agree >> (assignment % 64) & 1 == 1));
     }
-    Ok((text, found))
+    Ok(found)
+}
+
+/// A line for each assignment: its number, and its inputs from input 1 on.
+fn all_told(graph: &Graph, found: Vec<u32>) -> Given {
+    let sign = |assignment, input| char::from(b'0' + bit(assignment, input) as u8);
+    let line = |&assignment: &u32| {
+        let inputs: String = (1..=graph.size.inputs).map(|input| sign(assignment, input)).collect();
+        format!("{assignment} {inputs}\n")
+    };
+    let text: String = found.iter().map(line).collect();
+    let figures = Figures::of("found", found.len()).with("of", 1u32 << graph.size.inputs);
+    Given::of(text.into_bytes(), figures.with("assignments", found.into_iter().collect::<Value>())).told()
 }
 
 /// The least assignment that gives a pattern, or all that do; status 1 where there is none.
@@ -136,13 +152,14 @@ pub fn of(named: Named, pattern: &[String], every: bool, working: &Progress) -> 
     let wanted = wanted(named, pattern)?;
     let found = graph.assignment_for(&wanted).map_err(|refusal| refused(graph, refusal))?;
     let Some(least) = found else {
-        return Ok(Given::different("none".into()));
+        let none = Given::of(b"none\n".to_vec(), Figures::of("assignment", Value::Nothing));
+        return Ok(Given { status: 1, ..none });
     };
-    if !every {
-        return Ok(Given::of(told(graph, least)?.into_bytes(), vec![]));
-    }
-    let (text, many) = all(graph, &wanted, least, working).map_err(|refusal| refusal.to_string())?;
-    Ok(Given::of(text.into_bytes(), vec![format!("found {many} of {}", 1u32 << graph.size.inputs)]))
+    let given = match every {
+        true => all(graph, &wanted, least, working).map(|found| all_told(graph, found)),
+        false => told(graph, least),
+    };
+    given.map_err(|refusal| refusal.to_string())
 }
 
 #[cfg(test)]

@@ -226,7 +226,7 @@ pub fn work(asked: &Work) -> Result<bool, String> {
         rows.push(row(&mut class, file, asked, &mut lines)?);
     }
     drop(working);
-    lines.iter().for_each(|line| crate::say(line));
+    lines.iter().filter(|_| !asked.quiet).for_each(|line| crate::say(line));
     let sheet = Sheet { rows, all: class.all().map_err(told)?, latest: class.latest().map_err(told)? };
     give(&sheet, asked)?;
     Ok(sheet.refused() == 0)

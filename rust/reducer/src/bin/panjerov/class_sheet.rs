@@ -1,5 +1,6 @@
 //! The sheet of a class: as text, as CSV and as JSON.
 
+use crate::figures::literal;
 use reducer::Figures;
 
 /// The forms beside plain text.
@@ -113,17 +114,6 @@ pub fn csv(sheet: &Sheet) -> String {
     format!("{head}{rows}{}{}", sum("all", &sheet.all), sum("latest", &sheet.latest))
 }
 
-/// A text of JSON.
-fn literal(text: &str) -> String {
-    let escaped = text.chars().map(|sign| match sign {
-        '"' => "\\\"".into(),
-        '\\' => "\\\\".into(),
-        sign if sign < ' ' => format!("\\u{:04x}", sign as u32),
-        sign => sign.to_string(),
-    });
-    format!("\"{}\"", escaped.collect::<String>())
-}
-
 fn members(figures: &Figures) -> String {
     let names = ["before", "after", "fall", "rounds", "cells_before", "cells_after"];
     let told = names.iter().zip(numbers(figures)).map(|(name, number)| format!("\"{name}\": {number}"));
@@ -153,10 +143,6 @@ mod tests {
     #[test]
     fn words() {
         assert_eq!(["a b", "a,b", "a\"b", ""].map(quoted), ["a b", "\"a,b\"", "\"a\"\"b\"", ""]);
-        assert_eq!(
-            ["a b", "\"\\", "\n\u{1}", "\u{e9}"].map(literal),
-            ["\"a b\"", "\"\\\"\\\\\"", "\"\\u000a\\u0001\"", "\"\u{e9}\""]
-        );
         let fell = |fall, total_before| percent(tenths(&Figures { fall, total_before, ..Figures::default() }));
         assert_eq!(
             [fell(0, 0), fell(0, 3), fell(1, 3), fell(2, 3), fell(3, 3)],

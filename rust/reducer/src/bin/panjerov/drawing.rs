@@ -1,5 +1,6 @@
 //! What `panjerov picture` gives.
 
+use crate::figures::Figures;
 use crate::files::{self, Input};
 use crate::formats::{self, Format};
 use crate::graphviz::Form;
@@ -32,11 +33,17 @@ fn part_of(asked: &Work, graph: &Graph, input: &Input) -> Result<Part, String> {
     Part::of(graph, asked.wanted).map_err(|why| format!("{}: {why}", input.name))
 }
 
+/// How many boxes are drawn, and whether that is all of the graph.
+fn drawn(part: &Part) -> Figures {
+    let figures = Figures::of("inputs", part.inputs.len()).with("nodes", part.nodes.len());
+    figures.with("beyond", part.beyond.len()).with("outputs", part.outputs.len()).with("whole", part.whole)
+}
+
 /// Draws a part of a graph, or all of it.
 pub fn draw(asked: &Work, input: &Input, named: Named) -> Result<Given, String> {
     let part = part_of(asked, named.0, input)?;
     let bytes = formed(asked, picture::of(named, &part, &input.title())?)?;
-    Ok(Given::of(bytes, part.line().into_iter().collect()))
+    Ok(Given::of(bytes, drawn(&part)).saying(part.line()))
 }
 
 /// Why two graphs are not compared.
@@ -64,8 +71,9 @@ pub fn compare(asked: &Work, before: &Input, first: Named, format: Format) -> Re
     let part = part_of(asked, graphs[0], before)?;
     let titles = [("before", before), ("after", after)].map(|(which, input)| format!("{which}: {}", input.title()));
     let bytes = formed(asked, picture::compared([first, (&second.graph, &second.names)], &part, &titles)?)?;
-    let lines = second.lines.into_iter().chain(part.line());
-    Ok(Given::of(bytes, lines.chain(said_of(graphs, [&before.name, &after.name], moves)).collect()))
+    let said = said_of(graphs, [&before.name, &after.name], moves);
+    let given = Given::of(bytes, drawn(&part)).saying(part.line()).saying(said);
+    Ok(Given { first: second.lines, ..given })
 }
 
 /// What is said of two graphs of the same wiring: that no moves lead from one to the other, that their locks differ, and which nodes

@@ -2,7 +2,7 @@
 
 use std::ffi::OsString;
 use std::fs::{self, File, Metadata, OpenOptions, Permissions};
-use std::io::{self, Read, Write};
+use std::io::{self, IsTerminal, Read, Write};
 use std::os::unix::fs::{chown, MetadataExt, PermissionsExt};
 use std::path::{Path, PathBuf};
 
@@ -169,8 +169,27 @@ fn write_file(path: &Path, bytes: &[u8]) -> io::Result<()> {
 
 fn write_out(bytes: &[u8]) -> io::Result<()> {
     let mut out = io::stdout().lock();
-    out.write_all(bytes)?;
-    out.flush()
+    match out.write_all(bytes).and_then(|()| out.flush()) {
+        // Who has read enough has closed the pipe, and is told nothing.
+        Err(error) if error.kind() == io::ErrorKind::BrokenPipe => Ok(()),
+        written => written,
+    }
+}
+
+/// Whether a terminal shows these bytes as they are.
+fn is_text(bytes: &[u8]) -> bool {
+    let shown = |sign: char| !sign.is_control() || sign == '\n' || sign == '\t';
+    std::str::from_utf8(bytes).is_ok_and(|text| text.chars().all(shown))
+}
+
+/// That what goes to standard output, unasked, is text where that is a terminal.
+pub fn for_terminals(unasked: bool, bytes: &[u8]) -> Result<(), String> {
+    match unasked && io::stdout().is_terminal() && !is_text(bytes) {
+        true => Err("what is given is no text, and standard output is a terminal: -o FILE writes it to a file, and \
+                     -o - to the terminal all the same"
+            .into()),
+        false => Ok(()),
+    }
 }
 
 /// To the file of this name, or to standard output.
@@ -193,4 +212,17 @@ pub fn write_beside(path: Option<&Path>, names: Option<&str>) -> Result<(), Stri
         fs::remove_file(&beside).map_err(|error| format!("cannot remove {}: {error}", beside.display()))?;
     }
     Ok(())
+}
+
+#[cfg(test)]
+mod tests {
+    use super::*;
+
+    #[test]
+    fn texts() {
+        assert!(is_text(b"") && is_text(b"aag 0 0 0 0 0\n\t") && is_text("\u{e9}".as_bytes()));
+        for bytes in [&b"\x01\0\x0c"[..], b"a\0", b"\x1b[2J", b"\xff", b"\x7f"] {
+            assert!(!is_text(bytes), "{bytes:?}");
+        }
+    }
 }

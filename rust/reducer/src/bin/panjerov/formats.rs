@@ -2,6 +2,7 @@
 
 use std::path::Path;
 
+use crate::figures::Figures;
 use crate::files::Input;
 use crate::graphviz::{self, Form};
 use crate::hints;
@@ -184,22 +185,23 @@ pub fn beside(names: &Names, format: Format, bytes: &[u8]) -> Option<String> {
     })
 }
 
-/// The graph in the format that is asked for, after lines that are said in any case.
+/// The graph in the format that is asked for.
 pub fn formed(
     asked: &Work,
     graph: &Graph,
     names: &Names,
     otherwise: Format,
-    mut lines: Vec<String>,
+    figures: Figures,
 ) -> Result<Given, String> {
     let format = wanted(asked, otherwise);
     let none = Names::none(graph.size.inputs, graph.size.outputs);
     let names = if asked.no_symbols { &none } else { names };
-    let (bytes, said) = bytes_of(graph, names, format, asked.output.as_deref())?;
-    lines.extend(said);
+    let (bytes, mut lines) = bytes_of(graph, names, format, asked.output.as_deref())?;
     let beside = beside(names, format, &bytes);
-    if asked.output.is_none() && beside.as_ref().is_some_and(|text| !text.is_empty()) {
+    // With --json and no file nothing is given that could lose them.
+    let lost = asked.output.is_none() && !asked.json;
+    if lost && beside.as_ref().is_some_and(|text| !text.is_empty()) {
         lines.push("names are lost: a tagged file has them in a file beside it, which -o FILE makes".into());
     }
-    Ok(Given { beside, ..Given::of(bytes, lines) })
+    Ok(Given { beside, lines, ..Given::of(bytes, figures) })
 }

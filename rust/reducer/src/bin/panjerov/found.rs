@@ -1,8 +1,8 @@
 //! Hidden majorities found, and what is told of it.
 
-use crate::locks;
+use crate::figures::Figures;
 use crate::nodes::{is_xor, words_of};
-use reducer::Graph;
+use reducer::{Graph, Refusal};
 
 /// Whether a node of a graph that the library has admitted is a majority of three different inputs or nodes.
 fn is_majority(graph: &Graph, node: u32) -> bool {
@@ -12,19 +12,21 @@ fn is_majority(graph: &Graph, node: u32) -> bool {
 }
 
 /// Nodes, majorities of three different inputs or nodes, and complemented edges.
-fn told(graph: &Graph) -> Result<String, String> {
-    let complemented = graph.complemented_edges().map_err(|refusal| refusal.to_string())?;
+fn told(graph: &Graph) -> Result<Figures, Refusal> {
     let (inputs, nodes) = (graph.size.inputs, graph.size.nodes);
     let majorities = (inputs + 1..=inputs + nodes).filter(|&node| is_majority(graph, node)).count();
-    Ok(format!("nodes {nodes} majorities {majorities} complemented {complemented}"))
+    Figures::of("nodes", nodes).with("majorities", majorities).complemented(graph)
 }
 
-/// Finds them; a line for what was there before, and one for what is there after.
-pub fn find(graph: &mut Graph) -> Result<Vec<String>, String> {
+fn found(graph: &mut Graph) -> Result<Figures, Refusal> {
     let before = told(graph)?;
-    graph.find().map_err(|refusal| refusal.to_string())?;
-    let (after, locked) = (told(graph)?, locks::words(graph));
-    Ok(vec![format!("before {before}"), format!("after {after}{locked}")])
+    graph.find()?;
+    Ok(Figures::of("before", before).with("after", told(graph)?.locked(graph)))
+}
+
+/// Finds them; the figures of what was there before, and of what is there after.
+pub fn find(graph: &mut Graph) -> Result<Figures, String> {
+    found(graph).map_err(|refusal| refusal.to_string())
 }
 
 #[cfg(test)]

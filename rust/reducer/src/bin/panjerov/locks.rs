@@ -98,14 +98,6 @@ pub fn told(indices: &[u32]) -> String {
     }
 }
 
-/// The words that figures of a graph with locks end in.
-pub fn words(graph: &Graph) -> String {
-    match graph.locked() {
-        0 => String::new(),
-        locked => format!(" locked {locked}"),
-    }
-}
-
 /// What is said where a graph with locks is given as AIGER text.
 pub fn lost(graph: &Graph) -> Option<String> {
     lost_in(graph, "AIGER")
@@ -182,9 +174,9 @@ mod tests {
         assert_eq!(set_words(&mut g, "0", false), why(0));
         assert_eq!(g, kept);
         assert_eq!(set_words(&mut g, "all", true), Ok(()));
-        assert_eq!((listed(&of(&g)), words(&g)), ("6-11".into(), " locked 6".into()));
+        assert_eq!(listed(&of(&g)), "6-11");
         assert_eq!(set_words(&mut g, "all", false), Ok(()));
-        assert_eq!((told(&of(&g)), words(&g), lost(&g)), ("0".into(), String::new(), None));
+        assert_eq!((told(&of(&g)), lost(&g)), ("0".into(), None));
         let mut empty = Graph::new(2, vec![], vec![2]);
         assert_eq!(set_words(&mut empty, "all", true), Ok(()));
         let none = "refused 7: there is no such node, root or word; 3 is no node: there are no nodes";

@@ -9,6 +9,7 @@ mod class_page;
 mod class_sheet;
 mod compared;
 mod drawing;
+mod figures;
 mod files;
 mod formats;
 mod found;
@@ -17,6 +18,7 @@ mod help;
 mod hints;
 mod join;
 mod locks;
+mod near;
 mod nodes;
 mod parts;
 mod picture;
@@ -24,6 +26,7 @@ mod preview;
 mod progress;
 mod report;
 mod resistive;
+mod savings;
 mod sheets;
 mod show;
 mod trees;
@@ -33,10 +36,11 @@ mod words;
 use std::io::{self, Write};
 use std::process::ExitCode;
 
+use figures::Figures;
 use files::Input;
 use formats::{formed, Format, Loaded};
 use progress::Progress;
-use reducer::{Graph, Names, Settled, Size};
+use reducer::{Graph, Names, Settled};
 use words::{Asked, Command, Work};
 
 /// A line on standard error. Where that cannot be written to, nobody reads it.
@@ -44,21 +48,22 @@ fn say(line: &str) {
     let _ = writeln!(io::stderr(), "{line}");
 }
 
-fn sizes_of(graph: &Graph) -> String {
-    let Size { inputs, nodes, outputs } = graph.size;
-    format!("inputs {inputs} nodes {nodes} outputs {outputs}")
-}
-
-/// The line with the figures of settling.
-fn figures_of(graph: &Graph, settled: Settled) -> String {
+/// The figures of settling.
+fn figures_of(graph: &Graph, settled: Settled) -> Figures {
     let Settled { rounds, before, after, own, others } = settled;
-    let (sizes, locked) = (sizes_of(graph), locks::words(graph));
-    format!("{sizes} before {before} after {after} rounds {rounds} own {own} others {others}{locked}")
+    let edges = Figures::sizes(graph).with("before", before).with("after", after);
+    edges.with("rounds", rounds).with("own", own).with("others", others).locked(graph)
 }
 
-/// What a command gives, the lines beside it, and the exit status.
+/// What a command gives, its figures, what is said beside it, and the exit status.
 struct Given {
     bytes: Vec<u8>,
+    figures: Figures,
+    /// What was put right or left out as files were read.
+    first: Vec<String>,
+    /// Lines of figures, which are said where these are not given as JSON.
+    told: Vec<String>,
+    /// All other lines.
     lines: Vec<String>,
     status: u8,
     /// What is given is a tagged file: what stands in the file of names beside it, which is empty where there are none.
@@ -66,13 +71,26 @@ struct Given {
 }
 
 impl Given {
-    fn of(bytes: Vec<u8>, lines: Vec<String>) -> Given {
-        Given { bytes, lines, status: 0, beside: None }
+    fn of(bytes: Vec<u8>, figures: Figures) -> Given {
+        Given { bytes, figures, first: vec![], told: vec![], lines: vec![], status: 0, beside: None }
+    }
+
+    /// With its figures in a line.
+    fn told(mut self) -> Given {
+        self.told.push(self.figures.words());
+        self
+    }
+
+    /// With further lines.
+    fn saying(mut self, lines: impl IntoIterator<Item = String>) -> Given {
+        self.lines.extend(lines);
+        self
     }
 
     /// The answer of a comparison that is not the same.
-    fn different(line: String) -> Given {
-        Given { status: 1, ..Given::of(format!("{line}\n").into_bytes(), vec![]) }
+    fn different(line: String, figures: Figures) -> Given {
+        let figures = figures.with("why", &line[..]);
+        Given { status: 1, ..Given::of(format!("{line}\n").into_bytes(), figures) }
     }
 }
 
@@ -82,41 +100,48 @@ fn of_file(input: &Input) -> impl Fn(String) -> String + '_ {
 }
 
 fn settled(asked: &Work, mut graph: Graph, names: &Names) -> Result<Given, String> {
-    let mut lines = if asked.find { found::find(&mut graph)? } else { vec![] };
+    let found = if asked.find { Some(found::find(&mut graph)?) } else { None };
     let settled = graph.settle().map_err(|refusal| refusal.to_string())?;
-    lines.push(figures_of(&graph, settled));
-    formed(asked, &graph, names, Format::Tagged, lines)
+    let figures = figures_of(&graph, settled);
+    let told = [found.iter().flat_map(Figures::lines).collect(), vec![figures.words()]].concat();
+    let figures = found.map_or(Figures::default(), |found| Figures::of("found", found)).and(figures);
+    Ok(Given { told, ..formed(asked, &graph, names, Format::Tagged, figures)? })
 }
 
 fn applied(asked: &Work, mut graph: Graph, names: &Names) -> Result<Given, String> {
     let moves = files::read_moves(asked.moves.as_deref())?;
     let made = apply::make(&mut graph, &moves)?;
-    let line = format!("{} {made}{}", sizes_of(&graph), locks::words(&graph));
-    formed(asked, &graph, names, Format::Tagged, vec![line])
+    let figures = Figures::sizes(&graph).and(made).locked(&graph);
+    Ok(formed(asked, &graph, names, Format::Tagged, figures)?.told())
 }
 
 /// With nodes locked or freed.
 fn relocked(asked: &Work, mut graph: Graph, names: &Names) -> Result<Given, String> {
     locks::set(&mut graph, &asked.nodes, asked.command == Command::Lock)?;
-    let locked = locks::told(&locks::of(&graph));
-    formed(asked, &graph, names, Format::Tagged, vec![format!("{} locked {locked}", sizes_of(&graph))])
+    let (sizes, locked) = (Figures::sizes(&graph), locks::of(&graph));
+    let told = vec![format!("{} locked {}", sizes.words(), locks::told(&locked))];
+    let figures = sizes.locked(&graph).with("locked_nodes", locked.into_iter().collect::<figures::Value>());
+    Ok(Given { told, ..formed(asked, &graph, names, Format::Tagged, figures)? })
+}
+
+/// Sizes, complemented edges and locks.
+fn counted(graph: &Graph) -> Result<Figures, String> {
+    let figures = Figures::sizes(graph).complemented(graph).map_err(|refusal| refusal.to_string())?;
+    Ok(figures.locked(graph))
 }
 
 fn joined(asked: &Work, input: &Input, first: Loaded) -> Result<Given, String> {
-    let Loaded { graph: joined, names, mut lines, .. } = join::chain(input, first, &asked.files)?;
-    let complemented = joined.complemented_edges().map_err(|refusal| refusal.to_string())?;
-    let line = format!("{} complemented {complemented}{}", sizes_of(&joined), locks::words(&joined));
-    lines.push(line);
-    formed(asked, &joined, &names, Format::Tagged, lines)
+    let Loaded { graph: joined, names, lines, .. } = join::chain(input, first, &asked.files)?;
+    let given = formed(asked, &joined, &names, Format::Tagged, counted(&joined)?)?.told();
+    Ok(Given { first: lines, ..given })
 }
 
 /// What is asked for of a graph that was read, after the lines of its reading.
 fn given(asked: &Work, input: &Input, working: &Progress) -> Result<Given, String> {
     let mut loaded = formats::graph_of(input)?;
-    let mut lines = std::mem::take(&mut loaded.lines);
-    let mut given = given_of(asked, input, loaded, working)?;
-    lines.append(&mut given.lines);
-    Ok(Given { lines, ..given })
+    let lines = std::mem::take(&mut loaded.lines);
+    let given = given_of(asked, input, loaded, working)?;
+    Ok(Given { first: [lines, given.first].concat(), ..given })
 }
 
 fn given_of(asked: &Work, input: &Input, loaded: Loaded, working: &Progress) -> Result<Given, String> {
@@ -127,19 +152,24 @@ fn given_of(asked: &Work, input: &Input, loaded: Loaded, working: &Progress) -> 
     match asked.command {
         Command::Settle => settled(asked, graph, &names),
         Command::Find => {
-            let lines = found::find(&mut graph)?;
-            formed(asked, &graph, &names, Format::Tagged, lines)
+            let figures = found::find(&mut graph)?;
+            let told = figures.lines();
+            Ok(Given { told, ..formed(asked, &graph, &names, Format::Tagged, figures)? })
         }
         Command::Resistive => {
-            let lines = resistive::choose(&mut graph, asked.root, working).map_err(of_file(input))?;
-            formed(asked, &graph, &names, Format::Tagged, lines)
+            let figures = resistive::choose(&mut graph, asked.root, working).map_err(of_file(input))?;
+            let told = figures.lines();
+            Ok(Given { told, ..formed(asked, &graph, &names, Format::Tagged, figures)? })
         }
         Command::Apply => applied(asked, graph, &names),
-        Command::Import => formed(asked, &graph, &names, Format::Tagged, vec![]),
-        Command::Export => formed(asked, &graph, &names, Format::Aiger, vec![]),
+        Command::Import => formed(asked, &graph, &names, Format::Tagged, counted(&graph)?),
+        Command::Export => formed(asked, &graph, &names, Format::Aiger, counted(&graph)?),
         Command::Lock | Command::Unlock => relocked(asked, graph, &names).map_err(of_file(input)),
-        Command::Show => Ok(Given::of(show::text_of(&graph, &names, got)?.into_bytes(), vec![])),
-        Command::Preview => preview::of((&graph, &names), asked.root, asked.only_moves).map_err(of_file(input)),
+        Command::Show => {
+            let figures = show::figures_of(&graph, &names, got)?;
+            Ok(Given::of(show::text_of(&graph, &names, got)?.into_bytes(), figures))
+        }
+        Command::Preview => preview::of((&graph, &names), asked, working).map_err(of_file(input)),
         Command::Sheets => compared::sheets(asked, &graph),
         Command::Compare => compared::compare(asked, input, &graph),
         Command::Assign => assign::of((&graph, &names), &asked.pattern, asked.all, working).map_err(of_file(input)),
@@ -150,19 +180,35 @@ fn given_of(asked: &Work, input: &Input, loaded: Loaded, working: &Progress) -> 
     }
 }
 
+/// Writes what is given; with JSON of it the figures, and all else to a file alone.
+fn write(asked: &Work, given: &Given) -> Result<(), String> {
+    let path = asked.output.as_deref();
+    if path.is_some() || !asked.json {
+        files::for_terminals(path.is_none() && !asked.to_standard, &given.bytes)?;
+        files::write(path, &given.bytes)?;
+        files::write_beside(path, given.beside.as_deref())?;
+    }
+    if asked.json {
+        files::write(None, format!("{}\n", given.figures.json()).as_bytes())?;
+    }
+    Ok(())
+}
+
 /// Does what is asked for; the exit status.
 fn work(asked: &Work) -> Result<u8, String> {
+    progress::silence(asked.quiet);
     if asked.command == Command::Class {
         return class::work(asked).map(|all| u8::from(!all));
     }
     let input = files::read(asked.input.as_deref())?;
     let working = Progress::of(format!("{} {}", asked.command.doing(), input.name));
-    let Given { bytes, lines, status, beside } = given(asked, &input, &working)?;
-    files::write(asked.output.as_deref(), &bytes)?;
-    files::write_beside(asked.output.as_deref(), beside.as_deref())?;
+    let given = given(asked, &input, &working)?;
+    write(asked, &given)?;
     drop(working);
-    lines.iter().for_each(|line| say(line));
-    Ok(status)
+    let told = given.told.iter().filter(|_| !asked.json);
+    let lines = given.first.iter().chain(told).chain(&given.lines);
+    lines.filter(|_| !asked.quiet).for_each(|line| say(line));
+    Ok(given.status)
 }
 
 fn run() -> Result<u8, (u8, String)> {

@@ -1,11 +1,19 @@
 //! A line on standard error while work takes more than a second.
 
 use std::io::{self, IsTerminal, Write};
-use std::sync::atomic::{AtomicUsize, Ordering};
+use std::sync::atomic::{AtomicBool, AtomicUsize, Ordering};
 use std::sync::mpsc::{channel, Receiver, RecvTimeoutError, Sender};
 use std::sync::Arc;
 use std::thread::{Builder, JoinHandle};
 use std::time::{Duration, Instant};
+
+/// Whether nothing is said of work.
+static SILENT: AtomicBool = AtomicBool::new(false);
+
+/// Says nothing of work from here on, or something again.
+pub fn silence(silent: bool) {
+    SILENT.store(silent, Ordering::Relaxed);
+}
 
 /// How far the work is, of how much; of nothing where that is not known.
 #[derive(Default)]
@@ -54,7 +62,8 @@ impl Progress {
         let reached = Arc::new(Reached::default());
         let told = reached.clone();
         // Without a thread there is work all the same, and silence.
-        let thread = Builder::new().spawn(move || keep_saying(&what, &told, &notices)).ok();
+        let spawn = || Builder::new().spawn(move || keep_saying(&what, &told, &notices)).ok();
+        let thread = if SILENT.load(Ordering::Relaxed) { None } else { spawn() };
         Progress { work: Some(work), thread, reached }
     }
 

@@ -276,8 +276,8 @@ pub fn of(input: &Input, (graph, names): Named, wanted: Wanted) -> Result<Given,
     let drawn = part.as_ref().ok().and_then(|part| part.line());
     let report = Report { name: input.title(), before: graph, names, after, settled, moves };
     let (section, none) = picture_section(&report, part);
-    let lines = [Some(figures_of(graph, settled)), none.or(drawn)].into_iter().flatten().collect();
-    Ok(Given::of(page(&report, &section).into_bytes(), lines))
+    let given = Given::of(page(&report, &section).into_bytes(), figures_of(graph, settled));
+    Ok(given.told().saying(none.or(drawn)))
 }
 
 #[cfg(test)]

@@ -1,6 +1,6 @@
 //! Trees for resistive memory, which wants majorities with just one complemented input, and what is told of them.
 
-use crate::locks;
+use crate::figures::Figures;
 use crate::nodes::{is_xor, words_of};
 use crate::progress::Progress;
 use crate::trees::{Kinds, Trees};
@@ -14,11 +14,11 @@ pub fn single(graph: &Graph) -> usize {
 }
 
 /// Majorities, those with just one complemented input, and complemented edges.
-fn told(graph: &Graph) -> Result<String, String> {
-    let complemented = graph.complemented_edges().map_err(|refusal| refusal.to_string())?;
+fn told(graph: &Graph) -> Result<Figures, String> {
     let Size { inputs, nodes, .. } = graph.size;
     let majorities = (inputs + 1..=inputs + nodes).filter(|&node| !is_xor(graph, node)).count();
-    Ok(format!("majorities {majorities} single {} complemented {complemented}", single(graph)))
+    let figures = Figures::of("majorities", majorities).with("single", single(graph));
+    figures.complemented(graph).map_err(|refusal| refusal.to_string())
 }
 
 fn refused(graph: &Graph, root: u32, refusal: Refusal) -> String {
@@ -34,8 +34,8 @@ fn roots_to_choose(graph: &Graph) -> Vec<u32> {
     Trees::of(graph).roots().into_iter().filter(|(_, kinds)| !alone(kinds)).map(|(root, _)| root).collect()
 }
 
-/// Chooses the moves of a root's tree, or of all trees by rising root; a line for what was there before, and one for what is there after.
-pub fn choose(graph: &mut Graph, root: Option<u32>, working: &Progress) -> Result<Vec<String>, String> {
+/// Chooses the moves of a root's tree, or of all trees by rising root; the figures of what was there before, and of what is there after.
+pub fn choose(graph: &mut Graph, root: Option<u32>, working: &Progress) -> Result<Figures, String> {
     let before = told(graph)?;
     let roots: Vec<u32> = match root {
         Some(root) => vec![root],
@@ -45,8 +45,7 @@ pub fn choose(graph: &mut Graph, root: Option<u32>, working: &Progress) -> Resul
         working.reached(at + 1, roots.len());
         graph.resistive_call(root).map_err(|refusal| refused(graph, root, refusal))?;
     }
-    let (after, locked) = (told(graph)?, locks::words(graph));
-    Ok(vec![format!("before {before}"), format!("after {after}{locked}")])
+    Ok(Figures::of("before", before).with("after", told(graph)?.locked(graph)))
 }
 
 #[cfg(test)]

@@ -1,6 +1,7 @@
 //! Sheets of moves, in any order and with repetitions: their short form, and whether two of them end in the same graph.
 
 use crate::apply::{self, Entry};
+use crate::figures::{Figures, Value};
 use crate::files::Input;
 use crate::nodes::is_xor;
 use reducer::Graph;
@@ -30,13 +31,19 @@ pub fn list_of(graph: &Graph, moves: &[u8]) -> String {
     moved.map(|(node, number)| format!("{node} {number}\n")).collect()
 }
 
-/// The short form of a sheet, and a line with its figures.
-pub fn short(graph: &Graph, sheet: &Input) -> Result<(String, String), String> {
+/// The same moves as figures.
+pub fn moves_of(graph: &Graph, moves: &[u8]) -> Value {
+    let moved = (graph.size.inputs + 1..).zip(moves).filter(|(_, &number)| number != 0);
+    moved.map(|(node, &number)| Figures::of("node", node).with("move", number)).collect()
+}
+
+/// The short form of a sheet, and its figures.
+pub fn short(graph: &Graph, sheet: &Input) -> Result<(String, Figures), String> {
     let (entries, moves) = read(graph, sheet)?;
     let text = list_of(graph, &moves);
     let short = Input { name: sheet.name.clone(), bytes: text.clone().into_bytes(), ..Input::default() };
     let made = apply::make(&mut graph.clone(), &short)?;
-    Ok((text, format!("lines {} {made}", entries.len())))
+    Ok((text, Figures::of("lines", entries.len()).and(made).with("moves", moves_of(graph, &moves))))
 }
 
 /// The moves of a node in a sheet, and what they make.
@@ -52,14 +59,15 @@ fn told(node: u32, entries: &[Entry], made: u8, sheet: &Input) -> String {
     format!("{listed} {made} in {}", sheet.name)
 }
 
-/// The first node whose moves come to another in two sheets; none where both end in the same graph.
-pub fn first_difference(graph: &Graph, sheets: [&Input; 2]) -> Result<Option<String>, String> {
+/// The first node whose moves come to another in two sheets, and what they come to; none where both end in the same graph.
+pub fn first_difference(graph: &Graph, sheets: [&Input; 2]) -> Result<Option<(u32, String)>, String> {
     let [first, second] = sheets.map(|sheet| read(graph, sheet));
     let (first, second) = (first?, second?);
     let mut nodes = (graph.size.inputs + 1..).zip(first.1.iter().zip(&second.1));
     Ok(nodes.find(|(_, (x, y))| x != y).map(|(node, (&x, &y))| {
         let kind = if is_xor(graph, node) { "xor" } else { "majority" };
-        format!("node {node} {kind}: {}, {}", told(node, &first.0, x, sheets[0]), told(node, &second.0, y, sheets[1]))
+        let [first, second] = [told(node, &first.0, x, sheets[0]), told(node, &second.0, y, sheets[1])];
+        (node, format!("node {node} {kind}: {first}, {second}"))
     }))
 }
 
@@ -114,7 +122,7 @@ mod tests {
     #[test]
     fn differences_in_words() {
         let told = |first: &str, second: &str| {
-            first_difference(&mixed(), [&sheet("a", first), &sheet("b", second)]).unwrap().unwrap_or_default()
+            first_difference(&mixed(), [&sheet("a", first), &sheet("b", second)]).unwrap().unwrap_or_default().1
         };
         assert_eq!(told("4 1\n3 1\n4 2\n", "4 3\n3 1"), "");
         assert_eq!(told("4 1\n4 2\n", "4 2\n"), "node 4 xor: 1 and 2 make 3 in a, 2 makes 2 in b");

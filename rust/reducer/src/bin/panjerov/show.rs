@@ -1,5 +1,6 @@
 //! What `panjerov show` tells.
 
+use crate::figures::{Figures, Value};
 use crate::formats::Format;
 use crate::locks;
 use crate::nodes::{is_xor, output_of, words_of};
@@ -18,6 +19,22 @@ pub fn depth(graph: &Graph) -> u32 {
     (1..=outputs).map(|output| below(&depths, output_of(graph, output))).max().unwrap_or(0)
 }
 
+fn xors(graph: &Graph) -> u32 {
+    let Size { inputs, nodes, .. } = graph.size;
+    (inputs + 1..=inputs + nodes).filter(|&node| is_xor(graph, node)).count() as u32
+}
+
+pub fn figures_of(graph: &Graph, names: &Names, format: Format) -> Result<Figures, String> {
+    let Size { inputs, nodes, outputs } = graph.size;
+    let kinds = Figures::of("format", format.name()).and(Figures::sizes(graph));
+    let kinds = kinds.with("majorities", nodes - xors(graph)).with("xors", xors(graph));
+    let edges = kinds.complemented(graph).map_err(|refusal| refusal.to_string())?;
+    let edges = edges.with("single", single(graph)).with("depth", depth(graph)).locked(graph);
+    let locked = edges.with("locked_nodes", locks::of(graph).into_iter().collect::<Value>());
+    let named = locked.with("input_names", (1..=inputs).map(|at| names.input(at)).collect::<Value>());
+    Ok(named.with("output_names", (1..=outputs).map(|at| names.output(at)).collect::<Value>()))
+}
+
 /// A line for each input and output that has a name.
 pub fn names_of(graph: &Graph, names: &Names) -> String {
     let Size { inputs, outputs, .. } = graph.size;
@@ -29,7 +46,7 @@ pub fn names_of(graph: &Graph, names: &Names) -> String {
 pub fn text_of(graph: &Graph, names: &Names, format: Format) -> Result<String, String> {
     let complemented = graph.complemented_edges().map_err(|refusal| refusal.to_string())?;
     let Size { inputs, nodes, outputs } = graph.size;
-    let xors = (inputs + 1..=inputs + nodes).filter(|&node| is_xor(graph, node)).count() as u32;
+    let xors = xors(graph);
     Ok(format!(
         "format {}\ninputs {inputs} nodes {nodes} outputs {outputs}\nmajorities {} xors {xors}\n\
          complemented edges {complemented}\nmajorities with just one complemented input {}\ndepth {}\nlocked nodes {}\n{}",

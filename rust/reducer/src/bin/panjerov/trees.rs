@@ -1,5 +1,6 @@
 //! The trees of a graph.
 
+use crate::figures::Figures;
 use crate::locks::is_locked;
 use crate::nodes::{is_xor, output_of, words_of};
 use reducer::{Graph, Refusal, Size};
@@ -102,10 +103,14 @@ impl Kinds {
         self.locked += u32::from(locked);
     }
 
-    pub fn told(self) -> String {
+    pub fn figures(self) -> Figures {
         let Kinds { majorities, xors, locked } = self;
-        let locked = if locked == 0 { String::new() } else { format!(" locked {locked}") };
-        format!("nodes {} majorities {majorities} xors {xors}{locked}", majorities + xors)
+        let nodes = Figures::of("nodes", majorities + xors);
+        nodes.with("majorities", majorities).with("xors", xors).with("locked", locked)
+    }
+
+    pub fn told(self) -> String {
+        self.figures().words()
     }
 }
 

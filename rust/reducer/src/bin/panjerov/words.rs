@@ -1,6 +1,7 @@
 //! The words of the command line.
 
-use std::ffi::OsString;
+use std::ffi::{OsStr, OsString};
+use std::os::unix::ffi::OsStrExt;
 use std::path::PathBuf;
 
 use crate::class_sheet::SheetForm;
@@ -8,6 +9,7 @@ use crate::formats::Format;
 use crate::graphviz::Form;
 use crate::help;
 use crate::locks::{self, Named};
+use crate::near;
 use crate::parts::Wanted;
 
 #[derive(Clone, Copy, Debug, PartialEq, Eq)]
@@ -131,6 +133,12 @@ pub struct Work {
     pub command: Command,
     pub input: Option<PathBuf>,
     pub output: Option<PathBuf>,
+    /// Whether standard output is named, by `-o -`: then it is written to whatever it is.
+    pub to_standard: bool,
+    /// Whether the figures are given as JSON.
+    pub json: bool,
+    /// Whether nothing is said beside what is given, but for what goes wrong.
+    pub quiet: bool,
     /// The format that is given; none is that of the ending of the output's name.
     pub to: Option<Format>,
     /// Whether names are left out of what is given.
@@ -145,6 +153,8 @@ pub struct Work {
     pub all: bool,
     /// Whether a preview gives its moves alone.
     pub only_moves: bool,
+    /// Whether the roots of a preview are listed by falling saving.
+    pub by_saving: bool,
     /// Where the moves to make, or those of a sheet, are listed; none is standard input.
     pub moves: Option<PathBuf>,
     /// The sheet beside it, if one is named.
@@ -171,6 +181,9 @@ impl Work {
             command,
             input: None,
             output: None,
+            to_standard: false,
+            json: false,
+            quiet: false,
             to: None,
             no_symbols: false,
             find: false,
@@ -178,6 +191,7 @@ impl Work {
             root: None,
             all: false,
             only_moves: false,
+            by_saving: false,
             moves: None,
             other: None,
             wanted: Wanted::Whole,
@@ -221,7 +235,18 @@ fn help_named(mut words: impl Iterator<Item = OsString>) -> Result<Asked, String
 }
 
 fn no_command(name: &str) -> String {
-    format!("there is no command {name}; `panjerov --help` tells them")
+    let meant = near::meant(name, Command::ALL.iter().map(|command| command.name()));
+    format!("there is no command {name}{meant}; `panjerov --help` tells them")
+}
+
+fn no_option(command: Command, option: &str) -> String {
+    let told = help::of(command);
+    format!("there is no option {option}{}", near::meant(option, help::options(&told)))
+}
+
+/// What `--version` tells.
+fn version() -> String {
+    format!("panjerov {}\n", env!("CARGO_PKG_VERSION"))
 }
 
 /// What is asked for, or what is wrong with the words.
@@ -230,11 +255,11 @@ pub fn asked(mut words: impl Iterator<Item = OsString>) -> Result<Asked, String>
         return Err("a command is missing; `panjerov --help` tells them".into());
     };
     let name = first.to_string_lossy();
-    if name == "--help" || name == "-h" {
-        return Ok(Asked::Help(help::program()));
-    }
-    if name == "help" {
-        return help_named(words);
+    match &name[..] {
+        "--help" | "-h" => return Ok(Asked::Help(help::program())),
+        "--version" | "-V" => return Ok(Asked::Help(version())),
+        "help" => return help_named(words),
+        _ => {}
     }
     match Command::named(&name) {
         Some(command) => asked_of(command, words).map_err(|why| {
@@ -423,7 +448,7 @@ fn put_drawing(work: &mut Work, option: &str, next: impl FnOnce() -> Option<OsSt
         "--png" if picture => return put(&mut work.form, Form::Png, "what Graphviz makes"),
         "--output" => Wanted::Output(number("--output wants which output is drawn (-o names a file)")?),
         "--root" => Wanted::Root(number("--root wants the index of a node")?),
-        _ => return Err(format!("there is no option {option}")),
+        _ => return Err(no_option(work.command, option)),
     };
     match std::mem::replace(&mut work.wanted, wanted) {
         Wanted::Whole => Ok(()),
@@ -431,42 +456,120 @@ fn put_drawing(work: &mut Work, option: &str, next: impl FnOnce() -> Option<OsSt
     }
 }
 
-fn asked_of(command: Command, mut words: impl Iterator<Item = OsString>) -> Result<Asked, String> {
+/// The words of a command line after its command.
+struct Words<I> {
+    rest: I,
+    /// What is joined to an option, as FILE is in `-oFILE` and FORM in `--to=FORM`.
+    joined: Option<OsString>,
+}
+
+impl<I: Iterator<Item = OsString>> Words<I> {
+    /// What an option takes: what is joined to it, or the next word.
+    fn value(&mut self) -> Option<OsString> {
+        self.joined.take().or_else(|| self.rest.next())
+    }
+
+    /// The name of an option; what is joined to it is kept.
+    fn option(&mut self, word: &OsStr) -> String {
+        let bytes = word.as_bytes();
+        let end = match bytes {
+            [b'-', b'o', _, ..] => 2,
+            [b'-', b'-', ..] => bytes.iter().position(|&byte| byte == b'=').unwrap_or(bytes.len()),
+            _ => bytes.len(),
+        };
+        let rest = &bytes[end..];
+        let value = if bytes.starts_with(b"--") { rest.strip_prefix(b"=") } else { Some(rest) };
+        self.joined = value.filter(|_| !rest.is_empty()).map(|value| OsStr::from_bytes(value).into());
+        OsStr::from_bytes(&bytes[..end]).to_string_lossy().into_owned()
+    }
+}
+
+/// The order of a preview's roots.
+fn sorted_by(word: Option<OsString>) -> Result<bool, String> {
+    match word.as_ref().and_then(|word| word.to_str()) {
+        Some("saving") => Ok(true),
+        Some("index") => Ok(false),
+        _ => Err("--sort wants saving or index after it".into()),
+    }
+}
+
+fn sheet_named(option: &str) -> SheetForm {
+    match option {
+        "--csv" => SheetForm::Csv,
+        "--json" => SheetForm::Json,
+        _ => SheetForm::Html,
+    }
+}
+
+/// Puts an option, with what it takes.
+fn put_option(work: &mut Work, option: &str, words: &mut Words<impl Iterator<Item = OsString>>) -> Result<(), String> {
+    let command = work.command;
+    match option {
+        "--csv" | "--json" | "--html" if command == Command::Class => {
+            put(&mut work.sheet, sheet_named(option), "the form of the sheet")?
+        }
+        "--quiet" | "-q" => work.quiet = true,
+        "--to" if command.takes_format() => put(&mut work.to, format_named(words.value())?, "--to")?,
+        "--no-symbols" if command.takes_format() || command == Command::Import => work.no_symbols = true,
+        "--all" if matches!(command, Command::Resistive | Command::Assign) => work.all = true,
+        "--moves" if command == Command::Preview => work.only_moves = true,
+        "--sort" if command == Command::Preview => work.by_saving = sorted_by(words.value())?,
+        "--find" if command == Command::Settle => work.find = true,
+        "--json" => work.json = true,
+        _ if matches!(command, Command::Picture | Command::Report) => put_drawing(work, option, || words.value())?,
+        _ => return Err(no_option(command, option)),
+    }
+    match words.joined.take() {
+        None => Ok(()),
+        Some(_) => Err(format!("{option} takes nothing, and so no =")),
+    }
+}
+
+/// Where what is given goes.
+fn put_output(work: &mut Work, output: Option<OsString>) -> Result<(), String> {
+    work.to_standard = output.as_ref().is_some_and(|word| word == "-");
+    work.output = output.and_then(file);
+    match work.to_standard && work.json {
+        true => Err("with --json standard output has the figures, and so -o wants a file".into()),
+        false => Ok(()),
+    }
+}
+
+fn asked_of(command: Command, words: impl Iterator<Item = OsString>) -> Result<Asked, String> {
     let mut work = Work::of(command);
-    let (mut plain, mut output) = (Vec::new(), None);
-    let mut only_files = false;
-    while let Some(word) = words.next() {
-        let text = word.to_string_lossy().into_owned();
-        match text.as_str() {
-            _ if only_files || text == "-" || !text.starts_with('-') => plain.push(word),
+    let (mut plain, mut output, mut only_files) = (Vec::new(), None, false);
+    let mut words = Words { rest: words, joined: None };
+    while let Some(word) = words.rest.next() {
+        if only_files || word == "-" || !word.as_bytes().starts_with(b"-") {
+            plain.push(word);
+            continue;
+        }
+        match &words.option(&word)[..] {
             "--help" | "-h" => return Ok(Asked::Help(help::of(command))),
-            "-o" => put(&mut output, words.next().ok_or("-o wants a file after it")?, "-o")?,
-            "--to" if command.takes_format() => put(&mut work.to, format_named(words.next())?, "--to")?,
-            "--no-symbols" if command.takes_format() || command == Command::Import => work.no_symbols = true,
-            "--all" if matches!(command, Command::Resistive | Command::Assign) => work.all = true,
-            "--moves" if command == Command::Preview => work.only_moves = true,
-            "--find" if command == Command::Settle => work.find = true,
-            "--csv" if command == Command::Class => put(&mut work.sheet, SheetForm::Csv, "the form of the sheet")?,
-            "--json" if command == Command::Class => put(&mut work.sheet, SheetForm::Json, "the form of the sheet")?,
-            "--html" if command == Command::Class => put(&mut work.sheet, SheetForm::Html, "the form of the sheet")?,
+            "-o" => put(&mut output, words.value().ok_or("-o wants a file after it")?, "-o")?,
             "--" => only_files = true,
-            _ if matches!(command, Command::Picture | Command::Report) => {
-                put_drawing(&mut work, &text, || words.next())?
-            }
-            _ => return Err(format!("there is no option {text}")),
+            option => put_option(&mut work, option, &mut words)?,
         }
     }
     put_plain(&mut work, plain)?;
+    put_output(&mut work, output)?;
+    fits(&work)?;
+    Ok(Asked::Work(work))
+}
+
+/// That the words of a command fit each other.
+fn fits(work: &Work) -> Result<(), String> {
     if work.only_moves && work.root.is_none() {
         return Err("--moves wants FILE and ROOT".into());
     }
-    work.output = output.and_then(file);
-    match command {
-        Command::Lock | Command::Unlock => holds_locks(&work)?,
-        Command::Resistive => one_or_all(&work)?,
-        _ => {}
+    if work.by_saving && work.root.is_some() {
+        return Err("--sort is for the list of all roots, and so cannot stand with ROOT".into());
     }
-    Ok(Asked::Work(work))
+    match work.command {
+        Command::Lock | Command::Unlock => holds_locks(work),
+        Command::Resistive => one_or_all(work),
+        _ => Ok(()),
+    }
 }
 
 #[cfg(test)]
@@ -498,10 +601,67 @@ mod tests {
         assert_eq!(of(&["show", "-"]), work(Command::Show, None, None, None));
         assert_eq!(of(&["import", "a", "-o", "b"]), work(Command::Import, Some("a"), Some("b"), None));
         assert_eq!(of(&["export", "-o", "b", "a"]), work(Command::Export, Some("a"), Some("b"), None));
-        assert_eq!(of(&["export", "-o", "-", "a"]), work(Command::Export, Some("a"), None, None));
+        let standard = Work { input: Some("a".into()), to_standard: true, ..Work::of(Command::Export) };
+        assert_eq!(of(&["export", "-o", "-", "a"]), Ok(Asked::Work(standard)));
         assert_eq!(of(&["show", "--", "-o"]), work(Command::Show, Some("-o"), None, None));
         let settled = work(Command::Settle, Some("a"), None, Some(Format::Aiger));
         assert_eq!(of(&["settle", "--to", "aiger", "a"]), settled);
+    }
+
+    #[test]
+    fn values_that_are_joined() {
+        for (joined, apart) in [
+            (&["settle", "a", "-ob"][..], &["settle", "a", "-o", "b"][..]),
+            (&["settle", "a", "-o="], &["settle", "a", "-o", "="]),
+            (&["settle", "a", "-o-"], &["settle", "a", "-o", "-"]),
+            (&["settle", "--to=aiger", "a"], &["settle", "--to", "aiger", "a"]),
+            (&["picture", "a", "--output=3", "--svg"], &["picture", "a", "--output", "3", "--svg"]),
+            (&["report", "a", "--root=7"], &["report", "a", "--root", "7"]),
+            (&["preview", "a", "--sort=saving"], &["preview", "a", "--sort", "saving"]),
+            (&["show", "--", "-ob", "--to=x"], &["show", "--", "-ob", "--to=x"]),
+        ] {
+            assert_eq!(of(joined), of(apart), "{joined:?}");
+        }
+        assert_eq!(of(&["settle", "a", "-ob"]), work(Command::Settle, Some("a"), Some("b"), None));
+        let takes_none = |option: &str| {
+            let why = format!("{option} takes nothing, and so no =");
+            Err(format!("{why}; `panjerov settle --help` tells what settle takes"))
+        };
+        assert_eq!(of(&["settle", "a", "--find=1"]), takes_none("--find"));
+        assert_eq!(of(&["settle", "a", "--quiet="]), takes_none("--quiet"));
+    }
+
+    #[test]
+    fn what_every_command_takes() {
+        for command in Command::ALL.into_iter().filter(|&command| command != Command::Class) {
+            let words = match command {
+                Command::Settle | Command::Find | Command::Import | Command::Export => &["a"][..],
+                Command::Show | Command::Picture | Command::Report => &["a"],
+                _ => &["a", "7"],
+            };
+            let told = |options: &[&str]| match of(&[&[command.name()], words, options].concat()) {
+                Ok(Asked::Work(work)) => Ok((work.json, work.quiet)),
+                other => Err(format!("{other:?}")),
+            };
+            assert_eq!(told(&[]), Ok((false, false)));
+            assert_eq!(told(&["--json"]), Ok((true, false)));
+            assert_eq!(told(&["--quiet"]), Ok((false, true)));
+            assert_eq!(told(&["-q", "--json"]), Ok((true, true)));
+            assert!(told(&["--json", "-o", "-"]).is_err());
+        }
+    }
+
+    #[test]
+    fn words_that_are_misspelt() {
+        let told = |name: &str| format!("there is no command {name}; `panjerov --help` tells them");
+        assert_eq!(of(&["setle"]), Err(told("setle (did you mean settle?)")));
+        assert_eq!(of(&["help", "setle"]), of(&["setle"]));
+        assert_eq!(of(&["grind"]), Err(told("grind")));
+        let tells = "`panjerov settle --help` tells what settle takes";
+        let option = |name: &str| Err(format!("there is no option {name}; {tells}"));
+        assert_eq!(of(&["settle", "a", "--fnd"]), option("--fnd (did you mean --find?)"));
+        assert_eq!(of(&["settle", "a", "--jsno=1"]), option("--jsno (did you mean --json?)"));
+        assert_eq!(of(&["settle", "a", "--verbose"]), option("--verbose"));
     }
 
     #[test]
@@ -679,6 +839,7 @@ mod tests {
         for words in [&["help"][..], &["help", "help"], &["help", "--help"], &["help", "-h"]] {
             assert_eq!(of(words), of(&["--help"]), "{words:?}");
         }
+        assert_eq!(of(&["-V"]), of(&["--version"]));
         assert_eq!(of(&["help", "settle"]), of(&["settle", "--help"]));
         assert_eq!(of(&["help", "grind"]), of(&["grind"]));
         let many = "show is one word too many; `panjerov help COMMAND` tells more of one";
@@ -718,6 +879,10 @@ mod tests {
             &["preview", "--moves"],
             &["preview", "a", "--moves"],
             &["preview", "a", "7", "--to", "aiger"],
+            &["preview", "a", "--sort"],
+            &["preview", "a", "--sort", "root"],
+            &["preview", "a", "7", "--sort", "saving"],
+            &["settle", "a", "--sort", "saving"],
             &["resistive"],
             &["resistive", "a"],
             &["resistive", "a", "-o", "b"],
