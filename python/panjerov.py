@@ -22,7 +22,8 @@ nothing has changed.
 A graph keeps its tables as the library takes them, and Graph.nodes and Graph.outputs show them as lists of literals (Literals), so
 that no call copies a table. While a call is made, no other thread of the program runs.
 
-The library is linked, at the first import, from target/staticlib/libreducer.a, which `rt staticlib reducer` writes.
+An installed module has the library beside it; in the repository it is linked, at the first import, from target/staticlib/libreducer.a,
+which `rt staticlib reducer` writes.
 """
 
 from __future__ import annotations
@@ -45,6 +46,9 @@ __all__ = [
     "NODE", "PAIR", "TREE", "SETTLE", "MANY", "MAJORITY", "FIND", "RESISTIVE",
     "MARK", "MOST_INPUTS", "MOST_NODES", "MOST_OUTPUTS", "MOST_GRAPHS", "MOST_SEARCHED", "CLASS_WORDS",
 ]
+
+#: The version, which rust/reducer/Cargo.toml has too.
+__version__ = "0.1.0"
 
 #: The third literal of an XOR node, and its third index.
 MARK = 4294967295
@@ -196,13 +200,17 @@ class Told(NamedTuple):
     answer: Union[Saving, Majority, int]
 
 
+#: Where an installed module has its library.
+_BESIDE = Path(__file__).resolve().with_name("libreducer.so")
 _ROOT = Path(__file__).resolve().parent.parent
 _ARCHIVE = _ROOT / "target" / "staticlib" / "libreducer.a"
 _SHARED = _ROOT / "target" / "python" / "libreducer.so"
 
 
 def _link() -> Path:
-    """The shared object, linked anew where the static library is younger."""
+    """The shared object: the one beside the module, or one that is linked anew where the static library is younger."""
+    if _BESIDE.exists():
+        return _BESIDE
     if not _ARCHIVE.exists():
         raise ImportError(f"there is no {_ARCHIVE}: run `rt staticlib reducer` in the repository's root first")
     if not _SHARED.exists() or _SHARED.stat().st_mtime < _ARCHIVE.stat().st_mtime:
