@@ -11,6 +11,8 @@ use std::time::{Duration, Instant};
 mod assignments;
 #[path = "program/classes.rs"]
 mod classes;
+#[path = "program/equal.rs"]
+mod equal;
 #[path = "program/found.rs"]
 mod found;
 #[path = "program/habits.rs"]

@@ -26,13 +26,14 @@ fn files(test: &str) -> PathBuf {
     let folder = folder(test);
     let plain = tagged(&[(1, &[3, 2, 1]), (2, &[2, 4, 6]), (2, &[8, 2, 4]), (4, &[10]), (5, &[])]);
     let turned = tagged(&[(1, &[5, 2, 1]), (2, &[2, 4, 7]), (2, &[12, 8, 11]), (4, &[14]), (5, &[])]);
-    let wire = tagged(&[(1, &[1, 0, 1]), (4, &[3]), (5, &[])]);
+    let [wire, straight] = [3, 2].map(|output| tagged(&[(1, &[1, 0, 1]), (4, &[output]), (5, &[])]));
     for (name, bytes) in [
         ("p1", p1()),
         ("p2", p2()),
         ("turned", turned),
         ("plain", plain),
         ("wire", wire),
+        ("straight", straight),
         ("text", MAJORITY.into()),
         ("moves", b"6 1\n7 0\n".to_vec()),
         ("thrice", b"6 1\n6 1\n6 1\n".to_vec()),
@@ -79,6 +80,7 @@ fn told() -> Vec<(&'static str, Vec<Case>)> {
         ("apply", vec![(&["p2", "moves"], 0, MADE.into())]),
         ("sheets", sheets()),
         ("compare", compared()),
+        ("equal", equal()),
         ("join", vec![(&["p2", "wire"], 0, counted(5, 2, 5))]),
         ("assign", assigned()),
         ("picture", drawn()),
@@ -128,6 +130,17 @@ fn compared() -> Vec<Case> {
     let moves = "{\"before\": 4, \"after\": 2, \"saving\": 2, \"moved\": 1, \"left\": 0, \"moves\": [{\"node\": 6, \"move\": 1}]}\n";
     let why = "other wiring: 5 inputs, 2 nodes, 1 output before and 3 inputs, 1 node, 1 output after";
     vec![(&["p2", "turned"], 0, moves.into()), (&["p2", "p1"], 1, format!("{{\"moves\": null, \"why\": \"{why}\"}}\n"))]
+}
+
+fn equal() -> Vec<Case> {
+    let alike = "{\"equal\": true, \"assignments\": 32, \"all\": true}\n";
+    let apart = "{\"equal\": false, \"inputs\": [0], \"first\": [1], \"second\": [0], \"differ\": [1]}\n";
+    let why = "different: 5 inputs and 1 output in p2, 3 inputs and 1 output in p1";
+    vec![
+        (&["p2", "turned"], 0, alike.into()),
+        (&["wire", "straight"], 1, apart.into()),
+        (&["p2", "p1"], 1, format!("{{\"equal\": false, \"why\": \"{why}\"}}\n")),
+    ]
 }
 
 fn assigned() -> Vec<Case> {

@@ -88,7 +88,7 @@ fn listed(bits: impl Iterator<Item = u64>) -> String {
 }
 
 /// The inputs' words of the 64 assignments from this one on.
-fn words(graph: &Graph, first: u32) -> Vec<u64> {
+pub fn words(graph: &Graph, first: u32) -> Vec<u64> {
     let high = |input: u32| if bit(first, input) == 1 { u64::MAX } else { 0 };
     (1..=graph.size.inputs)
         .map(|input| LOWEST.get(input as usize - 1).copied().unwrap_or_else(|| high(input)))

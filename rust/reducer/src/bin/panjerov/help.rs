@@ -43,6 +43,7 @@ pub fn of(command: Command) -> String {
         Command::Apply => include_str!("help/apply.txt"),
         Command::Sheets => include_str!("help/sheets.txt"),
         Command::Compare => include_str!("help/compare.txt"),
+        Command::Equal => include_str!("help/equal.txt"),
         Command::Assign => include_str!("help/assign.txt"),
         Command::Join => include_str!("help/join.txt"),
         Command::Picture => include_str!("help/picture.txt"),

@@ -2,6 +2,7 @@
 //! graphs, previews their trees, makes listed moves, compares
 //! graphs and sheets of moves, finds assignments, joins stages, locks nodes, and makes tagged files of AIGER texts and back.
 
+mod abc;
 mod apply;
 mod assign;
 mod class;
@@ -9,6 +10,7 @@ mod class_page;
 mod class_sheet;
 mod compared;
 mod drawing;
+mod equal;
 mod figures;
 mod files;
 mod formats;
@@ -172,6 +174,7 @@ fn given_of(asked: &Work, input: &Input, loaded: Loaded, working: &Progress) -> 
         Command::Preview => preview::of((&graph, &names), asked, working).map_err(of_file(input)),
         Command::Sheets => compared::sheets(asked, &graph),
         Command::Compare => compared::compare(asked, input, &graph),
+        Command::Equal => equal::of(asked, input, (&graph, &names), working),
         Command::Assign => assign::of((&graph, &names), &asked.pattern, asked.all, working).map_err(of_file(input)),
         Command::Picture if asked.compare => drawing::compare(asked, input, (&graph, &names), got),
         Command::Picture => drawing::draw(asked, input, (&graph, &names)),

@@ -26,6 +26,7 @@ pub enum Command {
     Apply,
     Sheets,
     Compare,
+    Equal,
     Assign,
     Join,
     Picture,
@@ -34,7 +35,7 @@ pub enum Command {
 }
 
 impl Command {
-    const ALL: [Command; 17] = [
+    const ALL: [Command; 18] = [
         Command::Settle,
         Command::Find,
         Command::Resistive,
@@ -47,6 +48,7 @@ impl Command {
         Command::Apply,
         Command::Sheets,
         Command::Compare,
+        Command::Equal,
         Command::Assign,
         Command::Join,
         Command::Picture,
@@ -72,6 +74,7 @@ impl Command {
             Command::Apply => "apply",
             Command::Sheets => "sheets",
             Command::Compare => "compare",
+            Command::Equal => "equal",
             Command::Assign => "assign",
             Command::Join => "join",
             Command::Picture => "picture",
@@ -95,6 +98,7 @@ impl Command {
             Command::Apply => "making moves on",
             Command::Sheets => "reading moves on",
             Command::Compare => "comparing",
+            Command::Equal => "trying assignments of",
             Command::Assign => "looking for assignments of",
             Command::Join => "joining",
             Command::Picture => "drawing",
@@ -116,7 +120,7 @@ impl Command {
     /// The exit status where it fails: of what answers by 0 and 1 another.
     pub fn failed(self) -> u8 {
         match self {
-            Command::Sheets | Command::Compare | Command::Assign => 2,
+            Command::Sheets | Command::Compare | Command::Equal | Command::Assign => 2,
             _ => 1,
         }
     }
@@ -151,6 +155,8 @@ pub struct Work {
     pub root: Option<u32>,
     /// Whether all roots are taken, or all assignments told.
     pub all: bool,
+    /// Whether abc is asked too.
+    pub abc: bool,
     /// Whether a preview gives its moves alone.
     pub only_moves: bool,
     /// Whether the roots of a preview are listed by falling saving.
@@ -190,6 +196,7 @@ impl Work {
             nodes: Vec::new(),
             root: None,
             all: false,
+            abc: false,
             only_moves: false,
             by_saving: false,
             moves: None,
@@ -338,13 +345,14 @@ fn put_pattern(work: &mut Work, words: impl Iterator<Item = OsString>) -> Result
     }
 }
 
-/// Puts AFTER, the one word after BEFORE.
+/// Puts the second of two graphs, the one word after the first.
 fn put_after(work: &mut Work, mut words: impl Iterator<Item = OsString>) -> Result<(), String> {
-    let name = if work.compare { "--compare" } else { "compare" };
-    let word = words.next().ok_or_else(|| format!("{name} wants BEFORE and AFTER"))?;
+    let name = if work.compare { "--compare" } else { work.command.name() };
+    let both = if work.command == Command::Equal { "FIRST and SECOND" } else { "BEFORE and AFTER" };
+    let word = words.next().ok_or_else(|| format!("{name} wants {both}"))?;
     work.after = file(word);
     if work.input.is_none() && work.after.is_none() {
-        return Err("only one of BEFORE and AFTER can be standard input".into());
+        return Err(format!("only one of {both} can be standard input"));
     }
     no_more(words)
 }
@@ -418,7 +426,7 @@ fn put_plain(work: &mut Work, plain: Vec<OsString>) -> Result<(), String> {
     match work.command {
         Command::Apply => return put_moves(work, plain),
         Command::Sheets => return put_sheets(work, plain),
-        Command::Compare => return put_after(work, plain),
+        Command::Compare | Command::Equal => return put_after(work, plain),
         Command::Assign => return put_pattern(work, plain),
         Command::Join => return put_stages(work, plain),
         _ if work.compare => return put_after(work, plain),
@@ -512,6 +520,7 @@ fn put_option(work: &mut Work, option: &str, words: &mut Words<impl Iterator<Ite
         "--to" if command.takes_format() => put(&mut work.to, format_named(words.value())?, "--to")?,
         "--no-symbols" if command.takes_format() || command == Command::Import => work.no_symbols = true,
         "--all" if matches!(command, Command::Resistive | Command::Assign) => work.all = true,
+        "--abc" if command == Command::Equal => work.abc = true,
         "--moves" if command == Command::Preview => work.only_moves = true,
         "--sort" if command == Command::Preview => work.by_saving = sorted_by(words.value())?,
         "--find" if command == Command::Settle => work.find = true,
