@@ -28,7 +28,7 @@ fn texts_of_the_help() {
         assert!(due.lines().all(|line| line.chars().count() <= 80), "{name}");
         texts += 1;
     }
-    assert_eq!(texts, 18);
+    assert_eq!(texts, 19);
 }
 
 #[test]
