@@ -344,7 +344,7 @@ fn a_graphviz_that_hangs() {
             let folder = with_dot(&format!("a_graphviz_that_hangs_{}", script.len()), Some(script));
             let start = Instant::now();
             stops(&run_with(&folder, &["picture", "in", "--svg", "-o", "out"]), 1, slow);
-            assert!(start.elapsed() < Duration::from_secs(5));
+            assert!(start.elapsed() < Duration::from_secs(15));
             assert_eq!(fs::read(folder.join("out")).unwrap(), b"old");
             holds(&folder, &["bin", "in", "out"]);
         })
