@@ -1,4 +1,5 @@
 // A graph as ASCII AIGER text.
+#![tactic(auto)]
 ghost use Rattle.std.specs.Prelude.{◌≡◌};
 ghost use Rattle.graph.specs.Answer.{ScratchKept};
 ghost use Rattle.graph.specs.Literals.{before, after, graph_before};

@@ -1,4 +1,5 @@
 // Importing a graph from ASCII AIGER.
+#![tactic(auto)]
 ghost use Rattle.std.specs.Prelude.{◌≡◌};
 ghost use Rattle.graph.specs.Answer.{locked_outcome};
 ghost use Rattle.graph.specs.Literals.{before, after, table_before, table_after};

@@ -1,4 +1,5 @@
 // An assignment for a wanted output: the least that gives the pattern, or none exactly if none does.
+#![tactic(auto)]
 ghost use Rattle.std.specs.Prelude.{◌≡◌, length};
 ghost use Rattle.graph.specs.Answer.{accepted, ScratchKept};
 ghost use Rattle.graph.specs.Literals.{before, after, graph_before};

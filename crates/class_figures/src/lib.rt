@@ -1,4 +1,5 @@
 // Figures for a class: graphs settled one after another, with the sums over all of them and over the latest sixteen in a lent record.
+#![tactic(auto)]
 ghost use Rattle.std.specs.Prelude.{◌≡◌, length};
 ghost use Rattle.graph.specs.Answer.{ScratchKept};
 ghost use Rattle.graph.specs.Literals.{before, after, graph_before, graph_after};

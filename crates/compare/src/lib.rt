@@ -1,4 +1,5 @@
 // Two graphs compared: the moves that lead from the first to the second, or the first place where they differ otherwise.
+#![tactic(auto)]
 ghost use Rattle.std.specs.Prelude.{◌≡◌};
 ghost use Rattle.graph.specs.Literals.{before, after, graph_before};
 ghost use Rattle.compare.specs.Compare.{compared, comparison_answer, compare_call};

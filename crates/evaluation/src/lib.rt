@@ -1,3 +1,4 @@
+#![tactic(auto)]
 ghost use Rattle.std.specs.Prelude.{◌≡◌, [], length};
 ghost use Rattle.graph.specs.Answer.{accepted, unless, ScratchKept};
 ghost use Rattle.graph.specs.Literals.{before, after, graph_before};

@@ -1,3 +1,4 @@
+#![tactic(auto)]
 ghost use Rattle.std.specs.Prelude.{◌≡◌, ℕ, ◌*◌, ◌≤◌, length};
 ghost use Rattle.graph.specs.Admission.{Admitted, LockBytes};
 ghost use Rattle.graph.specs.Answer.{locked_outcome, ScratchKept};

@@ -1,4 +1,5 @@
 // Two graphs joined.
+#![tactic(auto)]
 ghost use Rattle.std.specs.Prelude.{◌≡◌};
 ghost use Rattle.graph.specs.Answer.{locked_outcome};
 ghost use Rattle.graph.specs.Literals.{before, after, table_before, table_after, graph_before};

@@ -1,4 +1,5 @@
 // Many moves together: a list of nodes with a move each, made all or none.
+#![tactic(auto)]
 ghost use Rattle.std.specs.Prelude.{◌≡◌};
 ghost use Rattle.graph.specs.Answer.{outcome};
 ghost use Rattle.graph.specs.Literals.{before, graph_before, graph_after};

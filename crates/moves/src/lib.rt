@@ -1,3 +1,5 @@
+#![tactic(auto)]
+
 pub mod decide;
 pub mod faults;
 pub mod gains;

@@ -1,4 +1,5 @@
 // The entries for C: each returns 0 or document 01's number, and leaves what it answers beside it at a place that is lent.
+#![tactic(auto)]
 ghost use Rattle.std.specs.Prelude.{◌≡◌, ◌*◌, [], ◌∷◌, length, get_or, take, drop};
 ghost use Rattle.graph.specs.Graph.{graph_of};
 ghost use Rattle.graph.specs.Count.{C};

@@ -1,4 +1,5 @@
 // A replay: loads a file and makes a list of calls on the loaded graph and its locks.
+#![tactic(auto)]
 ghost use Rattle.std.specs.Prelude.{◌≡◌, length};
 ghost use Rattle.graph.specs.Answer.{locked_outcome, ScratchKept};
 ghost use Rattle.graph.specs.Literals.{before, after, table_before, table_after};

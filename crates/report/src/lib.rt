@@ -1,4 +1,5 @@
 // The report: a file's bytes in, the text of the settled graph out.
+#![tactic(auto)]
 ghost use Rattle.std.specs.Prelude.{◌≡◌, length};
 ghost use Rattle.graph.specs.Answer.{ScratchKept};
 ghost use Rattle.graph.specs.Literals.{before, after, table_before, table_after};

@@ -1,3 +1,5 @@
+#![tactic(auto)]
+
 mod flags;
 pub mod moving;
 pub mod now;

@@ -1,4 +1,5 @@
 // The tagged file: one field of it, loading a graph from it, writing a graph as one.
+#![tactic(auto)]
 ghost use Rattle.std.specs.Prelude.{◌≡◌};
 ghost use Rattle.graph.specs.Answer.{locked_outcome};
 ghost use Rattle.graph.specs.Literals.{before, after, table_before, table_after, graph_before};

@@ -1,3 +1,5 @@
+#![tactic(auto)]
+
 mod costs;
 pub mod deciding;
 pub mod fields;

@@ -4,6 +4,8 @@
 // A case is big-endian numbers of four bytes: 1; the lengths of the bytes, the node table, its bits, the output table, its bits and the
 // locks; then for each of these six in turn how many elements are given for its front, and these; the op, and what it reads by itself.
 // A word of bits is two numbers, the upper half first.
+#![tactic(auto)]
+
 mod joining;
 mod listing;
 mod ops;
