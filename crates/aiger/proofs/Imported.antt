@@ -15,7 +15,7 @@ use Rattle.graph.proofs.Cases.{lt_or_le}
 use Rattle.graph.proofs.Filled.{length_filled, filled_in, held_filled, strays_filled}
 use Rattle.graph.proofs.Finite.{length_tab, get_d_tab}
 use Rattle.graph.proofs.Tests.{equal, unequal, on, is, both, each_none}
-use Rattle.graph.proofs.Answers.{accepted-locked}
+use Rattle.graph.proofs.Answers.{accepted_locked}
 use Rattle.tagged_file.specs.Load.{free_locks}
 use Rattle.tagged_file.proofs.Named.{free_bytes}
 use Rattle.tagged_file.proofs.Whole.{guarded_number}
@@ -135,7 +135,7 @@ module _ (s ns os ls : List ℕ) (e : (import_call s ns os ls).answer.number ≡
 
   pub import_is : import_call s ns os ls ≡ locked_outcome (accepted (head_i s ∷ head_a s ∷ head_o s ∷ [])) (graph_imported s ns os) (free_locks (head_a s) ls)
   unfolding import_call
-  import_is = sym (accepted-locked _ _ _ _ no_fault)
+  import_is = sym (accepted_locked _ _ _ _ no_fault)
 
   pub import_admitted : Admitted (import_call s ns os ls).graph
   import_admitted = rw import_is (imported_admitted s ns os (length ls) no_fault)

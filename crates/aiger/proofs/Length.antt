@@ -6,7 +6,7 @@ use mathlib.Core.List.{List, ◌∷◌}
 use native.Mathlib.Omega.{arith}
 use lib.ListN.{length, length-append}
 use Rattle.graph.specs.Finite.{if_less, decimal}
-use Rattle.graph.proofs.Answers.{ifLess-le}
+use Rattle.graph.proofs.Answers.{if_less_le}
 use Rattle.graph.proofs.Cases.{lt_or_le}
 use Rattle.graph.proofs.Digits.{length_small, length_more}
 use Rattle.graph.proofs.Tests.{less, no_less}
@@ -70,7 +70,7 @@ width_reached (suc d) n h =
 reached_most : (d p n : ℕ) → reached d p n ≤ d
 unfolding reached
 reached_most zero p n = omega arith
-reached_most (suc d) p n = omega (arith, ifLess-le n p 0 1 1 (omega arith) (omega arith), reached_most d (10 * p) n)
+reached_most (suc d) p n = omega (arith, if_less_le n p 0 1 1 (omega arith) (omega arith), reached_most d (10 * p) n)
 
 pub digits_most : (d n : ℕ) → n < power d → length (decimal n) ≤ 1 + d
 digits_most d n h = omega (arith, width_reached d n h, reached_most d 10 n)

@@ -9,7 +9,7 @@ use lib.ListN.{length, drop, length-drop, get_or-append}
 use lib.Seq.{drop-append-le}
 use Rattle.graph.specs.Finite.{tab, if_equal}
 use Rattle.graph.specs.Literals.{held}
-use Rattle.graph.proofs.Answers.{accepted-locked}
+use Rattle.graph.proofs.Answers.{accepted_locked}
 use Rattle.graph.proofs.Cases.{lt_or_le}
 use Rattle.graph.proofs.Finite.{tab_same}
 use Rattle.graph.proofs.Tests.{none, both, all_none, each_none}
@@ -263,7 +263,7 @@ module _ (s ns os ls : List ℕ) (e : (import_call s ns os ls).answer.number ≡
 
   not_read : import_call (s ++ t) ns os ls ≡ import_call s ns os ls
   unfolding import_call
-  not_read = sym (accepted-locked _ _ _ _ more) ∙ rw (number_is 1 (omega arith), number_is 3 (omega arith), number_is 4 (omega arith), graph_is) (accepted-locked _ _ _ _ fault_free)
+  not_read = sym (accepted_locked _ _ _ _ more) ∙ rw (number_is 1 (omega arith), number_is 3 (omega arith), number_is 4 (omega arith), graph_is) (accepted_locked _ _ _ _ fault_free)
 
 pub import_trailing : (s t ns os ls : List ℕ) → ImportTrailing s t ns os ls
 import_trailing s t ns os ls e = not_read s ns os ls e t

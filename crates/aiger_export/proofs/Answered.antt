@@ -11,7 +11,7 @@ use Rattle.graph.specs.Answer.{accepted, refused}
 use Rattle.graph.specs.Inner.{IsRefusal}
 use Rattle.graph.specs.Graph.{Graph}
 use Rattle.graph.proofs.Admit.{admitted}
-use Rattle.graph.proofs.Answers.{ifLess-le, first_le, admission-le}
+use Rattle.graph.proofs.Answers.{if_less_le, first_le, admission_le}
 use Rattle.graph.proofs.Tests.{both, off}
 use Rattle.tagged_file.specs.Write.{write_outcome}
 use Rattle.tagged_file.proofs.WholeWrite.{by_refused, by_accepted}
@@ -22,7 +22,7 @@ module _ (g : Graph) (ls : List ℕ) (words room : ℕ) where
   pub export_fault : (k : ℕ) → k ≡ export_number g ls words room → (k ≡ 0 → ⊥) → IsRefusal k
   unfolding export_number
   export_fault k e n =
-      let l = first_le (admission_number g ls) _ 13 (admission-le g ls) (ifLess-le words g.N 8 _ 13 (omega arith) (ifLess-le room (length (export_text g)) 9 0 13 (omega arith) (omega arith))) in
+      let l = first_le (admission_number g ls) _ 13 (admission_le g ls) (if_less_le words g.N 8 _ 13 (omega arith) (if_less_le room (length (export_text g)) 9 0 13 (omega arith) (omega arith))) in
       (omega arith, omega arith)
 
   pub export_passed : export_number g ls words room ≡ 0 → Admitted g × (g.N ≤ words) × (length (export_text g) ≤ room)

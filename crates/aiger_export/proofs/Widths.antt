@@ -10,7 +10,7 @@ use lib.ListN.{length}
 use Rattle.graph.specs.Finite.{if_less, decimal}
 use Rattle.graph.specs.Admission.{Admitted}
 use Rattle.graph.specs.Graph.{Graph, turn, word, output, is_xor}
-use Rattle.graph.proofs.Answers.{ifLess-le}
+use Rattle.graph.proofs.Answers.{if_less_le}
 use Rattle.graph.proofs.Cases.{lt_or_le, true_or_false}
 use Rattle.graph.proofs.Digits.{length_small}
 use Rattle.graph.proofs.Tests.{less, no_less}
@@ -102,11 +102,11 @@ unfolding wide_by
 wide_most k =
     omega (
       arith,
-      ifLess-le k 5 0 1 1 (omega arith) (omega arith),
-      ifLess-le k 50 0 1 1 (omega arith) (omega arith),
-      ifLess-le k 500 0 1 1 (omega arith) (omega arith),
-      ifLess-le k 5000 0 1 1 (omega arith) (omega arith),
-      ifLess-le k 50000 0 1 1 (omega arith) (omega arith),
+      if_less_le k 5 0 1 1 (omega arith) (omega arith),
+      if_less_le k 50 0 1 1 (omega arith) (omega arith),
+      if_less_le k 500 0 1 1 (omega arith) (omega arith),
+      if_less_le k 5000 0 1 1 (omega arith) (omega arith),
+      if_less_le k 50000 0 1 1 (omega arith) (omega arith),
     )
 
 pub input_most : (k : ℕ) → k < 4096 → length (input_line k) ≤ 5

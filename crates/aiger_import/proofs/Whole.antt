@@ -12,7 +12,7 @@ use Rattle.graph.specs.Literals.{held, filled}
 use Rattle.graph.specs.Answer.{accepted, refused, locked_outcome}
 use Rattle.graph.specs.Inner.{IsRefusal}
 use Rattle.graph.proofs.Admit.{Rooms}
-use Rattle.graph.proofs.Answers.{ifLess-le, ifEqual-le, first_le, firstOf-le, room-le, refused-locked, accepted-locked}
+use Rattle.graph.proofs.Answers.{if_less_le, if_equal_le, first_le, first_of_le, room_le, refused_locked, accepted_locked}
 use Rattle.graph.proofs.Tests.{fault, none, both, each_none, on, is}
 use Rattle.tagged_file.specs.Load.{blank, free_locks}
 use Rattle.aiger.specs.Lines.{number, ended_number, next, skip, number_at, line_number}
@@ -27,7 +27,7 @@ use Rattle.aiger_import.proofs.Filled.{gates_from, outputs_from}
 ended_le : (end : ℕ) (s : List ℕ) → ended_number end s ≤ 12
 unfolding ended_number
 ended_le end s =
-    ifLess-le _ _ _ _ 12 (ifLess-le _ _ _ _ 12 (ifEqual-le _ _ _ _ 12 (ifEqual-le _ _ _ _ 12 (ifLess-le _ _ _ _ 12 (omega arith) (omega arith)) (omega arith)) (omega arith)) (omega arith)) (omega arith)
+    if_less_le _ _ _ _ 12 (if_less_le _ _ _ _ 12 (if_equal_le _ _ _ _ 12 (if_equal_le _ _ _ _ 12 (if_less_le _ _ _ _ 12 (omega arith) (omega arith)) (omega arith)) (omega arith)) (omega arith)) (omega arith)
 
 line_le : (k : ℕ) (s : List ℕ) → line_number k s ≤ 12
 unfolding line_number
@@ -37,17 +37,17 @@ line_le (suc k) s = first_le _ _ 12 (ended_le 32 s) (line_le k (next s))
 header_le : (s : List ℕ) (a b l : ℕ) → header_number s a b l ≤ 12
 unfolding header_number aag_number
 header_le s a b l =
-    first_le _ _ 12 (ifEqual-le _ _ _ _ 12 (ifEqual-le _ _ _ _ 12 (ifEqual-le _ _ _ _ 12 (ifEqual-le _ _ _ _ 12 (omega arith) (omega arith)) (omega arith)) (omega arith)) (omega arith))
+    first_le _ _ 12 (if_equal_le _ _ _ _ 12 (if_equal_le _ _ _ _ 12 (if_equal_le _ _ _ _ 12 (if_equal_le _ _ _ _ 12 (omega arith) (omega arith)) (omega arith)) (omega arith)) (omega arith))
     (first_le _ _ 12 (line_le 4 _)
-    (ifEqual-le _ _ _ _ 12 (ifEqual-le _ _ _ _ 12 (omega (arith, room-le (head_i s) (head_a s) (head_o s) a b l)) (omega arith)) (omega arith)))
+    (if_equal_le _ _ _ _ 12 (if_equal_le _ _ _ _ 12 (omega (arith, room_le (head_i s) (head_a s) (head_o s) a b l)) (omega arith)) (omega arith)))
 
 body_le : (s : List ℕ) (i n o : ℕ) → body_number s i n o ≤ 12
 unfolding body_number input_lines_number output_lines_number gate_lines_number input_line_number output_line_number gate_line_number
 body_le s i n o =
-    first_le _ _ 12 (firstOf-le i _ 12 (λ k. first_le _ _ 12 (line_le 0 _) (ifEqual-le _ _ _ _ 12 (omega arith) (omega arith))))
-    (first_le _ _ 12 (firstOf-le o _ 12 (λ j. first_le _ _ 12 (line_le 0 _) (ifLess-le _ _ _ _ 12 (omega arith) (omega arith))))
-    (firstOf-le n _ 12 (λ k. first_le _ _ 12 (line_le 2 _)
-    (ifEqual-le _ _ _ _ 12 (ifLess-le _ _ _ _ 12 (ifLess-le _ _ _ _ 12 (omega arith) (omega arith)) (omega arith)) (omega arith)))))
+    first_le _ _ 12 (first_of_le i _ 12 (λ k. first_le _ _ 12 (line_le 0 _) (if_equal_le _ _ _ _ 12 (omega arith) (omega arith))))
+    (first_le _ _ 12 (first_of_le o _ 12 (λ j. first_le _ _ 12 (line_le 0 _) (if_less_le _ _ _ _ 12 (omega arith) (omega arith))))
+    (first_of_le n _ 12 (λ k. first_le _ _ 12 (line_le 2 _)
+    (if_equal_le _ _ _ _ 12 (if_less_le _ _ _ _ 12 (if_less_le _ _ _ _ 12 (omega arith) (omega arith)) (omega arith)) (omega arith)))))
 
 -- the numbers of a line without a fault are there
 ended_there : (end : ℕ) (s : List ℕ) → 0 < end → end < 48 → ended_number end s ≡ 0 → NumberThere s
@@ -78,7 +78,7 @@ module _ (s ns os ls : List ℕ) (h : Header) (r : HeaderRead s (held ns) (held 
   unfolding import_call import_number
   header_refused k e z =
       let f = fault _ _ r.fault_is (λ y. z (r.fault_is ∙ y)) in
-      refused-locked k _ (blank ns os) ls _ (e ∙ f) (λ y. z (f ∙ y))
+      refused_locked k _ (blank ns os) ls _ (e ∙ f) (λ y. z (f ∙ y))
 
   module _ (z : h.fault ≡ 0) where
     pub header_rooms : Rooms h.inputs h.nodes h.outputs (held ns) (held os) (length ls)
@@ -101,7 +101,7 @@ module _ (s ns os ls : List ℕ) (h : Header) (r : HeaderRead s (held ns) (held 
 
         pub body_refused : (m : ℕ) → m ≡ k → k ≢ 0 → locked_outcome (refused m) (blank ns os) ls ≡ import_call s ns os ls
         unfolding import_call
-        body_refused m q d = refused-locked m _ (blank ns os) ls _ (q ∙ number_is) (λ y. d (number_is ∙ y))
+        body_refused m q d = refused_locked m _ (blank ns os) ls _ (q ∙ number_is) (λ y. d (number_is ∙ y))
 
         module _ (d : k ≡ 0) where
           -- the lines of each kind have no fault
@@ -158,4 +158,4 @@ module _ (s ns os ls : List ℕ) (h : Header) (r : HeaderRead s (held ns) (held 
               unfolding import_call graph_imported
               import_accepted ns' os' ls' en eo el =
                   rw (en, eo, el, after_outputs, p₁, gates_from, outputs_from, body_is, r.inputs_is z, r.nodes_is z, r.outputs_is z)
-                  (accepted-locked _ (blank ns os) ls _ (sym number_is ∙ d))
+                  (accepted_locked _ (blank ns os) ls _ (sym number_is ∙ d))

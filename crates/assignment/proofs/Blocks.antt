@@ -14,7 +14,7 @@ use Rattle.graph.specs.Finite.{tab, first, first_of, if_less, if_equal}
 use Rattle.graph.specs.Graph.{Graph, output, index}
 use Rattle.graph.specs.Value.{Assignment, literal_value, values, output_value}
 use Rattle.graph.proofs.Cases.{eq_or_ne, lt_or_le}
-use Rattle.graph.proofs.Answers.{ifLess-le}
+use Rattle.graph.proofs.Answers.{if_less_le}
 use Rattle.graph.proofs.Tests.{less, no_less, equal, unequal, all_none, each_none}
 use Rattle.graph.proofs.Values.{values_old}
 use Rattle.graph.specs.Literals.{bit}
@@ -130,7 +130,7 @@ next_rest ws os wanted low high j o left rest next x want p q r t =
 -- what is wanted of a literal is a byte that is asked for, or either
 pub want_le : (x want low high : ℕ) → want ≤ 2 → want_in x want low high ≤ 2
 unfolding want_in
-want_le x want low high h = ifLess-le _ _ _ _ _ (omega arith) (ifLess-le _ _ _ _ _ h (omega arith))
+want_le x want low high h = if_less_le _ _ _ _ _ (omega arith) (if_less_le _ _ _ _ _ h (omega arith))
 
 pub want_there : (x want low high : ℕ) → want_in x want low high ≢ 2 → index x < high
 unfolding want_in

@@ -11,7 +11,7 @@ use Rattle.graph.specs.Graph.{Graph, is_xor}
 use Rattle.graph.specs.Count.{C}
 use Rattle.graph.specs.Admission.{Admitted, tables_number, content_number, admission_number}
 use Rattle.graph.specs.Answer.{Answer, Outcome, outcome, refused, gained}
-use Rattle.graph.proofs.Answers.{refused-outcome, accepted-outcome}
+use Rattle.graph.proofs.Answers.{refused_outcome, accepted_outcome}
 use Rattle.graph.proofs.Cases.{eq_or_ne}
 use Rattle.graph.proofs.Steps.{first_assoc}
 use Rattle.graph.proofs.Tests.{equal, unequal, both, none}
@@ -93,11 +93,11 @@ module _ (g : Graph) (ls : List ℕ) (s : ℕ) (h : Graph) (a : Answer) (e : out
   -- an accepted answer is that of the rounds, and a refused one tells settling's number
   as_settled : settle_number g ls s ≡ 0 → outcome a h ≡ settled g (settle ls g)
   unfolding settle_call
-  as_settled z = e ∙ sym (accepted-outcome (settle_number g ls s) g (settled g (settle ls g)) z)
+  as_settled z = e ∙ sym (accepted_outcome (settle_number g ls s) g (settled g (settle ls g)) z)
 
   as_refused : settle_number g ls s ≢ 0 → outcome a h ≡ outcome (refused (settle_number g ls s)) g
   unfolding settle_call
-  as_refused z = let n = settle_number g ls s in e ∙ sym (refused-outcome n n g (settled g (settle ls g)) refl z)
+  as_refused z = let n = settle_number g ls s in e ∙ sym (refused_outcome n n g (settled g (settle ls g)) refl z)
 
   number_of_lem : settle_number g ls s ≢ 0 → a.number ≡ settle_number g ls s
   number_of_lem z = ap (λ (o : Outcome). o.answer.number) (as_refused z)

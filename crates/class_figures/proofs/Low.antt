@@ -11,7 +11,7 @@ use Rattle.graph.specs.Graph.{Graph, is_xor}
 use Rattle.graph.specs.Count.{C}
 use Rattle.graph.specs.Admission.{Admitted}
 use Rattle.graph.specs.Answer.{Outcome}
-use Rattle.graph.proofs.Answers.{accepted-outcome}
+use Rattle.graph.proofs.Answers.{accepted_outcome}
 use Rattle.graph.proofs.Cases.{cond_le, lt_or_le, eq_or_ne}
 use Rattle.state.proofs.Counting.{C_few}
 use Rattle.rounds.specs.Settle.{settle, settled, settle_number, settle_call}
@@ -44,7 +44,7 @@ five_low a b d e f ha hb hd he hf (suc (suc (suc (suc (suc k))))) h = absurd (om
 
 settled_is : (g : Graph) (ls : List ℕ) (s : ℕ) → settle_number g ls s ≡ 0 → settle_call g ls s ≡ settled g (settle ls g)
 unfolding settle_call
-settled_is g ls s z = sym (accepted-outcome (settle_number g ls s) g (settled g (settle ls g)) z)
+settled_is g ls s z = sym (accepted_outcome (settle_number g ls s) g (settled g (settle ls g)) z)
 
 pub row_is_low : (g : Graph) (ls : List ℕ) (s : ℕ) → settle_number g ls s ≡ 0 → LowRow (row_of g (settle_call g ls s))
 unfolding row_of

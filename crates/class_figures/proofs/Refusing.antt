@@ -12,7 +12,7 @@ use Rattle.graph.specs.Answer.{Answer}
 use Rattle.graph.specs.Inner.{IsRefusal}
 use Rattle.graph.specs.Admission.{tables_number}
 use Rattle.graph.specs.Graph.{Graph}
-use Rattle.graph.proofs.Answers.{ifLess-le, first_le, firstOf-le, tables-le}
+use Rattle.graph.proofs.Answers.{if_less_le, first_le, first_of_le, tables_le}
 use Rattle.graph.proofs.Cases.{lt_or_le}
 use Rattle.graph.proofs.Tests.{less, no_less, both, on, off, all_none, each_none, none}
 use Rattle.class_figures.specs.Call.{record_length, figure_number, record_number, length_number, figures_number}
@@ -59,11 +59,11 @@ module _ (r : List ℕ) where
   record_le : (n : ℕ) → record_number n r ≤ 13
   unfolding record_number figure_number
   record_le n =
-      first_le _ _ _ (ifLess-le _ _ _ _ _ (omega arith) (omega arith)) (firstOf-le _ _ _ (λ j. ifLess-le _ _ _ _ _ (omega arith) (omega arith)))
+      first_le _ _ _ (if_less_le _ _ _ _ _ (omega arith) (omega arith)) (first_of_le _ _ _ (λ j. if_less_le _ _ _ _ _ (omega arith) (omega arith)))
 
   length_le : length_number r ≤ 13
   unfolding length_number
-  length_le = ifLess-le _ _ _ _ _ (omega arith) (omega arith)
+  length_le = if_less_le _ _ _ _ _ (omega arith) (omega arith)
 
   pub figures_range : (k : ℕ) → k ≡ figures_number r → k ≢ 0 → IsRefusal k
   unfolding figures_number
@@ -71,7 +71,7 @@ module _ (r : List ℕ) where
 
   pub early_range : (g : Graph) (ls : List ℕ) (k : ℕ) → k ≡ first (record_number 1000 r) (first (tables_number g ls) (length_number r)) → k ≢ 0 → IsRefusal k
   early_range g ls k e d =
-      let m = first_le (record_number 1000 r) _ 13 (record_le 1000) (first_le (tables_number g ls) (length_number r) 13 (omega (arith, tables-le g ls)) length_le) in
+      let m = first_le (record_number 1000 r) _ 13 (record_le 1000) (first_le (tables_number g ls) (length_number r) 13 (omega (arith, tables_le g ls)) length_le) in
       (omega arith, omega arith)
 
 -- both signed numbers of the figures that were read

@@ -12,7 +12,7 @@ use Rattle.graph.specs.Finite.{if_less, if_equal}
 use Rattle.graph.specs.Graph.{Graph}
 use Rattle.graph.specs.Inner.{IsRefusal}
 use Rattle.graph.proofs.Admit.{admitted_by}
-use Rattle.graph.proofs.Answers.{tables-le, content-le, first_le, ifLess-le}
+use Rattle.graph.proofs.Answers.{tables_le, content_le, first_le, if_less_le}
 use Rattle.graph.proofs.Cases.{eq_or_ne}
 use Rattle.graph.proofs.Tests.{both, off, less, no_less, equal, unequal}
 use Rattle.compare.specs.Compare.{Compared, compared, size_apart, words_compared, graphs_compared, rooms_number, contents_number, compare_number, compare_call}
@@ -22,8 +22,8 @@ module _ (g : Graph) (ls : List ℕ) (h : Graph) (ks : List ℕ) where
   unfolding compare_number rooms_number contents_number
   compare_le b =
       first_le _ _ 13
-      (first_le _ _ 13 (omega (arith, tables-le g ls)) (first_le _ _ 13 (ifLess-le b g.N 4 0 13 (omega arith) (omega arith)) (omega (arith, tables-le h ks))))
-      (first_le _ _ 13 (content-le g ls) (content-le h ks))
+      (first_le _ _ 13 (omega (arith, tables_le g ls)) (first_le _ _ 13 (if_less_le b g.N 4 0 13 (omega arith) (omega arith)) (omega (arith, tables_le h ks))))
+      (first_le _ _ 13 (content_le g ls) (content_le h ks))
 
   pub compare_range : (b k : ℕ) → k ≡ compare_number g ls h ks b → k ≢ 0 → IsRefusal k
   compare_range b k e n = (omega arith, omega (arith, e, compare_le b))

@@ -13,7 +13,7 @@ use Rattle.graph.specs.Admission.{tables_number, content_number, admission_numbe
 use Rattle.graph.proofs.Finite.{length_tab, get_d_tab}
 use Rattle.graph.proofs.Tests.{less, no_less, equal, fault, both, off}
 use Rattle.graph.proofs.Admit.{admitted_by}
-use Rattle.graph.proofs.Answers.{ifLess-le, first_le, admission-le}
+use Rattle.graph.proofs.Answers.{if_less_le, first_le, admission_le}
 use Rattle.graph.proofs.Values.{literal_bit}
 use Rattle.evaluation.specs.Evaluation.{assignment_at, output_word, slice_number, scratch_number, evaluate_number, results_after}
 use Rattle.evaluation.specs.Promises.{ResultBit}
@@ -52,9 +52,9 @@ module _ (g : Graph) (ls : List ℕ) (w s r : ℕ) where
   pub evaluate_le : evaluate_number g ls w s r ≤ 13
   unfolding evaluate_number slice_number scratch_number admission_number
   evaluate_le =
-      first_within (tables_number g ls) _ (content_number g ls) _ 13 (admission-le g ls)
-      (ifLess-le _ _ _ _ _ (omega arith) (ifLess-le _ _ _ _ _ (omega arith) (omega arith)))
-      (ifLess-le _ _ _ _ _ (omega arith) (omega arith))
+      first_within (tables_number g ls) _ (content_number g ls) _ 13 (admission_le g ls)
+      (if_less_le _ _ _ _ _ (omega arith) (if_less_le _ _ _ _ _ (omega arith) (omega arith)))
+      (if_less_le _ _ _ _ _ (omega arith) (omega arith))
 
   pub lent : evaluate_number g ls w s r ≡ 0 → Lent g w s r
   unfolding evaluate_number slice_number scratch_number content_number

@@ -6,36 +6,36 @@ use mathlib.Core.List.{List}
 use lib.Dec.{lit≤}
 use lib.ListN.{drop}
 use Rattle.graph.specs.Inner.{IsRefusal}
-use Rattle.graph.proofs.Answers.{ifLess-le, ifEqual-le, first_le, room-le}
+use Rattle.graph.proofs.Answers.{if_less_le, if_equal_le, first_le, room_le}
 use Rattle.file_checks.specs.File.{be4, due_number, node_size, head_number, node_field_number, output_field_number, lock_field_number, end_number, lock_count, lock_fields_number, output_fields_number, node_fields_number, file_number}
 
 due_le : (low high : ℕ) (s : List ℕ) → due_number low high s ≤ 13
 unfolding due_number
 due_le low high s =
-    ifLess-le _ _ _ _ 13 (lit≤ tt) (ifLess-le _ _ _ _ 13 (lit≤ tt) (ifLess-le _ _ _ _ 13 (lit≤ tt)
-    (ifEqual-le _ _ _ _ 13 (ifLess-le _ _ _ _ 13 (lit≤ tt) (lit≤ tt)) (lit≤ tt))))
+    if_less_le _ _ _ _ 13 (lit≤ tt) (if_less_le _ _ _ _ 13 (lit≤ tt) (if_less_le _ _ _ _ 13 (lit≤ tt)
+    (if_equal_le _ _ _ _ 13 (if_less_le _ _ _ _ 13 (lit≤ tt) (lit≤ tt)) (lit≤ tt))))
 
 head_le : (s : List ℕ) (a b l : ℕ) → head_number s a b l ≤ 13
 unfolding head_number
-head_le s a b l = first_le _ _ 13 (due_le 1 1 s) (omega (arith, room-le (be4 s 3) (be4 s 7) (be4 s 11) a b l))
+head_le s a b l = first_le _ _ 13 (due_le 1 1 s) (omega (arith, room_le (be4 s 3) (be4 s 7) (be4 s 11) a b l))
 
 node_le : (s : List ℕ) (v : ℕ) → node_field_number s v ≤ 13
 unfolding node_field_number
 node_le s v =
-    first_le _ _ 13 (due_le 2 3 s) (ifLess-le _ _ _ _ 13 (ifLess-le _ _ _ _ 13
-    (ifEqual-le _ _ _ _ 13 (lit≤ tt) (ifLess-le _ _ _ _ 13 (lit≤ tt) (lit≤ tt))) (lit≤ tt)) (lit≤ tt))
+    first_le _ _ 13 (due_le 2 3 s) (if_less_le _ _ _ _ 13 (if_less_le _ _ _ _ 13
+    (if_equal_le _ _ _ _ 13 (lit≤ tt) (if_less_le _ _ _ _ 13 (lit≤ tt) (lit≤ tt))) (lit≤ tt)) (lit≤ tt))
 
 out_le : (s : List ℕ) (v : ℕ) → output_field_number s v ≤ 13
 unfolding output_field_number
-out_le s v = first_le _ _ 13 (due_le 4 4 s) (ifLess-le _ _ _ _ 13 (lit≤ tt) (lit≤ tt))
+out_le s v = first_le _ _ 13 (due_le 4 4 s) (if_less_le _ _ _ _ 13 (lit≤ tt) (lit≤ tt))
 
 lock_le : (s : List ℕ) (low top : ℕ) → lock_field_number s low top ≤ 13
 unfolding lock_field_number
-lock_le s low top = first_le _ _ 13 (due_le 6 6 s) (ifLess-le _ _ _ _ 13 (lit≤ tt) (ifLess-le _ _ _ _ 13 (lit≤ tt) (lit≤ tt)))
+lock_le s low top = first_le _ _ 13 (due_le 6 6 s) (if_less_le _ _ _ _ 13 (lit≤ tt) (if_less_le _ _ _ _ 13 (lit≤ tt) (lit≤ tt)))
 
 end_le : (s : List ℕ) → end_number s ≤ 13
 unfolding end_number
-end_le s = first_le _ _ 13 (due_le 5 5 s) (ifLess-le _ _ _ _ 13 (lit≤ tt) (lit≤ tt))
+end_le s = first_le _ _ 13 (due_le 5 5 s) (if_less_le _ _ _ _ 13 (lit≤ tt) (lit≤ tt))
 
 locks_le : (n : ℕ) (s : List ℕ) (low top : ℕ) → lock_fields_number n s low top ≤ 13
 locks_le zero s low top = end_le s

@@ -12,7 +12,7 @@ use Rattle.graph.specs.Admission.{Admitted, LockBytes, admission_number}
 use Rattle.graph.specs.Answer.{LockedOutcome, locked_outcome, accepted, refused}
 use Rattle.graph.specs.Inner.{IsRefusal}
 use Rattle.graph.proofs.Admit.{admitted, locks_admitted}
-use Rattle.graph.proofs.Answers.{first_le, ifLess-le, admission-le, refused-locked, accepted-locked}
+use Rattle.graph.proofs.Answers.{first_le, if_less_le, admission_le, refused_locked, accepted_locked}
 use Rattle.graph.proofs.Tests.{fault, none, both, off}
 use Rattle.moves.specs.Call.{scratch_fault}
 use Rattle.evaluation.specs.Inner.{nodes_of}
@@ -45,18 +45,18 @@ module _ (g : Graph) (ls : List ℕ) (s : ℕ) where
 
   scratch_le : scratch_fault g s ≤ 16
   unfolding scratch_fault
-  scratch_le = ifLess-le s (8 * g.N) 8 0 16 (omega arith) (omega arith)
+  scratch_le = if_less_le s (8 * g.N) 8 0 16 (omega arith) (omega arith)
 
   number_le : find_number g ls s ≤ 16
   unfolding find_number
-  number_le = first_le (admission_number g ls) (scratch_fault g s) 16 (omega (arith, admission-le g ls)) scratch_le
+  number_le = first_le (admission_number g ls) (scratch_fault g s) 16 (omega (arith, admission_le g ls)) scratch_le
 
   pub in_range : (k : ℕ) → k ≡ find_number g ls s → k ≢ 0 → IsRefusal k
   in_range k e d = (omega arith, omega (arith, number_le))
 
   pub refused_call : (k : ℕ) → k ≡ find_number g ls s → k ≢ 0 → locked_outcome (refused k) g ls ≡ find_call g ls s
   unfolding find_call
-  refused_call k e d = refused-locked k (find_number g ls s) g ls (found g ls) e (λ z. d (e ∙ z))
+  refused_call k e d = refused_locked k (find_number g ls s) g ls (found g ls) e (λ z. d (e ∙ z))
 
   -- what an accepted call knows
   pub record Fine : Type 0 where
@@ -73,4 +73,4 @@ module _ (g : Graph) (ls : List ℕ) (s : ℕ) where
   pub accepted_call : (k : Graph) (n : ℕ) (ls' : List ℕ) → n ≡ k.N → find_number g ls s ≡ 0 → k ≡ dropped (passed g ls g.N) ls → ls' ≡ dropped_locks (passed g ls g.N) ls
       → locked_outcome (accepted (n ∷ [])) k ls' ≡ find_call g ls s
   unfolding find_call found
-  accepted_call k n ls' c z e q = rw (c, e, q) (accepted-locked (find_number g ls s) g ls (found g ls) z)
+  accepted_call k n ls' c z e q = rw (c, e, q) (accepted_locked (find_number g ls s) g ls (found g ls) z)

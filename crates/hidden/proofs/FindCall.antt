@@ -8,7 +8,7 @@ use lib.ListN.{get_or}
 use Rattle.graph.specs.Graph.{Graph}
 use Rattle.graph.specs.Admission.{Admitted, LockBytes, admission_number}
 use Rattle.graph.proofs.Admit.{admitted, locks_admitted}
-use Rattle.graph.proofs.Answers.{accepted-locked}
+use Rattle.graph.proofs.Answers.{accepted_locked}
 use Rattle.graph.proofs.Tests.{both}
 use Rattle.moves.specs.Call.{scratch_fault}
 use Rattle.hidden.specs.Find.{passed}
@@ -46,4 +46,4 @@ pub finder_keeps : (g : Graph) (ls : List ℕ) (s : ℕ) → FinderKeeps g ls s
 unfolding find_call find_number
 finder_keeps g ls s e =
     let a = (both (admission_number g ls) (scratch_fault g s) e).0 in
-    rw (← accepted-locked (find_number g ls s) g ls (found g ls) e) (found_finds g ls (admitted g ls a) (locks_admitted g ls a))
+    rw (← accepted_locked (find_number g ls s) g ls (found g ls) e) (found_finds g ls (admitted g ls a) (locks_admitted g ls a))

@@ -11,7 +11,7 @@ use Rattle.graph.specs.Finite.{if_less, if_equal, first}
 use Rattle.graph.specs.Graph.{Graph}
 use Rattle.graph.specs.Admission.{Admitted, admission_number}
 use Rattle.graph.proofs.Admit.{admitted}
-use Rattle.graph.proofs.Answers.{accepted-outcome}
+use Rattle.graph.proofs.Answers.{accepted_outcome}
 use Rattle.graph.proofs.Cases.{true_or_false}
 use Rattle.graph.proofs.Tests.{both, on, passes}
 use Rattle.moves.specs.Call.{is_node, node_fault, scratch_fault}
@@ -71,7 +71,7 @@ majority_keeps g ls s t u e =
     let b = both (node_fault g u) (first (triple_fault t u) (first (lock_fault g ls u) (scratch_fault g s))) a.1 in
     let d = both (triple_fault t u) (first (lock_fault g ls u) (scratch_fault g s)) b.1 in
     let n = node_is g u b.0 in
-    rw (← accepted-outcome (majority_number g ls s t u) g (majority_outcome g t u) e)
+    rw (← accepted_outcome (majority_number g ls s t u) g (majority_outcome g t u) e)
     (outcome_same g (admitted g ls a.0) t u n.0 n.1 (rising_is t u d.0))
 
 pub outcome_number : (g : Graph) (t : Triple) (u : ℕ) → (majority_outcome g t u).answer.number ≡ 0

@@ -14,7 +14,7 @@ use Rattle.graph.specs.Graph.{Graph}
 use Rattle.graph.specs.Inner.{IsRefusal}
 use Rattle.graph.specs.Literals.{held}
 use Rattle.graph.proofs.Admit.{Rooms, rooms, admitted, locks_admitted}
-use Rattle.graph.proofs.Answers.{first_le, ifEqual-le, room-le, admission-le, accepted-locked}
+use Rattle.graph.proofs.Answers.{first_le, if_equal_le, room_le, admission_le, accepted_locked}
 use Rattle.graph.proofs.Cases.{lt_or_le}
 use Rattle.graph.proofs.Tests.{both, is}
 use Rattle.tagged_file.specs.Load.{blank}
@@ -56,10 +56,10 @@ module _ (g : Graph) (ls : List ℕ) (h : Graph) (ks : List ℕ) (a b l : ℕ) w
     omega (
       arith,
       e,
-      first_le (admission_number g ls) _ 19 (omega (arith, admission-le g ls))
-          (first_le (admission_number h ks) _ 19 (omega (arith, admission-le h ks))
-          (first_le (if_equal g.O h.I 0 19) (room_number g.I (g.N + h.N) h.O a b l) 19 (ifEqual-le g.O h.I 0 19 19 (omega arith) (omega arith))
-          (omega (arith, room-le g.I (g.N + h.N) h.O a b l)))),
+      first_le (admission_number g ls) _ 19 (omega (arith, admission_le g ls))
+          (first_le (admission_number h ks) _ 19 (omega (arith, admission_le h ks))
+          (first_le (if_equal g.O h.I 0 19) (room_number g.I (g.N + h.N) h.O a b l) 19 (if_equal_le g.O h.I 0 19 19 (omega arith) (omega arith))
+          (omega (arith, room_le g.I (g.N + h.N) h.O a b l)))),
     ),
   )
 
@@ -114,7 +114,7 @@ module _ (g : Graph) (ls : List ℕ) (h : Graph) (ks ns os rs : List ℕ) where
 
   pub call_is : join_number g ls h ks (held ns) (held os) (length rs) ≡ 0 → join_call g ls h ks ns os rs ≡ whole
   unfolding join_call
-  call_is e = sym (accepted-locked (join_number g ls h ks (held ns) (held os) (length rs)) (blank ns os) rs whole e)
+  call_is e = sym (accepted_locked (join_number g ls h ks (held ns) (held os) (length rs)) (blank ns os) rs whole e)
 
   -- both parts are admitted
   pub parts_admitted : (join_call g ls h ks ns os rs).answer.number ≡ 0 → Admitted g × Admitted h

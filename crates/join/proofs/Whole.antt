@@ -13,7 +13,7 @@ use Rattle.graph.specs.Finite.{tab}
 use Rattle.graph.specs.Graph.{Graph, graph_of, word, is_edge}
 use Rattle.graph.specs.Inner.{words_put}
 use Rattle.graph.specs.Literals.{held, filled}
-use Rattle.graph.proofs.Answers.{refused-locked}
+use Rattle.graph.proofs.Answers.{refused_locked}
 use Rattle.graph.proofs.Filled.{puts_filled}
 use Rattle.graph.proofs.Finite.{length_tab, tab_same}
 use Rattle.graph.proofs.Literals.{held_le}
@@ -63,7 +63,7 @@ locks_joined n m ls ks rs rs₁ rs₂ p e d =
 module _ (g : Graph) (ls : List ℕ) (h : Graph) (ks ns os rs : List ℕ) (k : ℕ) (e : k ≡ join_number g ls h ks (held ns) (held os) (length rs)) where
   pub join_refused : (m : ℕ) → m ≡ k → k ≢ 0 → locked_outcome (refused m) (blank ns os) rs ≡ join_call g ls h ks ns os rs
   unfolding join_call
-  join_refused m q d = refused-locked m _ (blank ns os) rs _ (q ∙ e) (λ z. d (e ∙ z))
+  join_refused m q d = refused_locked m _ (blank ns os) rs _ (q ∙ e) (λ z. d (e ∙ z))
 
   module _ (z : k ≡ 0) where
     abbrev known : Fits g ls h ks (held ns) (held os) (length rs)

@@ -14,7 +14,7 @@ use Rattle.graph.specs.Admission.{Admitted, admission_number}
 use Rattle.graph.specs.Answer.{Answer, Outcome, outcome, refused}
 use Rattle.graph.specs.Inner.{IsRefusal}
 use Rattle.graph.proofs.Admit.{admitted}
-use Rattle.graph.proofs.Answers.{first_le, ifLess-le, admission-le, refused-outcome, accepted-outcome}
+use Rattle.graph.proofs.Answers.{first_le, if_less_le, admission_le, refused_outcome, accepted_outcome}
 use Rattle.graph.proofs.Cases.{true_or_false, cond_le}
 use Rattle.graph.proofs.Tests.{both, off}
 use Rattle.moves.specs.Rows.{lock_at}
@@ -61,7 +61,7 @@ module _ (i n o : ℕ) (ns os : List ℕ) (t : Triple) where
 module _ (g : Graph) (ls : List ℕ) (s : ℕ) (t : Triple) (u : ℕ) where
   triple_le : triple_fault t u ≤ 16
   unfolding triple_fault
-  triple_le = ifLess-le 0 t.one _ 7 16 (ifLess-le t.one t.two _ 7 16 (ifLess-le t.two t.three _ 7 16 (ifLess-le t.three u 0 7 16 (omega arith) (omega arith)) (omega arith)) (omega arith)) (omega arith)
+  triple_le = if_less_le 0 t.one _ 7 16 (if_less_le t.one t.two _ 7 16 (if_less_le t.two t.three _ 7 16 (if_less_le t.three u 0 7 16 (omega arith) (omega arith)) (omega arith)) (omega arith)) (omega arith)
 
   lock_le : lock_fault g ls u ≤ 16
   unfolding lock_fault if_equal
@@ -69,12 +69,12 @@ module _ (g : Graph) (ls : List ℕ) (s : ℕ) (t : Triple) (u : ℕ) where
 
   scratch_le : scratch_fault g s ≤ 16
   unfolding scratch_fault
-  scratch_le = ifLess-le s (8 * g.N) 8 0 16 (omega arith) (omega arith)
+  scratch_le = if_less_le s (8 * g.N) 8 0 16 (omega arith) (omega arith)
 
   number_le : majority_number g ls s t u ≤ 16
   unfolding majority_number
   number_le =
-      first_le (admission_number g ls) _ 16 (omega (arith, admission-le g ls))
+      first_le (admission_number g ls) _ 16 (omega (arith, admission_le g ls))
       (first_le (node_fault g u) _ 16 (omega (arith, node_fault_le g u)) (first_le (triple_fault t u) _ 16 triple_le (first_le (lock_fault g ls u) (scratch_fault g s) 16 lock_le scratch_le)))
 
   pub in_range : (k : ℕ) → k ≡ majority_number g ls s t u → k ≢ 0 → IsRefusal k
@@ -82,11 +82,11 @@ module _ (g : Graph) (ls : List ℕ) (s : ℕ) (t : Triple) (u : ℕ) where
 
   pub refused_call : (k : ℕ) → k ≡ majority_number g ls s t u → k ≢ 0 → outcome (refused k) g ≡ majority_call g ls s t u
   unfolding majority_call
-  refused_call k e d = refused-outcome k (majority_number g ls s t u) g (majority_outcome g t u) e (λ z. d (e ∙ z))
+  refused_call k e d = refused_outcome k (majority_number g ls s t u) g (majority_outcome g t u) e (λ z. d (e ∙ z))
 
   pub accepted_call : (o : Outcome) → majority_number g ls s t u ≡ 0 → o ≡ majority_outcome g t u → o ≡ majority_call g ls s t u
   unfolding majority_call
-  accepted_call o z e = e ∙ accepted-outcome (majority_number g ls s t u) g (majority_outcome g t u) z
+  accepted_call o z e = e ∙ accepted_outcome (majority_number g ls s t u) g (majority_outcome g t u) z
 
   pub accepted_number : (o : Outcome) → o ≡ majority_outcome g t u → o.answer.number ≡ 0
   accepted_number o e = ap (λ (x : Outcome). x.answer.number) e ∙ outcome_number g t u

@@ -11,7 +11,7 @@ use Rattle.graph.specs.Graph.{Graph, node}
 use Rattle.graph.specs.Admission.{Admitted, tables_number, content_number}
 use Rattle.graph.specs.Inner.{IsRefusal}
 use Rattle.graph.proofs.Tests.{less, no_less, none, both, on, off, each_none}
-use Rattle.graph.proofs.Answers.{ifLess-le, first_le, firstOf-le, tables-le, content-le}
+use Rattle.graph.proofs.Answers.{if_less_le, first_le, first_of_le, tables_le, content_le}
 use Rattle.graph.proofs.Admit.{admitted_by}
 use Rattle.moves.specs.Rows.{kind_moves}
 use Rattle.moves.specs.Call.{node_fault, move_number}
@@ -40,7 +40,7 @@ module _ (us : List ℕ) where
 rising_le : (us : List ℕ) (j : ℕ) → rising_fault us j ≤ 16
 unfolding rising_fault
 rising_le us zero = omega arith
-rising_le us (suc j) = ifLess-le _ _ 0 14 16 (omega arith) (omega arith)
+rising_le us (suc j) = if_less_le _ _ 0 14 16 (omega arith) (omega arith)
 
 above : (us : List ℕ) (j : ℕ) → rising_fault us (suc j) ≡ 0 → get_or us j 0 < get_or us (suc j) 0
 unfolding rising_fault
@@ -89,9 +89,9 @@ module _ (g : Graph) (ls us ms : List ℕ) where
     omega (
       arith,
       e,
-      first_le (tables_number g ls) _ 16 (omega (arith, tables-le g ls))
-          (first_le (if_less (length ms) (length us) 4 0) _ 16 (ifLess-le _ _ 4 0 16 (omega arith) (omega arith))
-          (first_le (content_number g ls) _ 16 (omega (arith, content-le g ls)) (firstOf-le (length us) _ 16 (λ j. entry_le g ls us ms j)))),
+      first_le (tables_number g ls) _ 16 (omega (arith, tables_le g ls))
+          (first_le (if_less (length ms) (length us) 4 0) _ 16 (if_less_le _ _ 4 0 16 (omega arith) (omega arith))
+          (first_le (content_number g ls) _ 16 (omega (arith, content_le g ls)) (first_of_le (length us) _ 16 (λ j. entry_le g ls us ms j)))),
     ),
   )
 

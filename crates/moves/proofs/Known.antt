@@ -4,7 +4,7 @@ use Rattle.graph.specs.Finite.{if_less, if_equal, first}
 use Rattle.graph.specs.Graph.{Graph, node, is_xor}
 use Rattle.graph.proofs.Cases.{cond_le, eq_or_ne}
 use Rattle.graph.proofs.Tests.{less, no_less, equal, on, is, both, passes}
-use Rattle.graph.proofs.Answers.{ifLess-le, ifEqual-le, first_le}
+use Rattle.graph.proofs.Answers.{if_less_le, if_equal_le, first_le}
 use Rattle.moves.specs.Rows.{arity, kind_moves, lock_at, moves_at}
 use Rattle.moves.specs.Call.{is_node, node_fault, move_fault, locked_fault, move_number}
 use Rattle.moves.proofs.Moves.{kind_moves_lem, lock_of, moves_locked, moves_free}
@@ -43,7 +43,7 @@ module _ (g : Graph) (ls : List ℕ) where
   module _ (u m : ℕ) where
     pub move_number_le : move_number g ls u m ≤ 16
     unfolding move_number move_fault locked_fault
-    move_number_le = first_le _ _ 16 (ifLess-le _ _ 0 15 16 (omega arith) (omega arith)) (ifEqual-le _ 1 _ 0 16 (ifEqual-le _ 0 0 16 16 (omega arith) (omega arith)) (omega arith))
+    move_number_le = first_le _ _ 16 (if_less_le _ _ 0 15 16 (omega arith) (omega arith)) (if_equal_le _ 1 _ 0 16 (if_equal_le _ 0 0 16 16 (omega arith) (omega arith)) (omega arith))
 
     -- an accepted move is one that the kind has, and one that the node has
     pub kind_has : move_number g ls u m ≡ 0 → m < kind_moves g u

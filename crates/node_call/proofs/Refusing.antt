@@ -13,7 +13,7 @@ use Rattle.graph.specs.Admission.{Admitted, admission_number}
 use Rattle.graph.specs.Finite.{first}
 use Rattle.graph.specs.Graph.{Graph, node, is_edge, is_xor}
 use Rattle.graph.proofs.Admit.{admitted, locks_admitted}
-use Rattle.graph.proofs.Answers.{admission-le, first_le}
+use Rattle.graph.proofs.Answers.{admission_le, first_le}
 use Rattle.graph.proofs.Cases.{cond_le, eq_or_ne}
 use Rattle.graph.proofs.Tests.{none, both, passes}
 use Rattle.moves.specs.Call.{is_node, node_fault, word_fault, move_number, node_number, pair_number, named_by, trial_number}
@@ -51,7 +51,7 @@ module _ (g : Graph) (ls : List ℕ) (u : ℕ) where
 
   pub node_range : (k : ℕ) → k ≡ node_number g ls u → (k ≡ 0 → ⊥) → IsRefusal k
   unfolding node_number
-  node_range k e n = let a = admission-le g ls in (omega arith, omega (arith, first_le (admission_number g ls) (node_fault g u) 13 (omega arith) (omega (arith, node_fault_le g u))))
+  node_range k e n = let a = admission_le g ls in (omega arith, omega (arith, first_le (admission_number g ls) (node_fault g u) 13 (omega arith) (omega (arith, node_fault_le g u))))
 
   module _ (k : ℕ) where
     pub pair_is : pair_number g ls u k ≡ first (node_number g ls u) (word_fault g u k)
@@ -77,7 +77,7 @@ module _ (g : Graph) (ls : List ℕ) (u : ℕ) where
 
     node_le : node_number g ls u ≤ 13
     unfolding node_number
-    node_le = let a = admission-le g ls in first_le _ _ 13 (omega arith) (omega (arith, node_fault_le g u))
+    node_le = let a = admission_le g ls in first_le _ _ 13 (omega arith) (omega (arith, node_fault_le g u))
 
     pair_le : pair_number g ls u k ≤ 13
     pair_le = omega (arith, pair_is, first_le (node_number g ls u) (word_fault g u k) 13 node_le word_le)

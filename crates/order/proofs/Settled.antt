@@ -15,7 +15,7 @@ use Rattle.graph.specs.Graph.{Graph, node}
 use Rattle.graph.specs.Count.{C}
 use Rattle.graph.specs.Admission.{Admitted, LockBytes}
 use Rattle.graph.specs.Answer.{gained, Outcome, outcome}
-use Rattle.graph.proofs.Answers.{accepted-outcome}
+use Rattle.graph.proofs.Answers.{accepted_outcome}
 use Rattle.graph.proofs.Admit.{admitted, locks_admitted, admission_none}
 use Rattle.graph.proofs.Cases.{lt_or_le, eq_or_ne}
 use Rattle.graph.proofs.Tests.{both, none, less, no_less}
@@ -122,7 +122,7 @@ module _ (ls : List ℕ) (g : Graph) (low : LowestUnder ls g) where
 
   pub lowest_once : OneRound ls g
   unfolding settle_call start
-  lowest_once s l = sym (accepted-outcome (settle_number g ls s) g (settled g (settle ls g)) (passes s l)) ∙ rw settle_once
+  lowest_once s l = sym (accepted_outcome (settle_number g ls s) g (settled g (settle ls g)) (passes s l)) ∙ rw settle_once
 
   pub lowest_settled : SettledUnder ls g
   lowest_settled =
@@ -141,7 +141,7 @@ module _ (ls : List ℕ) (g : Graph) (s : ℕ) (z : settle_number g ls s ≡ 0) 
 
   after_is : (settle_call g ls s).graph ≡ (settle ls g).made.graph
   unfolding settle_call
-  after_is = sym (ap (λ (o : Outcome). o.graph) (accepted-outcome (settle_number g ls s) g (settled g (settle ls g)) z))
+  after_is = sym (ap (λ (o : Outcome). o.graph) (accepted_outcome (settle_number g ls s) g (settled g (settle ls g)) z))
 
   left_lowest : LowestUnder ls (settle_call g ls s).graph
   left_lowest =

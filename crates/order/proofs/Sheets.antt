@@ -12,7 +12,7 @@ use Rattle.graph.specs.Graph.{Graph}
 use Rattle.graph.specs.Answer.{Outcome, outcome, whole}
 use Rattle.graph.specs.Count.{C}
 use Rattle.graph.specs.Finite.{difference}
-use Rattle.graph.proofs.Answers.{accepted-outcome}
+use Rattle.graph.proofs.Answers.{accepted_outcome}
 use Rattle.graph.proofs.Tests.{both, passes, each_none}
 use Rattle.moves.specs.Apply.{none, put, apply}
 use Rattle.moves.specs.Call.{is_node, node_fault, moved}
@@ -54,7 +54,7 @@ module _ (g : Graph) (ls us ms : List ℕ) (z : many_number g ls us ms ≡ 0) wh
 
   pub call_is : (many_call g ls us ms).graph ≡ moved g us ms
   unfolding many_call
-  call_is = let h = moved g us ms in sym (ap (λ (o : Outcome). o.graph) (accepted-outcome (many_number g ls us ms) g (outcome (whole (difference (C g) (C h))) h) z))
+  call_is = let h = moved g us ms in sym (ap (λ (o : Outcome). o.graph) (accepted_outcome (many_number g ls us ms) g (outcome (whole (difference (C g) (C h))) h) z))
 
   call_made : (many_call g ls us ms).graph ≡ one_by_one g (entries us ms)
   call_made = call_is ∙ sym (every_order g ls us ms z (entries us ms) (Perm.refl (entries us ms)))

@@ -11,7 +11,7 @@ use Rattle.graph.specs.Admission.{admission_number, tables_number, content_numbe
 use Rattle.graph.specs.Finite.{first}
 use Rattle.graph.specs.Graph.{Graph, node}
 use Rattle.graph.specs.Answer.{Outcome}
-use Rattle.graph.proofs.Answers.{accepted-outcome}
+use Rattle.graph.proofs.Answers.{accepted_outcome}
 use Rattle.graph.proofs.Cases.{eq_or_ne, true_or_false}
 use Rattle.graph.proofs.Finite.{length_tab, get_d_tab}
 use Rattle.graph.proofs.Tests.{less, equal, unequal, none, both, all_none, long_slice}
@@ -135,7 +135,7 @@ module _ (g : Graph) (ls bs : List ℕ) (s r : ℕ) (e : preview_number g ls (le
   same : (many_call g ls (all_nodes g) told).graph ≡ (tree_call g ls s r).graph
   unfolding many_call
   same =
-      ap (λ (o : Outcome). o.graph) (sym (accepted-outcome (many_number g ls (all_nodes g) told) g _ number_fine))
+      ap (λ (o : Outcome). o.graph) (sym (accepted_outcome (many_number g ls (all_nodes g) told) g _ number_fine))
       ∙ all_moved g told (omega (arith, told_length, long))
       ∙ (as_tree_call g ls bs s r).same_graph e
 

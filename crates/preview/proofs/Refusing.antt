@@ -10,7 +10,7 @@ use Rattle.graph.specs.Graph.{Graph}
 use Rattle.graph.specs.Admission.{Admitted}
 use Rattle.graph.specs.Answer.{Answer, refused}
 use Rattle.graph.specs.Inner.{IsRefusal}
-use Rattle.graph.proofs.Answers.{tables-le, first_le, ifLess-le, refused-is, accepted-is}
+use Rattle.graph.proofs.Answers.{tables_le, first_le, if_less_le, refused_is, accepted_is}
 use Rattle.graph.proofs.Cases.{eq_or_ne}
 use Rattle.graph.proofs.Tests.{equal, unequal, off, both}
 use Rattle.moves.specs.Tree.{tree}
@@ -26,7 +26,7 @@ module _ (g : Graph) (ls : List ℕ) (b s r : ℕ) where
 
   preview_le : preview_number g ls b s r ≤ 19
   unfolding preview_number
-  preview_le = first_le _ _ 19 (omega (arith, tables-le g ls)) (first_le _ _ 19 (ifLess-le b g.N 4 0 19 (omega arith) (omega arith)) tree_le)
+  preview_le = first_le _ _ 19 (omega (arith, tables_le g ls)) (first_le _ _ 19 (if_less_le b g.N 4 0 19 (omega arith) (omega arith)) tree_le)
 
   -- what `refused_by` asks of the number
   pub preview_range : (k : ℕ) → k ≡ preview_number g ls b s r → k ≢ 0 → IsRefusal k
@@ -48,13 +48,13 @@ rewritten g ls us = refl
 pub refused_preview : (g : Graph) (ls bs : List ℕ) (s r k : ℕ) → k ≡ preview_number g ls (length bs) s r → k ≢ 0 → (refused k ≡ preview_answer g ls (length bs) s r) × (bs ≡ preview_bytes g ls bs s r)
 unfolding preview_answer preview_bytes
 refused_preview g ls bs s r k e d =
-    (refused-is k (preview_number g ls (length bs) s r) (rewrite g ls (tree g r)).answer e (λ z. d (e ∙ z)), unequal (preview_number g ls (length bs) s r) 0 (moves_told g ls r bs) bs (λ z. d (e ∙ z)) refl)
+    (refused_is k (preview_number g ls (length bs) s r) (rewrite g ls (tree g r)).answer e (λ z. d (e ∙ z)), unequal (preview_number g ls (length bs) s r) 0 (moves_told g ls r bs) bs (λ z. d (e ∙ z)) refl)
 
 pub told_preview : (g : Graph) (ls bs bs' : List ℕ) (s r : ℕ) (x : Answer) → preview_number g ls (length bs) s r ≡ 0 → x ≡ (rewrite g ls (tree g r)).answer → bs' ≡ moves_told g ls r bs
     → (x ≡ preview_answer g ls (length bs) s r) × (bs' ≡ preview_bytes g ls bs s r) × (x.number ≡ 0)
 unfolding preview_answer preview_bytes
 told_preview g ls bs bs' s r x e p q = (
-  p ∙ accepted-is (preview_number g ls (length bs) s r) (rewrite g ls (tree g r)).answer e,
+  p ∙ accepted_is (preview_number g ls (length bs) s r) (rewrite g ls (tree g r)).answer e,
   equal (preview_number g ls (length bs) s r) 0 (moves_told g ls r bs) bs e q,
   ap (λ (a : Answer). a.number) p ∙ rewritten g ls (tree g r),
 )

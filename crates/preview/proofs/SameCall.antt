@@ -33,7 +33,7 @@ use Rattle.tree_call.proofs.Saved.{rewrite_is}
 use Rattle.preview.specs.Telling.{DecidedAs}
 use Rattle.moves.proofs.Programme.{members_zero, members_in, members_out}
 use Rattle.preview.specs.Preview.{tree_moves, moves_told, choice_in, preview_number, preview_answer, preview_bytes, AsTreeCall}
-use Rattle.graph.proofs.Answers.{accepted-is, accepted-outcome}
+use Rattle.graph.proofs.Answers.{accepted_is, accepted_outcome}
 use Rattle.preview.proofs.Refusing.{accepted_preview}
 use Rattle.preview.proofs.Choices.{choice_at, choice_none}
 
@@ -136,12 +136,12 @@ module _ (g : Graph) (ls bs : List ℕ) (s r : ℕ) where
 
   call_is : tree_number g ls s r ≡ 0 → tree_call g ls s r ≡ rewrite g ls (tree g r)
   unfolding tree_call
-  call_is e = sym (accepted-outcome (tree_number g ls s r) g (rewrite g ls (tree g r)) e)
+  call_is e = sym (accepted_outcome (tree_number g ls s r) g (rewrite g ls (tree g r)) e)
 
   answered : preview_number g ls (length bs) s r ≡ 0 → preview_answer g ls (length bs) s r ≡ (tree_call g ls s r).answer
   unfolding preview_answer
   answered e =
-      sym (accepted-is (preview_number g ls (length bs) s r) (rewrite g ls (tree g r)).answer e) ∙ ap (λ o. o.answer) (sym (call_is (tree_accepted e).0))
+      sym (accepted_is (preview_number g ls (length bs) s r) (rewrite g ls (tree g r)).answer e) ∙ ap (λ o. o.answer) (sym (call_is (tree_accepted e).0))
 
   pub bytes_told : preview_number g ls (length bs) s r ≡ 0 → preview_bytes g ls bs s r ≡ moves_told g ls r bs
   unfolding preview_bytes

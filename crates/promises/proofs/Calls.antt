@@ -17,7 +17,7 @@ use Rattle.graph.proofs.Cases.{true_or_false, eq_or_ne}
 use Rattle.graph.proofs.DifferenceSum.{no_difference, telescope}
 use Rattle.graph.proofs.Tests.{none, both}
 use Rattle.graph.proofs.Admit.{admission_none}
-use Rattle.graph.proofs.Answers.{accepted-locked}
+use Rattle.graph.proofs.Answers.{accepted_locked}
 use Rattle.moves.specs.Apply.{put, apply}
 use Rattle.moves.specs.Apply as choices
 use Rattle.moves.specs.Tree.{tree}
@@ -182,7 +182,7 @@ module _ (d : Locked) (adm : Admitted d.graph) (ok : LockBytes d.graph.N d.locks
         locked = ok;
         number = rw e (locked_number g ls o fine k ∙ q);
         refused = λ h. rw e (locked_refused g ls o k (λ z. h (sym q ∙ z)));
-        accepted = λ z. rw (e, ← accepted-locked k g ls o (q ∙ z)) (b z);
+        accepted = λ z. rw (e, ← accepted_locked k g ls o (q ∙ z)) (b z);
       }
 
   -- what an accepted majority call keeps
@@ -338,4 +338,4 @@ module _ (d : Locked) (adm : Admitted d.graph) (ok : LockBytes d.graph.N d.locks
       rewired_holds (finding scratch) (found g ls)
       (λ z.
       let f = found_finds g ls adm ok in
-      (sym (accepted-locked (find_number g ls (length scratch)) g ls (found g ls) (finding_passed scratch ∙ z)), f.keeps, f.locked))
+      (sym (accepted_locked (find_number g ls (length scratch)) g ls (found g ls) (finding_passed scratch ∙ z)), f.keeps, f.locked))

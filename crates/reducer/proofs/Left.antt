@@ -10,7 +10,7 @@ use Rattle.graph.specs.Graph.{Graph, graph_of}
 use Rattle.graph.specs.Answer.{Answer, Outcome, LockedOutcome, outcome, locked_outcome, accepted, unless, ScratchKept}
 use Rattle.tagged_file.specs.Write.{WriteOutcome, write_outcome}
 use Rattle.graph.proofs.Tests.{equal}
-use Rattle.graph.proofs.Answers.{accepted-is}
+use Rattle.graph.proofs.Answers.{accepted_is}
 use Rattle.file_checks.specs.File.{be2, field_number, field_payload}
 use Rattle.tagged_file.specs.declared.Loaded.{Loaded}
 use Rattle.tagged_file.specs.declared.Loaded.TheVariants as loaded
@@ -24,7 +24,7 @@ use Rattle.replay.specs.declared.Replayed.{Replayed}
 use Rattle.replay.specs.declared.Replayed.TheVariants as replayed
 use Rattle.replay.specs.declared.CallsFault.TheVariants.{LeftOver, UnknownKind, PartOutside}
 use Rattle.replay.specs.Replay.{replayed_answer, replayed_graph, DemandMet}
-use Rattle.graph.proofs.Answers.{number-some}
+use Rattle.graph.proofs.Answers.{number_some}
 use Rattle.graph.specs.Literals.{before, after, Slice, table_after}
 use denote.Ref.{Bor}
 use denote.Triple.Both.{Both}
@@ -117,7 +117,7 @@ replayed_demand (replayed.Done i n o) d cs ns os ls l before m e h z = rw e (h z
 replayed_demand (replayed.NotCalls LeftOver) d cs ns os ls l before m e h z = absurd (omega arith)
 replayed_demand (replayed.NotCalls UnknownKind) d cs ns os ls l before m e h z = absurd (omega arith)
 replayed_demand (replayed.NotCalls PartOutside) d cs ns os ls l before m e h z = absurd (omega arith)
-replayed_demand (replayed.Refused r) d cs ns os ls l before m e h z = absurd (number-some r z)
+replayed_demand (replayed.Refused r) d cs ns os ls l before m e h z = absurd (number_some r z)
 
 -- the stretch that a field call tells of is the payload
 take_again : (m : ℕ) (l : List ℕ) → take (length (take m l)) l ≡ take m l
@@ -132,7 +132,7 @@ payload_is s z = equal (field_number s) 0 (take (be2 s 1) (drop 3 s)) [] z refl
 pub stretch_told : (s p q : List ℕ) → q ≡ told (unless (field_number s) (accepted (3 ∷ length (field_payload s) ∷ []))) p → field_number s ≡ 0
     → take (get_or q 1 0) (drop (get_or q 0 0) s) ≡ field_payload s
 stretch_told s p q e z =
-    let a = accepted-is (field_number s) (accepted (3 ∷ length (field_payload s) ∷ [])) z in
+    let a = accepted_is (field_number s) (accepted (3 ∷ length (field_payload s) ∷ [])) z in
     let t : q ≡ 3 ∷ length (field_payload s) ∷ [] = e ∙ sym (same_told p a) in
     let w : take (length (field_payload s)) (drop 3 s) ≡ field_payload s = rw (← payload_is s z) (take_again (be2 s 1) (drop 3 s)) in
     ap (λ (l : List ℕ). take (get_or l 1 0) (drop (get_or l 0 0) s)) t ∙ w

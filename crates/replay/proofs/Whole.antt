@@ -13,7 +13,7 @@ use Rattle.graph.specs.Count.{C}
 use Rattle.graph.specs.Answer.{Answer, accepted, refused, number_of, own_of, others_of, saving_of, LockedOutcome, locked_outcome, guarded_locks, ScratchKept}
 use Rattle.graph.specs.declared.Refusal.{Refusal}
 use Rattle.graph.proofs.Tests.{equal, unequal, fault, none}
-use Rattle.graph.proofs.Answers.{number-some, refused-locked, accepted-locked}
+use Rattle.graph.proofs.Answers.{number_some, refused_locked, accepted_locked}
 use Rattle.tagged_file.specs.Load.{blank, loaded_answer, loaded_graph, load_call}
 use Rattle.tagged_file.specs.declared.Loaded.{Loaded}
 use Rattle.promises.specs.Demand.{Call, Locked, with_locks, step, left, run, rewires, savings, Demand}
@@ -95,7 +95,7 @@ module _ (file ws ns os ls : List ℕ) (t : Lent) (l : List ℤ) where
   refuses : (k : ℕ) → k ≡ replay_number file ws n₀ ns os ls (length l) → (k ≡ 0 → ⊥) → Met (refused k) (with_locks (blank ns os) ls) l t.scratch
   unfolding replay_call answers_after
   refuses k e n = (
-    refused-locked k (replay_number file ws n₀ ns os ls (length l)) (blank ns os) ls _ e (λ z. n (e ∙ z)),
+    refused_locked k (replay_number file ws n₀ ns os ls (length l)) (blank ns os) ls _ e (λ z. n (e ∙ z)),
     (unequal (replay_number file ws n₀ ns os ls (length l)) 0 _ l (λ z. n (e ∙ z)) refl, ((λ m. refl), (λ z. absurd (n z)))),
   )
 
@@ -108,8 +108,8 @@ module _ (file ws ns os ls : List ℕ) (t : Lent) (l : List ℤ) where
   unfolding replay_number
   refused_file r ns' os' ls' z e =
       let q : number_of r ≡ loaded.answer.number = ap (λ (o : LockedOutcome). o.answer.number) e in
-      let h : with_locks (blank ns' os') ls' ≡ with_locks (blank ns os) ls = ap left e ∙ unchanged (λ y. number-some r (q ∙ y)) in
-      let m = refuses (number_of r) (none (code_number ws n₀ (length l)) loaded.answer.number z q) (number-some r) in
+      let h : with_locks (blank ns' os') ls' ≡ with_locks (blank ns os) ls = ap left e ∙ unchanged (λ y. number_some r (q ∙ y)) in
+      let m = refuses (number_of r) (none (code_number ws n₀ (length l)) loaded.answer.number z q) (number_some r) in
       subst (λ (d : Locked). Met (refused (number_of r)) d l t.scratch) (sym h) m
 
   pub replays : (i n o : ℕ) (ns' os' ls' : List ℕ) (l' : List ℤ) (sc' : List ℕ) (h : Locked) → code_number ws n₀ (length l) ≡ 0
@@ -125,7 +125,7 @@ module _ (file ws ns os ls : List ℕ) (t : Lent) (l : List ℤ) where
       f ∙ ap (λ (x : LockedOutcome). answers_of (left x) (decode t ws) ++ drop (3 * (length ws / 3)) l) e in
       let m : first (code_number ws n₀ (length l)) loaded.answer.number ≡ 0 = sym (none (code_number ws n₀ (length l)) loaded.answer.number z (sym y)) in (
         ap (λ (x : Locked). locked_outcome (accepted (x.graph.I ∷ x.graph.N ∷ x.graph.O ∷ [])) x.graph x.locks) u
-            ∙ accepted-locked (first (code_number ws n₀ (length l)) loaded.answer.number) (blank ns os) ls _ m,
+            ∙ accepted_locked (first (code_number ws n₀ (length l)) loaded.answer.number) (blank ns os) ls _ m,
         (
           equal (first (code_number ws n₀ (length l)) loaded.answer.number) 0 _ l m v,
           ((λ b. absurd (b refl)), (λ b. demand_met _ h (decode t ws) l' _ (after_load file ns os ls y (decode t ws)) u v)),

@@ -13,7 +13,7 @@ use Rattle.graph.specs.declared.Refusal.{Refusal}
 use Rattle.graph.specs.Literals.{held}
 use Rattle.graph.specs.Answer.{accepted, refused, gained, number_of, Outcome, outcome, guarded, LockedOutcome, locked_outcome}
 use Rattle.graph.proofs.Tests.{equal, unequal}
-use Rattle.graph.proofs.Answers.{number-some, accepted-outcome}
+use Rattle.graph.proofs.Answers.{number_some, accepted_outcome}
 use Rattle.tagged_file.proofs.Stores.{front}
 use Rattle.tagged_file.specs.Load.{loaded_answer, loaded_graph, blank}
 use Rattle.tagged_file.specs.declared.Loaded.{Loaded}
@@ -50,7 +50,7 @@ module _ (o : LockedOutcome) (g : Graph) (ls b b' : List ℕ) (r : ℕ) where
   unfolding text_of
   refused_printed q e h =
       let s : LockedOutcome = locked_outcome (refused (number_of q)) g ls in
-      printed_is s b b' (line1 refused_text (number_of q)) r (sym (unequal (number_of q) 0 _ _ (number-some q) refl)) h.0 h.1 h.2
+      printed_is s b b' (line1 refused_text (number_of q)) r (sym (unequal (number_of q) 0 _ _ (number_some q) refl)) h.0 h.1 h.2
       ∙ ap (λ (x : LockedOutcome). printed x b) e
 
 -- a file that is loaded is settled, and a refused one is left at that
@@ -62,7 +62,7 @@ loaded_then l vs g ls s e = equal 0 0 _ _ refl refl ∙ ap (λ (x : LockedOutcom
 pub refused_then : (l : LockedOutcome) (q : Refusal) (g : Graph) (ls : List ℕ) (s : ℕ) → locked_outcome (refused (number_of q)) g ls ≡ l
     → locked_outcome (refused (number_of q)) g ls ≡ then_settle l s
 unfolding then_settle
-refused_then l q g ls s e = unequal (number_of q) 0 _ _ (number-some q) refl ∙ ap (λ (x : LockedOutcome). then_settle x s) e
+refused_then l q g ls s e = unequal (number_of q) 0 _ _ (number_some q) refl ∙ ap (λ (x : LockedOutcome). then_settle x s) e
 
 -- a call that is accepted met no fault, and a graph that is settled is admitted
 guarded_zero : (k : ℕ) (g : Graph) (o : Outcome) → (guarded k g o).answer.number ≡ 0 → k ≡ 0
@@ -76,7 +76,7 @@ unfolding settle_call
 settled_admitted g h ls s vs x y e =
     let z = guarded_zero (settle_number g ls s) g _ (sym (ap (λ (o : LockedOutcome). o.answer.number) e)) in
     let p = passed g ls s z in
-    let q : (settle ls g).made.graph ≡ h = ap (λ (o : Outcome). o.graph) (accepted-outcome (settle_number g ls s) g _ z) ∙ sym (ap (λ (o : LockedOutcome). o.graph) e) in
+    let q : (settle ls g).made.graph ≡ h = ap (λ (o : Outcome). o.graph) (accepted_outcome (settle_number g ls s) g _ z) ∙ sym (ap (λ (o : LockedOutcome). o.graph) e) in
     rw q at (settle_ended ls g p.0).keeps.stays.admitted
 
 -- the answers of both calls, by their cases

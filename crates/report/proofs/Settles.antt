@@ -10,7 +10,7 @@ use Rattle.graph.specs.Admission.{Admitted, LockBytes}
 use Rattle.graph.specs.Literals.{held}
 use Rattle.graph.specs.Answer.{Outcome, LockedOutcome}
 use Rattle.graph.proofs.Admit.{admission_none}
-use Rattle.graph.proofs.Answers.{accepted-outcome}
+use Rattle.graph.proofs.Answers.{accepted_outcome}
 use Rattle.graph.proofs.Tests.{equal, none, no_less}
 use Rattle.moves.specs.Call.{scratch_fault}
 use Rattle.tagged_file.specs.Load.{graph_read, load_call}
@@ -25,7 +25,7 @@ settle_accepted : (g : Graph) (ls : List ℕ) (s : ℕ) → Admitted g → LockB
 unfolding settle_call settle_number scratch_fault
 settle_accepted g ls s a ok h =
     let z : 0 ≡ settle_number g ls s = none _ _ (admission_none g a ls ok) (no_less s (8 * g.N) 8 0 h refl) in
-    sym (ap (λ (o : Outcome). o.answer.number) (accepted-outcome (settle_number g ls s) g _ (sym z)))
+    sym (ap (λ (o : Outcome). o.answer.number) (accepted_outcome (settle_number g ls s) g _ (sym z)))
 
 -- the node table has room for the loaded nodes
 nodes_within : (file ns os ls : List ℕ) → (load_call file ns os ls).answer.number ≡ 0 → 3 * (load_call file ns os ls).graph.N ≤ held ns

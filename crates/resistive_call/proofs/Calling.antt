@@ -10,7 +10,7 @@ use Rattle.graph.specs.Answer.{Answer, refused, Outcome, outcome}
 use Rattle.graph.specs.Count.{C}
 use Rattle.graph.specs.Finite.{difference}
 use Rattle.graph.specs.Graph.{Graph, node}
-use Rattle.graph.proofs.Answers.{refused-outcome, accepted-outcome}
+use Rattle.graph.proofs.Answers.{refused_outcome, accepted_outcome}
 use Rattle.graph.proofs.DifferenceSum.{no_difference}
 use Rattle.moves.specs.Call.{moved, tree_number, rewrite_by, split}
 use Rattle.moves.specs.Compose.{IsRoot}
@@ -48,11 +48,11 @@ rewrite_is g k ls sc r v b a x adm i e td w p q y =
 -- the call, refused and not
 pub refused_call : (g : Graph) (ls : List ℕ) (s r k : ℕ) → k ≡ tree_number g ls s r → k ≢ 0 → outcome (refused k) g ≡ resistive_call g ls s r
 unfolding resistive_call
-refused_call g ls s r k e d = refused-outcome k (tree_number g ls s r) g (rewrite_by g (tree g r) (best_still g ls r)) e (λ z. d (e ∙ z))
+refused_call g ls s r k e d = refused_outcome k (tree_number g ls s r) g (rewrite_by g (tree g r) (best_still g ls r)) e (λ z. d (e ∙ z))
 
 pub accepted_call : (g : Graph) (ls : List ℕ) (s r : ℕ) (o : Outcome) → tree_number g ls s r ≡ 0 → o ≡ rewrite_by g (tree g r) (best_still g ls r) → o ≡ resistive_call g ls s r
 unfolding resistive_call
-accepted_call g ls s r o e q = q ∙ accepted-outcome (tree_number g ls s r) g (rewrite_by g (tree g r) (best_still g ls r)) e
+accepted_call g ls s r o e q = q ∙ accepted_outcome (tree_number g ls s r) g (rewrite_by g (tree g r) (best_still g ls r)) e
 
 pub accepted_number : (g : Graph) (ls : List ℕ) (r : ℕ) (a : Answer) (h : Graph) → outcome a h ≡ rewrite_by g (tree g r) (best_still g ls r) → a.number ≡ 0
 accepted_number g ls r a h e = ap (λ (o : Outcome). o.answer.number) e

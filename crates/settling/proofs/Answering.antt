@@ -11,7 +11,7 @@ use Rattle.graph.specs.Finite.{difference}
 use Rattle.graph.proofs.DifferenceSum.{part_by}
 use Rattle.graph.proofs.Tests.{both, off}
 use Rattle.graph.proofs.Admit.{admitted, locks_admitted}
-use Rattle.graph.proofs.Answers.{refused-outcome, accepted-outcome}
+use Rattle.graph.proofs.Answers.{refused_outcome, accepted_outcome}
 use Rattle.moves.specs.Call.{scratch_fault}
 use Rattle.state.specs.State.{stands}
 use Rattle.rounds.specs.Round.{Progress}
@@ -51,11 +51,11 @@ settled_outcome g h ls s r t z a e =
     let own : p.own ≡ difference (C g + r.later) (C p.graph + r.odd) = part_by p.own p.others (C g) (C p.graph) r.odd r.later n.sums t.others in
     rw (e, t.before, t.after, ← t.graph, ← t.rounds)
     (ap (λ (x : Answer). outcome x p.graph) (same_gained ((settle ls g).rounds ∷ C g ∷ C p.graph ∷ []) (sym own) (sym t.others))
-    ∙ accepted-outcome (settle_number g ls s) g (settled g (settle ls g)) z)
+    ∙ accepted_outcome (settle_number g ls s) g (settled g (settle ls g)) z)
 
 pub settled_number : (r : Figures) (a : Answer) → a ≡ figured r → a.number ≡ 0
 settled_number r a e = ap (λ (x : Answer). x.number) e
 
 pub refused_settling : (g : Graph) (ls : List ℕ) (s k : ℕ) → k ≡ settle_number g ls s → (settle_number g ls s ≡ 0 → ⊥) → outcome (refused k) g ≡ settle_call g ls s
 unfolding settle_call
-refused_settling g ls s k e n = refused-outcome k (settle_number g ls s) g _ e n
+refused_settling g ls s k e n = refused_outcome k (settle_number g ls s) g _ e n

@@ -9,7 +9,7 @@ use lib.ListN.{length, get_or, drop, set, length-set, length-append, get_or-appe
 use lib.Seq.{ext_get_or, get_or-set_same, get_or-set_other}
 use Rattle.graph.specs.Finite.{first, tab}
 use Rattle.graph.specs.Admission.{LockBytes}
-use Rattle.graph.proofs.Answers.{ifEqual-le}
+use Rattle.graph.proofs.Answers.{if_equal_le}
 use Rattle.graph.proofs.Cases.{eq_or_ne, lt_or_le}
 use Rattle.graph.proofs.Finite.{length_tab, get_d_tab}
 use Rattle.graph.proofs.Sweep.{swept, swept_done, swept_left, swept_front, length_swept}
@@ -30,7 +30,7 @@ module _ (x : ℕ) (l : List ℕ) (u : ℕ) where
 
 pub among_le : (l : List ℕ) (u : ℕ) → among l u ≤ 1
 among_le [] u = omega arith
-among_le (x ∷ l) u = ifEqual-le x u 1 (among l u) 1 (omega arith) (among_le l u)
+among_le (x ∷ l) u = if_equal_le x u 1 (among l u) 1 (omega arith) (among_le l u)
 
 -- the indices of the locks at the front
 pub indices_more : (s : List ℕ) → get_or s 0 0 ≡ 6 → lock_indices s ≡ be4 s 3 ∷ lock_indices (drop 7 s)

@@ -19,7 +19,7 @@ use Rattle.graph.proofs.Cases.{true_or_false}
 use Rattle.graph.proofs.Edge.{edge_early, edge_third, edge_none}
 use Rattle.graph.proofs.Finite.{length_tab, get_d_tab}
 use Rattle.graph.proofs.Tests.{both, none}
-use Rattle.graph.proofs.Answers.{accepted-locked}
+use Rattle.graph.proofs.Answers.{accepted_locked}
 use Rattle.file_checks.specs.File.{be4, lock_count, lock_fields_number, node_fields_number, file_number, node_words, single_words, after_nodes, after_singles, locks_from, lock_indices}
 use Rattle.tagged_file.specs.Load.{among, graph_read, locks_read, free_locks, load_call}
 use Rattle.tagged_file.specs.Write.{head_field, node_field_at, output_field_at, lock_field_at, end_field, in_order, file_of}
@@ -45,7 +45,7 @@ module _ (s ns os ls : List ℕ) where
 
   pub read_is : Accepts s ns os ls → load_call s ns os ls ≡ locked_outcome (accepted (be4 s 3 ∷ be4 s 7 ∷ be4 s 11 ∷ [])) (graph_read s ns os) (locks_read s ls)
   unfolding load_call
-  read_is e = sym (accepted-locked _ _ _ _ (no_fault e))
+  read_is e = sym (accepted_locked _ _ _ _ (no_fault e))
 
 edge_not : (g : Graph) (j : ℕ) → is_edge g j ≡ true → j % 3 ≡ 2 → word g j ≡ mark → ⊥
 unfolding is_edge
@@ -299,7 +299,7 @@ module _ (g : Graph) (ks : List ℕ) (a : Admitted g) (k : LockBytes g.N ks) (ns
 
   pub loads_written : LoadsWritten g ks ns os ls
   unfolding load_call
-  loads_written = let r = written_read in sym (accepted-locked _ _ _ _ written_number) ∙ rw (r.inputs, r.nodes, r.outputs, graph_is, locks_is) refl
+  loads_written = let r = written_read in sym (accepted_locked _ _ _ _ written_number) ∙ rw (r.inputs, r.nodes, r.outputs, graph_is, locks_is) refl
 
 -- a file without locks: document 01's
 unlocked : (i : ℕ) (ls : List ℕ) (v n : ℕ) → ((j : ℕ) → j < v + n → get_or ls j 0 ≡ 0) → in_order (lock_field_at i ls) v n ≡ []

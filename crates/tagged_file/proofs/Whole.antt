@@ -9,7 +9,7 @@ use Rattle.graph.specs.Graph.{Graph, graph_of}
 use Rattle.graph.specs.Literals.{held, filled}
 use Rattle.graph.specs.Answer.{LockedOutcome, accepted, refused, locked_outcome, guarded_locks}
 use Rattle.graph.proofs.Tests.{both, on}
-use Rattle.graph.proofs.Answers.{refused-locked, accepted-locked}
+use Rattle.graph.proofs.Answers.{refused_locked, accepted_locked}
 use Rattle.file_checks.specs.File.{be4, node_size, lock_count, node_field_number, output_field_number, lock_fields_number, output_fields_number, node_fields_number, file_number, node_words, single_words, after_nodes, after_singles, locks_from, lock_indices}
 use Rattle.tagged_file.specs.Inner.{locked_at}
 use Rattle.tagged_file.specs.Load.{blank, graph_read, locks_read, free_locks, load_call}
@@ -108,7 +108,7 @@ guarded_number (suc k) g ls o e = refl
 pub load_refused : (k j : ℕ) (s nodes outputs locks : List ℕ) → j ≡ k → k ≡ file_number s (held nodes) (held outputs) (length locks) → (k ≡ 0 → ⊥)
     → locked_outcome (refused j) (blank nodes outputs) locks ≡ load_call s nodes outputs locks
 unfolding load_call
-load_refused k j s nodes outputs locks ej e h = refused-locked _ _ _ _ _ (ej ∙ e) (λ z. h (e ∙ z))
+load_refused k j s nodes outputs locks ej e h = refused_locked _ _ _ _ _ (ej ∙ e) (λ z. h (e ∙ z))
 
 -- the lock bytes that are left
 locked_is : (s ls : List ℕ) (a b : ℕ) → Passed s a b (length ls) → locked_at (be4 s 3 + 1) (lock_indices (locks_from s)) (free_locks (be4 s 7) ls) ≡ locks_read s ls
@@ -124,4 +124,4 @@ load_accepted s nodes outputs locks z i n o nodes' outputs' locks' t r q ei en e
     let p = passed s _ _ _ z in
     let f = from_is s _ _ _ p n t en et o r eo er q eq in
     let w : locks' ≡ locks_read s locks = els ∙ rw (f, ei, en) (locked_is s locks _ _ p) in
-    rw (w, ens, eos, er, et, ei, en, eo) (accepted-locked _ _ _ _ z)
+    rw (w, ens, eos, er, et, ei, en, eo) (accepted_locked _ _ _ _ z)

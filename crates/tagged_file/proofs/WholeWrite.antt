@@ -11,7 +11,7 @@ use Rattle.graph.specs.Admission.{admission_number}
 use Rattle.graph.specs.Answer.{accepted, refused}
 use Rattle.graph.specs.Inner.{IsRefusal}
 use Rattle.graph.proofs.Tests.{both, off}
-use Rattle.graph.proofs.Answers.{ifLess-le, first_le, admission-le}
+use Rattle.graph.proofs.Answers.{if_less_le, first_le, admission_le}
 use Rattle.tagged_file.specs.Write.{big, field_of, head_field, end_field, node_field_at, output_field_at, lock_field_at, in_order, file_of, write_number, write_outcome, write_by, write_call}
 use Rattle.tagged_file.proofs.Stores.{front, in_a_row}
 use Rattle.tagged_file.proofs.FieldBytes.{length_node_most, length_output_at, length_lock_at, end_is}
@@ -109,7 +109,7 @@ file_stored g ls t t₁ t₂ t₃ t₄ t₅ second third end e₁ p₂ p₃ p₄
 pub write_fault : (k : ℕ) (g : Graph) (ls : List ℕ) (room : ℕ) → k ≡ write_number g ls room → (k ≡ 0 → ⊥) → IsRefusal k
 unfolding write_number
 write_fault k g ls room e n =
-    (omega arith, omega (arith, first_le (admission_number g ls) _ 13 (admission-le g ls) (ifLess-le room (length (file_of g ls)) 9 0 13 (omega arith) (omega arith))))
+    (omega arith, omega (arith, first_le (admission_number g ls) _ 13 (admission_le g ls) (if_less_le room (length (file_of g ls)) 9 0 13 (omega arith) (omega arith))))
 
 -- what an accepted graph and buffer have
 pub write_passed : (g : Graph) (ls : List ℕ) (room : ℕ) → write_number g ls room ≡ 0 → (admission_number g ls ≡ 0) × (length (file_of g ls) ≤ room)

@@ -14,7 +14,7 @@ use Rattle.graph.specs.Admission.{admission_number, Admitted}
 use Rattle.graph.proofs.Admit.{admitted, locks_admitted}
 use Rattle.graph.specs.Answer.{Answer, Outcome, outcome, refused}
 use Rattle.graph.specs.Inner.{IsRefusal}
-use Rattle.graph.proofs.Answers.{first_le, ifLess-le, admission-le, refused-outcome, accepted-outcome}
+use Rattle.graph.proofs.Answers.{first_le, if_less_le, admission_le, refused_outcome, accepted_outcome}
 use Rattle.graph.proofs.Cases.{cond_le}
 use Rattle.graph.proofs.Tests.{off, both, fault, none, passes, less, no_less}
 use Rattle.moves.specs.Call.{node_fault, root_fault, scratch_fault, tree_number, rewrite, tree_call}
@@ -65,11 +65,11 @@ module _ (g : Graph) where
 
     scratch_le : scratch_fault g s ≤ 9
     unfolding scratch_fault
-    scratch_le = ifLess-le s (8 * g.N) 8 0 9 (omega arith) (omega arith)
+    scratch_le = if_less_le s (8 * g.N) 8 0 9 (omega arith) (omega arith)
 
     tree_le : tree_number g ls s r ≤ 13
     unfolding tree_number
-    tree_le = first_le _ _ 13 (omega (arith, admission-le g ls)) (first_le _ _ 13 (omega (arith, node_fault_le g r)) (first_le _ _ 13 (omega (arith, root_le)) (omega (arith, scratch_le))))
+    tree_le = first_le _ _ 13 (omega (arith, admission_le g ls)) (first_le _ _ 13 (omega (arith, node_fault_le g r)) (first_le _ _ 13 (omega (arith, root_le)) (omega (arith, scratch_le))))
 
     -- what `refused_by` asks of the number
     pub tree_range : (k : ℕ) → k ≡ tree_number g ls s r → k ≢ 0 → IsRefusal k
@@ -96,11 +96,11 @@ long_scratch g s h = no_less s (8 * g.N) 8 0 h refl
 -- the call, refused and not
 pub refused_call : (g : Graph) (ls : List ℕ) (s r k : ℕ) → k ≡ tree_number g ls s r → k ≢ 0 → outcome (refused k) g ≡ tree_call g ls s r
 unfolding tree_call
-refused_call g ls s r k e d = refused-outcome k (tree_number g ls s r) g (rewrite g ls (tree g r)) e (λ z. d (e ∙ z))
+refused_call g ls s r k e d = refused_outcome k (tree_number g ls s r) g (rewrite g ls (tree g r)) e (λ z. d (e ∙ z))
 
 pub accepted_call : (g : Graph) (ls : List ℕ) (s r : ℕ) (o : Outcome) → tree_number g ls s r ≡ 0 → o ≡ rewrite g ls (tree g r) → o ≡ tree_call g ls s r
 unfolding tree_call
-accepted_call g ls s r o e q = q ∙ accepted-outcome (tree_number g ls s r) g (rewrite g ls (tree g r)) e
+accepted_call g ls s r o e q = q ∙ accepted_outcome (tree_number g ls s r) g (rewrite g ls (tree g r)) e
 
 pub accepted_number : (g : Graph) (ls : List ℕ) (r : ℕ) (a : Answer) (h : Graph) → outcome a h ≡ rewrite g ls (tree g r) → a.number ≡ 0
 unfolding rewrite

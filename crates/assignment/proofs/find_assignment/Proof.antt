@@ -5,7 +5,7 @@ use Prim.Native.Nat.{ℕ}
 use lib.ListN.{length}
 use Rattle.graph.specs.Graph.{graph_of}
 use Rattle.graph.specs.Answer.{Answer, accepted}
-use Rattle.graph.proofs.Answers.{refused-is, accepted-is}
+use Rattle.graph.proofs.Answers.{refused_is, accepted_is}
 use Rattle.assignment.specs.Assignment.{found_values, assignment_call}
 use Rattle.assignment.proofs.Refusing.{assignment_range, searchable}
 use borrow.Author.Rules.{rules}
@@ -23,7 +23,7 @@ returns : tie.Need-returns
 unfolding assignment_call
 returns c =
     let e = c.before.before.assignment-number.ensures in
-    (refused-is _ _ _ (c.refused-by.ensures ∙ e) (λ z. c.before.if1.true (e ∙ z)), λ z. refl)
+    (refused_is _ _ _ (c.refused-by.ensures ∙ e) (λ z. c.before.if1.true (e ∙ z)), λ z. refl)
 
 search-requires : tie.Need-search-requires
 search-requires c κs =
@@ -41,7 +41,7 @@ returns-2 c =
     let r = c.before.before.before in
     let n = r.before.before.before in
     let e = c.assigned-by.ensures in
-    (e ∙ ap (λ (l : List ℕ). accepted (found_values l)) r.search.ensures ∙ accepted-is _ _ (sym n.assignment-number.ensures ∙ r.before.before.if1.false), λ k. absurd (k (no_number _ _ e)))
+    (e ∙ ap (λ (l : List ℕ). accepted (found_values l)) r.search.ensures ∙ accepted_is _ _ (sym n.assignment-number.ensures ∙ r.before.before.if1.false), λ k. absurd (k (no_number _ _ e)))
 
 pub find-assignment-spec : {M : Type 1} → statement M
 find-assignment-spec =

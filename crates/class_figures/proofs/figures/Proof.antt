@@ -1,7 +1,7 @@
 -- `figures` meets its contract. From its callees' contracts.
 use mathlib.Core.Path.{refl, sym, ◌∙◌}
 use borrow.Author.Rules.{rules}
-use Rattle.graph.proofs.Answers.{refused-is, accepted-is}
+use Rattle.graph.proofs.Answers.{refused_is, accepted_is}
 use Rattle.graph.proofs.Tests.{equal, unequal}
 use Rattle.class_figures.specs.Call.{figures_call}
 use Rattle.class_figures.proofs.Refusing.{figures_range, roomy_figures}
@@ -15,7 +15,7 @@ returns : tie.Need-returns
 unfolding figures_call
 returns c =
     let e = c.before.before.figures-number.ensures in
-    refused-is _ _ _ (c.refused-by.ensures ∙ e) (λ z. c.before.if1.true (e ∙ z))
+    refused_is _ _ _ (c.refused-by.ensures ∙ e) (λ z. c.before.if1.true (e ∙ z))
 
 all-requires : tie.Need-all-requires
 all-requires c κs = let l = c.before in let n = l.before in roomy_figures n.before.before.args.book.now (sym n.figures-number.ensures ∙ l.if1.false)
@@ -25,7 +25,7 @@ unfolding figures_call
 returns-2 c =
     let l = c.before.before in
     let n = l.before in
-    c.all.ensures ∙ equal n.before.before.args.latest 0 _ _ c.before.if2.true refl ∙ accepted-is _ _ (sym n.figures-number.ensures ∙ l.if1.false)
+    c.all.ensures ∙ equal n.before.before.args.latest 0 _ _ c.before.if2.true refl ∙ accepted_is _ _ (sym n.figures-number.ensures ∙ l.if1.false)
 
 latest-requires : tie.Need-latest-requires
 latest-requires c κs = let l = c.before in let n = l.before in roomy_figures n.before.before.args.book.now (sym n.figures-number.ensures ∙ l.if1.false)
@@ -35,7 +35,7 @@ unfolding figures_call
 returns-3 c =
     let l = c.before.before in
     let n = l.before in
-    c.latest.ensures ∙ unequal n.before.before.args.latest 0 _ _ c.before.if2.false refl ∙ accepted-is _ _ (sym n.figures-number.ensures ∙ l.if1.false)
+    c.latest.ensures ∙ unequal n.before.before.args.latest 0 _ _ c.before.if2.false refl ∙ accepted_is _ _ (sym n.figures-number.ensures ∙ l.if1.false)
 
 pub figures-spec : {M : Type 1} → statement M
 figures-spec =

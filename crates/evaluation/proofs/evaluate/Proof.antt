@@ -4,7 +4,7 @@ use native.Mathlib.Omega.{arith}
 use lib.ListN.{length}
 use Rattle.graph.specs.Graph.{graph_of}
 use Rattle.graph.proofs.Tests.{equal, unequal}
-use Rattle.graph.proofs.Answers.{refused-is, accepted-is}
+use Rattle.graph.proofs.Answers.{refused_is, accepted_is}
 use Rattle.evaluation.specs.Evaluation.{results_after}
 use Rattle.evaluation.proofs.Call.{lent, evaluate_le}
 use borrow.Author.Rules.{rules}
@@ -23,7 +23,7 @@ returns : tie.Need-returns
 unfolding results_after
 returns c =
     let e = c.before.before.evaluate-number.ensures in (
-      refused-is _ _ _ (c.refused-by.ensures ∙ e) (λ z. c.before.if1.true (e ∙ z)),
+      refused_is _ _ _ (c.refused-by.ensures ∙ e) (λ z. c.before.if1.true (e ∙ z)),
       (unequal _ _ _ _ (λ z. c.before.if1.true (e ∙ z)) refl, λ z. refl),
     )
 
@@ -41,7 +41,7 @@ returns-2 c =
     let w = c.before.before.before.before in
     let d = w.before.before.before in
     let z = sym d.before.evaluate-number.ensures ∙ d.if1.false in
-    (accepted-is _ _ z, (equal _ _ _ _ z w.evaluate-words.ensures, λ n. absurd (n refl)))
+    (accepted_is _ _ z, (equal _ _ _ _ z w.evaluate-words.ensures, λ n. absurd (n refl)))
 
 pub evaluate-spec : {M : Type 1} → statement M
 evaluate-spec =

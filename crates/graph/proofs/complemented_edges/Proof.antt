@@ -3,7 +3,7 @@ use Rattle.std.proofs.Common.{ℕ, [], ◌∷◌, sym, ap, ◌∙◌, rules}
 use Rattle.graph.specs.Graph.{Graph, graph_of}
 use Rattle.graph.specs.Answer.{accepted}
 use Rattle.graph.proofs.Admit.{admitted}
-use Rattle.graph.proofs.Answers.{refused-is, accepted-is, admission-range}
+use Rattle.graph.proofs.Answers.{refused_is, accepted_is, admission_range}
 use Rattle.graph.specs.Literals.{literals}
 use Rattle.graph.proofs.complemented_edges.Statement.{statement}
 use Rattle.graph.proofs.complemented_edges.Tie as tie
@@ -12,12 +12,12 @@ refused-by-requires : tie.Need-refused-by-requires
 refused-by-requires c κs =
     let a = c.before.before.before.before.before.before.before.args in
     let g : Graph = graph_of a.inputs a.nodes a.outputs (literals a.node_table.now a.node_bits.now) (literals a.output_table.now a.output_bits.now) in
-    admission-range g a.locks.now _ c.before.admission-number.ensures c.if1.true
+    admission_range g a.locks.now _ c.before.admission-number.ensures c.if1.true
 
 returns : tie.Need-returns
 returns c =
     let e = c.before.before.admission-number.ensures in
-    refused-is _ _ _ (c.refused-by.ensures ∙ e) (λ z. c.before.if1.true (e ∙ z))
+    refused_is _ _ _ (c.refused-by.ensures ∙ e) (λ z. c.before.if1.true (e ∙ z))
 
 complemented-requires : tie.Need-complemented-requires
 complemented-requires c κs = admitted _ _ (sym c.before.admission-number.ensures ∙ c.if1.false)
@@ -25,7 +25,7 @@ complemented-requires c κs = admitted _ _ (sym c.before.admission-number.ensure
 returns-2 : tie.Need-returns-2
 returns-2 c =
     ap (λ (n : ℕ). accepted (n ∷ [])) c.complemented.ensures.0
-    ∙ accepted-is _ _ (sym c.before.before.admission-number.ensures ∙ c.before.if1.false)
+    ∙ accepted_is _ _ (sym c.before.before.admission-number.ensures ∙ c.before.if1.false)
 
 pub complemented-edges-spec : {M : Type 1} → statement M
 complemented-edges-spec =

@@ -5,7 +5,7 @@ use Rattle.graph.specs.Answer.{whole, outcome}
 use Rattle.graph.specs.Count.{C}
 use Rattle.graph.specs.Finite.{difference}
 use Rattle.graph.specs.Graph.{Graph, graph_of}
-use Rattle.graph.proofs.Answers.{refused-outcome, accepted-outcome}
+use Rattle.graph.proofs.Answers.{refused_outcome, accepted_outcome}
 use Rattle.graph.proofs.Difference.{read_as_lem}
 use Rattle.moves.specs.Call.{moved}
 use Rattle.many.specs.Many.{many_number, many_call}
@@ -28,7 +28,7 @@ unfolding many_call
 returns c =
     let n = c.before.before in
     let e = n.many-number.ensures in
-    refused-outcome _ _ _ _ (c.refused-by.ensures ∙ e) (λ z. c.before.if1.true (e ∙ z))
+    refused_outcome _ _ _ _ (c.refused-by.ensures ∙ e) (λ z. c.before.if1.true (e ∙ z))
 
 make-all-requires : tie.Need-make-all-requires
 make-all-requires c κs =
@@ -48,7 +48,7 @@ returns-2 c =
     let g : Graph = graph s in
     let h : Graph = moved g a.list.now a.bytes.now in
     ap₂ outcome (ap whole (read_as_lem _ m.make-all.type-inv ∙ m.make-all.ensures.1)) m.make-all.ensures.0
-    ∙ accepted-outcome (many_number g a.locks.now a.list.now a.bytes.now) g (outcome (whole (difference (C g) (C h))) h) (sym n.many-number.ensures ∙ i.if1.false)
+    ∙ accepted_outcome (many_number g a.locks.now a.list.now a.bytes.now) g (outcome (whole (difference (C g) (C h))) h) (sym n.many-number.ensures ∙ i.if1.false)
 
 pub many-spec : {M : Type 1} → statement M
 many-spec =

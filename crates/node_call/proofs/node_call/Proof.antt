@@ -5,7 +5,7 @@ use mathlib.Core.Path.{◌≡◌, sym, ap, ◌∙◌}
 use mathlib.Core.List.{[], ◌∷◌}
 use Prim.Native.Nat.{ℕ, ◌+◌, ◌-◌}
 use Rattle.graph.specs.Graph.{Graph, graph_of}
-use Rattle.graph.proofs.Answers.{refused-outcome, accepted-outcome}
+use Rattle.graph.proofs.Answers.{refused_outcome, accepted_outcome}
 use Rattle.moves.specs.Call.{node_call, node_number, rewrite}
 use Rattle.node_call.proofs.Refusing.{node_range, node_accepted}
 use Rattle.graph.specs.Literals.{literals}
@@ -26,7 +26,7 @@ returns c =
     let a = s.args in
     let g : Graph = graph_of a.inputs a.nodes a.outputs (literals a.node_table.now a.node_bits.now) (literals a.output_table.now a.output_bits.now) in
     let e = c.before.before.node-number.ensures in
-    refused-outcome _ (node_number g a.locks.now a.node) g (rewrite g a.locks.now (a.node ∷ [])) (c.refused-by.ensures ∙ e) (λ z. c.before.if1.true (e ∙ z))
+    refused_outcome _ (node_number g a.locks.now a.node) g (rewrite g a.locks.now (a.node ∷ [])) (c.refused-by.ensures ∙ e) (λ z. c.before.if1.true (e ∙ z))
 
 add-v : tie.Need-overflow-add-v
 add-v c =
@@ -58,7 +58,7 @@ returns-2 c =
     let g : Graph = graph_of a.inputs a.nodes a.outputs (literals a.node_table.now a.node_bits.now) (literals a.output_table.now a.output_bits.now) in
     let z = sym c.before.before.before.before.before.before.before.before.node-number.ensures ∙ c.before.before.before.before.before.before.before.if1.false in
     let u : a.inputs + 1 + (a.node - (a.inputs + 1)) ≡ a.node = omega (arith, (node_accepted g a.locks.now a.node z).after) in
-    c.before.before.before.before.rewrite-node.ensures ∙ ap (λ (n : ℕ). rewrite g a.locks.now (n ∷ [])) u ∙ accepted-outcome (node_number g a.locks.now a.node) g (rewrite g a.locks.now (a.node ∷ [])) z
+    c.before.before.before.before.rewrite-node.ensures ∙ ap (λ (n : ℕ). rewrite g a.locks.now (n ∷ [])) u ∙ accepted_outcome (node_number g a.locks.now a.node) g (rewrite g a.locks.now (a.node ∷ [])) z
 
 pub node-call-spec : {M : Type 1} → statement M
 node-call-spec =

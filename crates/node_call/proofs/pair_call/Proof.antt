@@ -2,7 +2,7 @@
 use borrow.Author.Rules.{rules}
 use mathlib.Core.Path.{sym, ◌∙◌}
 use Rattle.graph.specs.Graph.{Graph, graph_of}
-use Rattle.graph.proofs.Answers.{refused-outcome, accepted-outcome}
+use Rattle.graph.proofs.Answers.{refused_outcome, accepted_outcome}
 use Rattle.moves.specs.Call.{pair_call, pair_number, pair_rewrite}
 use Rattle.node_call.proofs.Refusing.{pair_range}
 use Rattle.graph.specs.Literals.{literals}
@@ -23,7 +23,7 @@ returns c =
     let a = s.args in
     let g : Graph = graph_of a.inputs a.nodes a.outputs (literals a.node_table.now a.node_bits.now) (literals a.output_table.now a.output_bits.now) in
     let e = c.before.before.pair-number.ensures in
-    refused-outcome _ (pair_number g a.locks.now a.node a.word) g (pair_rewrite g a.locks.now a.node a.word) (c.refused-by.ensures ∙ e) (λ z. c.before.if1.true (e ∙ z))
+    refused_outcome _ (pair_number g a.locks.now a.node a.word) g (pair_rewrite g a.locks.now a.node a.word) (c.refused-by.ensures ∙ e) (λ z. c.before.if1.true (e ∙ z))
 
 rewrite-named-requires : tie.Need-rewrite-named-requires
 rewrite-named-requires c κs = sym c.before.before.before.pair-number.ensures ∙ c.before.before.if1.false
@@ -34,7 +34,7 @@ returns-2 c =
     let s = c.before.before.before.before.before.before.before.before.before.before.before.before.before.before.before.before in
     let a = s.args in
     let g : Graph = graph_of a.inputs a.nodes a.outputs (literals a.node_table.now a.node_bits.now) (literals a.output_table.now a.output_bits.now) in
-    c.before.before.before.before.rewrite-named.ensures ∙ accepted-outcome (pair_number g a.locks.now a.node a.word) g (pair_rewrite g a.locks.now a.node a.word) (sym c.before.before.before.before.before.before.before.before.pair-number.ensures ∙ c.before.before.before.before.before.before.before.if1.false)
+    c.before.before.before.before.rewrite-named.ensures ∙ accepted_outcome (pair_number g a.locks.now a.node a.word) g (pair_rewrite g a.locks.now a.node a.word) (sym c.before.before.before.before.before.before.before.before.pair-number.ensures ∙ c.before.before.before.before.before.before.before.if1.false)
 
 pub pair-call-spec : {M : Type 1} → statement M
 pair-call-spec =

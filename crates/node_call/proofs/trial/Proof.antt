@@ -3,7 +3,7 @@ use borrow.Author.Rules.{rules}
 use mathlib.Core.Path.{sym, ap, ◌∙◌}
 use Rattle.graph.specs.Graph.{Graph, graph_of}
 use Rattle.graph.specs.Answer.{whole}
-use Rattle.graph.proofs.Answers.{refused-is, accepted-is}
+use Rattle.graph.proofs.Answers.{refused_is, accepted_is}
 use Rattle.graph.proofs.Difference.{read_as_lem}
 use Rattle.moves.specs.Call.{trial_number, trial_saving, trial_call}
 use Rattle.node_call.proofs.Refusing.{trial_range}
@@ -24,7 +24,7 @@ unfolding trial_call
 returns c =
     let n = c.before.before in
     let e = n.trial-number.ensures in
-    refused-is _ _ _ (c.refused-by.ensures ∙ e) (λ z. c.before.if1.true (e ∙ z))
+    refused_is _ _ _ (c.refused-by.ensures ∙ e) (λ z. c.before.if1.true (e ∙ z))
 
 named-saving-requires : tie.Need-named-saving-requires
 named-saving-requires c κs = sym c.before.trial-number.ensures ∙ c.if1.false
@@ -36,7 +36,7 @@ returns-2 c =
     let s = n.before.before.before.before.before.before in
     let a = s.args in
     ap whole (read_as_lem _ c.named-saving.type-inv ∙ c.named-saving.ensures)
-    ∙ accepted-is (trial_number (graph s) a.locks.now a.node a.word a.named-move a.node-move) (whole (trial_saving (graph s) a.node a.word a.named-move a.node-move)) (sym n.trial-number.ensures ∙ c.before.if1.false)
+    ∙ accepted_is (trial_number (graph s) a.locks.now a.node a.word a.named-move a.node-move) (whole (trial_saving (graph s) a.node a.word a.named-move a.node-move)) (sym n.trial-number.ensures ∙ c.before.if1.false)
 
 pub trial-spec : {M : Type 1} → statement M
 trial-spec =

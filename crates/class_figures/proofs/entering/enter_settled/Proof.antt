@@ -1,7 +1,7 @@
 -- `entering::enter_settled` meets its contract, case by case. From the laws on answering.
 use mathlib.Core.Path.{sym, ap, ◌∙◌}
 use borrow.Author.Rules.{rules}
-use Rattle.graph.proofs.Answers.{number-some}
+use Rattle.graph.proofs.Answers.{number_some}
 use Rattle.graph.specs.Literals.{literals}
 use Rattle.settling.specs.Settle.{settled_answer}
 use Rattle.settling.specs.declared.Settled.{Settled}
@@ -40,7 +40,7 @@ returns-2 c =
     let s = c.before.before.before.before.before in
     let a = s.args in
     let v = c.enum_told.given.0 in
-    not_entered _ (node_cells a.nodes (literals a.node_table.now a.node_bits.now)) a.book.now (number-some v.0)
+    not_entered _ (node_cells a.nodes (literals a.node_table.now a.node_bits.now)) a.book.now (number_some v.0)
     ∙ sym (ap (λ (w : Settled). entered_by (settled_answer w) (node_cells a.nodes (literals a.node_table.now a.node_bits.now)) a.book.now) c.enum_told.given.1)
 
 pub enter-settled-spec : {M : Type 1} → statement M

@@ -3,7 +3,7 @@ use mathlib.Core.Path.{refl, sym, ◌∙◌}
 use native.Mathlib.Omega.{arith}
 use Rattle.graph.specs.Graph.{Graph, graph_of}
 use Rattle.graph.proofs.Tests.{fault, none, less, no_less}
-use Rattle.graph.proofs.Answers.{admission-le}
+use Rattle.graph.proofs.Answers.{admission_le}
 use Rattle.moves.specs.Call.{scratch_fault}
 use Rattle.rounds.specs.Settle.{settle_number}
 use borrow.Author.Rules.{rules}
@@ -16,7 +16,7 @@ graph-of s = graph_of s.args.inputs s.args.nodes s.args.outputs (literals s.args
 
 returns : tie.Need-returns
 unfolding settle_number scratch_fault
-returns c = let e = c.before.admission-number.ensures in (fault _ _ e (λ z. c.if1.true (e ∙ z)), omega (arith, e, admission-le (graph-of c.before.before.before.before.before.before.before) c.before.before.before.before.before.before.before.args.locks.now))
+returns c = let e = c.before.admission-number.ensures in (fault _ _ e (λ z. c.if1.true (e ∙ z)), omega (arith, e, admission_le (graph-of c.before.before.before.before.before.before.before) c.before.before.before.before.before.before.before.args.locks.now))
 
 returns-2 : tie.Need-returns-2
 unfolding settle_number scratch_fault
