@@ -122,7 +122,7 @@ module _ (g : Graph) where
 
     pub content_le : content_number g ls ≤ 13
     unfolding content_number
-    content_le = first_le_lem _ _ _ (omega (arith, literal_le)) (locks_le_lem g.row.N)
+    content_le = first_le_lem _ _ _ (omega (arith, literal_le)) (locks_le_lem g.N)
 
     pub admission_le : admission_number g ls ≤ 13
     unfolding admission_number
