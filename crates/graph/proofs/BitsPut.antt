@@ -8,7 +8,7 @@ use Rattle.graph.specs.Literals.{bit_at, index_at, literal_at, literals, held, b
 use Rattle.graph.specs.Turned.{turned_table, up_to}
 use Rattle.graph.proofs.Cases.{lt_or_le, eq_or_ne}
 use Rattle.graph.proofs.Gathered.{length_begun, bit_now_lem, bit_before, bit_after, bit_later}
-use Rattle.graph.proofs.Literals.{bit_at_le, index_at_le, literal_turned, length_literals, literals_at, literal_in, literal_past, held_literals, held_at, bit_at_lem}
+use Rattle.graph.proofs.Literals.{bit_at_le, index_at_le, literal_turned, length_literals, literals_at, literal_in, held_literals, held_at, bit_at_lem}
 use Rattle.graph.proofs.Turn.{turn_zero}
 use Rattle.graph.proofs.Turned.{turned_by_lem, up_to_in, up_to_past}
 

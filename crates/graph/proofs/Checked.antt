@@ -1,10 +1,10 @@
 -- The first fault of literals, by how many are at fault: all have the number 5. From the laws on tests and on places.
-use Rattle.std.proofs.Common.{◌≡◌, ℕ, zero, suc, ◌+◌, ◌*◌, ◌/◌, ◌%◌, ◌<◌, ◌≤◌, Bool, true, false, cond, ltb, ◌≢◌, List, length, get_or, sym, refl, ap, ◌∙◌, ⊎_elim, add-one, arith, eq-eqb, ne_eqb}
+use Rattle.std.proofs.Common.{◌≡◌, ℕ, zero, suc, ◌+◌, ◌*◌, ◌/◌, ◌%◌, ◌<◌, ◌≤◌, Bool, true, false, cond, ltb, ◌≢◌, List, get_or, sym, refl, ap, ◌∙◌, ⊎_elim, arith, eq-eqb}
 use Rattle.graph.specs.Finite.{if_less, if_equal, first, first_of, sum}
-use Rattle.graph.specs.Graph.{Graph, graph_of, mark, node, word, output, index, is_edge}
-use Rattle.graph.specs.Admission.{word_number, output_number}
+use Rattle.graph.specs.Graph.{Graph, graph_of, mark, index, is_edge}
+use Rattle.graph.specs.Admission.{word_number}
 use Rattle.graph.specs.Inner.{Names, over_at, third_over, high_node, high_at, odd_mark, fault_at, Counts, Thirds}
-use Rattle.graph.specs.Literals.{bit_at, index_at, literal_of, literals, held}
+use Rattle.graph.specs.Literals.{bit_at, index_at, literals, held}
 use Rattle.graph.proofs.Cases.{lt_or_le, eq_or_ne}
 use Rattle.graph.proofs.Edge.{edge_early, edge_third}
 use Rattle.graph.proofs.Finite.{sum_three}

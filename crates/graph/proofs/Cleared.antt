@@ -1,5 +1,5 @@
 -- A place whose bit is cleared, and a table whose first words of bits are. From the laws of places.
-use Rattle.std.proofs.Common.{◌≡◌, ℕ, ◌+◌, ◌-◌, ◌*◌, ◌/◌, ◌<◌, ◌≤◌, min, ◌≢◌, List, length, get_or, sym, refl, ◌∙◌, ⊎_elim, arith}
+use Rattle.std.proofs.Common.{◌≡◌, ℕ, ◌+◌, ◌*◌, ◌/◌, ◌<◌, ◌≤◌, min, ◌≢◌, List, length, get_or, sym, refl, ◌∙◌, ⊎_elim, arith}
 use Rattle.graph.specs.Finite.{if_less, if_equal}
 use Rattle.graph.specs.Graph.{mark}
 use Rattle.graph.specs.Literals.{bit_at, index_at, literal_of, literal_at, bit_of, evened, cleared}

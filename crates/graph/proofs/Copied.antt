@@ -1,9 +1,9 @@
 -- A table whose first words of bits, and the indices beside them, are copied to the front of another: it is that one, filled. From the laws of places and of
 -- sweeps.
-use Rattle.std.proofs.Common.{◌≡◌, ℕ, ◌+◌, ◌-◌, ◌*◌, ◌/◌, ◌%◌, ◌<◌, ◌≤◌, min, max, List, ◌++◌, length, get_or, drop, set, sym, refl, ap, ◌∙◌, ⊎_elim, add-one, arith, ext_get_or}
+use Rattle.std.proofs.Common.{◌≡◌, ℕ, ◌+◌, ◌*◌, ◌/◌, ◌<◌, ◌≤◌, List, ◌++◌, length, get_or, drop, set, sym, ◌∙◌, ⊎_elim, add-one, arith, ext_get_or}
 use lib.ListN.{get_or-eq_default}
 use Rattle.graph.specs.Finite.{tab}
-use Rattle.graph.specs.Literals.{bit_at, index_at, literal_of, literal_at, literals, held, words_for, filled}
+use Rattle.graph.specs.Literals.{bit_at, index_at, literal_at, literals, held, filled}
 use Rattle.graph.proofs.Cases.{lt_or_le}
 use Rattle.graph.proofs.Filled.{length_filled, filled_in, filled_past}
 use Rattle.graph.proofs.Finite.{length_tab, get_d_tab}

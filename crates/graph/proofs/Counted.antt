@@ -1,13 +1,13 @@
 -- C of an admitted graph is the number of ones in the words of both its tables, of any number of words; and the bits past the last literal
 -- are what is left of its word, shifted. From the laws of ones, of places and of edges.
-use Rattle.std.proofs.Common.{◌≡◌, ℕ, zero, suc, ◌+◌, ◌-◌, ◌*◌, ◌/◌, ◌%◌, ◌^◌, ◌<◌, ◌≤◌, Bool, true, false, cond, not, ◌&&◌, eqb, ◌≢◌, List, length, get_or, sym, refl, ap, ◌∙◌, ⊎_elim, arith, shr-shr, shr_lt}
+use Rattle.std.proofs.Common.{◌≡◌, ℕ, zero, suc, ◌+◌, ◌-◌, ◌*◌, ◌/◌, ◌%◌, ◌^◌, ◌<◌, ◌≤◌, Bool, true, false, cond, not, ◌&&◌, eqb, List, length, get_or, sym, refl, ap, ◌∙◌, ⊎_elim, arith, shr-shr, shr_lt}
 use lib.Count.{ones}
 use Rattle.graph.specs.Admission.{Admitted}
 use Rattle.graph.specs.Count.{C, adds, word_adds, node_adds, output_adds}
 use Rattle.graph.specs.Finite.{sum}
 use Rattle.graph.specs.Graph.{Graph, mark, word, output, is_edge}
 use Rattle.graph.specs.Literals.{bit, bit_at, literals, graph_in, bit_of, words_for, strays, ones_in}
-use Rattle.graph.proofs.Cases.{lt_or_le, true_or_false}
+use Rattle.graph.proofs.Cases.{true_or_false}
 use Rattle.graph.proofs.Edge.{edge_none}
 use Rattle.graph.proofs.Finite.{sum_same}
 use Rattle.graph.proofs.Literals.{bit_at_lem, bit_mark, bit_other, held_literals}

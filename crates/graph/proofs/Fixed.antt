@@ -1,5 +1,5 @@
 -- The values as a fixed point: the constant's, an input's, and a node's from the values of all. From the laws on the list of values.
-use Rattle.std.proofs.Common.{◌≡◌, ℕ, zero, suc, ◌+◌, ◌-◌, ◌*◌, ◌/◌, ◌%◌, ◌<◌, ◌≤◌, true, false, List, ◌∷◌, get_or, sym, refl, ap, ◌∙◌, ⊎_elim, eq-or-lt_of_le, arith}
+use Rattle.std.proofs.Common.{◌≡◌, ℕ, zero, suc, ◌+◌, ◌*◌, ◌/◌, ◌%◌, ◌<◌, ◌≤◌, true, false, List, ◌∷◌, get_or, sym, refl, ap, ◌∙◌, ⊎_elim, eq-or-lt_of_le, arith}
 use native.Mathlib.Decide.{le_ind}
 use lib.ListN.{get_or-eq_default}
 use Rattle.graph.specs.Admission.{Admitted}

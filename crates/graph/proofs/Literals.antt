@@ -1,6 +1,6 @@
 -- A place of a lent table: its literal and its bit; how many literals a table holds; bits past its places. From the laws of bits.
 use Rattle.std.proofs.Common.{◌≡◌, ℕ, zero, suc, ◌+◌, ◌-◌, ◌*◌, ◌/◌, ◌%◌, ◌<◌, ◌≤◌, min, max, Bool, true, false, cond, eqb, ltb, ◌≢◌, List, length, get_or, sym, refl, ap, ◌∙◌, ⊎_elim, arith, le-ltb, lt-ltb, eq-eqb, ne_eqb}
-use Rattle.graph.specs.Finite.{sum, count, if_less, if_equal}
+use Rattle.graph.specs.Finite.{sum, count, if_equal}
 use Rattle.graph.specs.Graph.{mark, index, turn}
 use Rattle.graph.specs.Inner.{Names, IsWord}
 use Rattle.graph.specs.Literals.{bit_at, index_at, literal_of, literal_at, literals, held, bit_of, words_for, strays}

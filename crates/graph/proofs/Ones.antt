@@ -1,5 +1,5 @@
 -- The ones of words of 64 bits are the sum of their bits, place by place. By induction on the number of words.
-use Rattle.std.proofs.Common.{◌≡◌, ℕ, zero, suc, ◌+◌, ◌*◌, ◌/◌, ◌%◌, ◌^◌, ◌<◌, ◌≤◌, List, length, get_or, sym, refl, ap, ◌∙◌, pow-suc, arith, shr-shr}
+use Rattle.std.proofs.Common.{◌≡◌, ℕ, zero, suc, ◌+◌, ◌*◌, ◌/◌, ◌%◌, ◌^◌, ◌<◌, List, get_or, sym, refl, ap, ◌∙◌, pow-suc, arith, shr-shr}
 use lib.Count.{ones, ones_step}
 use Rattle.graph.specs.Finite.{sum}
 use Rattle.graph.proofs.Finite.{sum_same}
