@@ -8,7 +8,7 @@ ghost use Rattle.aiger_export.specs.Inner.{wide_by, halves, Step, Fit};
 use crate::gates;
 
 // The least index whose literal has two digits, three, and so on.
-#[derive(Drop)]
+#[derive(Clone, Copy)]
 pub struct Steps {
     pub two: u32,
     pub three: u32,

@@ -27,7 +27,7 @@ pub fn after_ones<'a>(rest: &'a [u8], lines: u32) -> &'a [u8]
 }
 
 // A line whose words are put: its bytes, and the bits that are gathered then.
-#[derive(Drop)]
+#[derive(Clone, Copy)]
 pub struct Put {
     pub size: usize,
     pub got: u64,

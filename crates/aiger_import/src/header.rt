@@ -6,7 +6,7 @@ ghost use Rattle.aiger_import.specs.Reading.{HeaderRead};
 use crate::lines::read_line;
 use graph::faults::room_number;
 
-#[derive(Drop)]
+#[derive(Clone, Copy)]
 pub struct Header {
     pub fault: u32,
     pub inputs: u32,

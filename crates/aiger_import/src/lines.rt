@@ -4,20 +4,20 @@ ghost use Rattle.graph.specs.Finite.{if_less, if_equal};
 ghost use Rattle.aiger.specs.Lines.{if_digit, digits, number};
 ghost use Rattle.aiger_import.specs.Reading.{DigitsRead, NumberRead, LineRead, NumberThere};
 
-#[derive(Drop)]
+#[derive(Clone, Copy)]
 pub struct Digits {
     pub value: u64,
     pub count: usize,
 }
 
-#[derive(Drop)]
+#[derive(Clone, Copy)]
 pub struct Number {
     pub fault: u32,
     pub value: u32,
     pub size: usize,
 }
 
-#[derive(Drop)]
+#[derive(Clone, Copy)]
 pub struct Line {
     pub fault: u32,
     pub size: usize,
@@ -135,7 +135,7 @@ pub fn read_line(s: &[u8], k: usize, numbers: &mut [u32]) -> Line
     }
 }
 
-#[derive(Drop)]
+#[derive(Clone, Copy)]
 pub struct Known {
     pub value: u32,
     pub size: usize,

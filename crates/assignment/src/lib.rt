@@ -13,7 +13,7 @@ mod search;
 mod words;
 
 // What the search for an assignment answers.
-#[derive(Drop)]
+#[derive(Clone, Copy)]
 pub enum Assigned {
     // Its number, input 1 being the lowest bit.
     At(u32),

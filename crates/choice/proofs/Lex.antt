@@ -47,6 +47,7 @@ map_mem g (Memᴰ.tail m) = Memᴰ.tail (map_mem g m)
 
 flat_map_mem : {A B : Type 0} (g : A → List B) {x : A} {xs : List A} {y : B} → Memᴰ x xs → Memᴰ y (g x) → Memᴰ y (flat_map g xs)
 unfolding flat_map
+flat_map_mem g {xs = []} m n = absurd (Memᴰ.not-nil m)
 flat_map_mem g {xs = z ∷ zs} {y} (Memᴰ.head e) m = Memᴰ.append_left (flat_map g zs) (subst (λ (l : List _). Memᴰ y l) (ap g e) m)
 flat_map_mem g {xs = z ∷ zs} (Memᴰ.tail h) m = Memᴰ.append_right (g z) (flat_map_mem g h m)
 

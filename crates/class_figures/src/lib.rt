@@ -14,7 +14,7 @@ mod reading;
 use settling::Settled;
 
 // What reading the figures answers.
-#[derive(Drop)]
+#[derive(Clone, Copy)]
 pub enum ClassFigures {
     Told {
         count: u64,

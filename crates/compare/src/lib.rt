@@ -13,7 +13,7 @@ use graph::faults::refused_by;
 
 // How two graphs differ, in two numbers: 0 and 0 for by moves alone; else 1 to 5 for what is the first difference, and where it is. Or why the
 // comparison is refused.
-#[derive(Drop)]
+#[derive(Clone, Copy)]
 pub enum Comparison {
     Told(u32, u32),
     Refused(graph::Refusal),

@@ -10,7 +10,7 @@ mod results;
 pub mod values;
 
 // What an evaluation answers.
-#[derive(Drop)]
+#[derive(Clone, Copy)]
 pub enum Evaluated {
     Done,
     Refused(graph::Refusal),

@@ -104,7 +104,7 @@ fn follow(
 }
 
 // Where a way has come to, and by which places; 0 where there is none.
-#[derive(Drop)]
+#[derive(Clone, Copy)]
 pub struct Head {
     pub index: u32,
     pub mask: u64,

@@ -24,7 +24,7 @@ use trees::fields::read;
 pub const NONE: u32 = 256;
 
 // A triple and the node's truth value over it, of majority's class; NONE where there is no such triple.
-#[derive(Drop)]
+#[derive(Clone, Copy)]
 pub struct Trial {
     pub byte: u32,
     pub one: u32,

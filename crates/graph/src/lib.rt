@@ -14,7 +14,7 @@ pub mod signed;
 pub mod table;
 
 // Why a call is refused: the causes of document 01's table, in its order, then those of document 02.
-#[derive(Drop)]
+#[derive(Clone, Copy)]
 pub enum Refusal {
     MissingBytes,
     WrongField,
@@ -38,14 +38,14 @@ pub enum Refusal {
 }
 
 // What the admission check answers.
-#[derive(Drop)]
+#[derive(Clone, Copy)]
 pub enum Admission {
     Admitted,
     Refused(Refusal),
 }
 
 // What the count of complemented edges answers.
-#[derive(Drop)]
+#[derive(Clone, Copy)]
 pub enum Count {
     Edges(u32),
     Refused(Refusal),

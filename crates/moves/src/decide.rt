@@ -40,7 +40,7 @@ pub fn move_cost(xor: bool, z: [u32; 6], readers: u32, odd: u32, m: u32) -> u32
 }
 
 // The first of some least moves, and what it leaves.
-#[derive(Drop)]
+#[derive(Clone, Copy)]
 pub struct LeastMove {
     pub number: u32,
     pub cost: u32,
@@ -125,7 +125,7 @@ pub fn first_least(xor: bool, moves: u32, z: [u32; 6], readers: u32, odd: u32) -
 }
 
 // The numbers of a node: its kind, how many moves it has, what its words add as they stand and turned, its readers, and how many are complemented.
-#[derive(Drop)]
+#[derive(Clone, Copy)]
 pub struct NodeNumbers {
     pub xor: bool,
     pub moves: u32,
@@ -135,7 +135,7 @@ pub struct NodeNumbers {
 }
 
 // A move at the named node, and one at the node that names it.
-#[derive(Drop)]
+#[derive(Clone, Copy)]
 pub struct PairMoves {
     pub named: u32,
     pub node: u32,
@@ -223,7 +223,7 @@ pub fn pair_saving(named: NodeNumbers, node: NodeNumbers, which: [u32; 3], a: u3
 }
 
 // A combination of moves on a pair by its number, the named node's move counting first, and what it saves.
-#[derive(Drop)]
+#[derive(Clone, Copy)]
 pub struct Combination {
     pub number: u32,
     pub saving: i64,
@@ -274,7 +274,7 @@ pub fn best_numbered(named: NodeNumbers, node: NodeNumbers, which: [u32; 3]) -> 
 }
 
 // Both moves of a pair, and what they save.
-#[derive(Drop)]
+#[derive(Clone, Copy)]
 pub struct BestPair {
     pub named: u32,
     pub node: u32,

@@ -10,7 +10,7 @@ use crate::{Saving, rows};
 use graph::signed;
 
 // The odd edges outside before and after a call, or both up to one number.
-#[derive(Drop)]
+#[derive(Clone, Copy)]
 pub struct Odds {
     pub before: u32,
     pub after: u32,

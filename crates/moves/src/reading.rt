@@ -9,14 +9,14 @@ use crate::{rows, words};
 use graph::table;
 
 // How many words of a table name an index, and how many of these are complemented.
-#[derive(Drop)]
+#[derive(Clone, Copy)]
 pub struct Tally {
     pub count: u32,
     pub odd: u32,
 }
 
 // The readers of an index: all, those in the node table, and how many of all are complemented.
-#[derive(Drop)]
+#[derive(Clone, Copy)]
 pub struct Readers {
     pub all: u32,
     pub in_nodes: u32,
@@ -76,7 +76,7 @@ pub fn readers_of(
 }
 
 // The numbers of node v.
-pub fn numbers_of_lem(
+pub fn numbers_of(
     inputs: u32,
     nodes: u32,
     outputs: u32,

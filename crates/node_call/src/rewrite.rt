@@ -28,7 +28,7 @@ pub fn rewrite_node(
         let h = graph_in inputs nodes outputs node_table.now node_bits.new output_table.now output_bits.new in
         outcome (saving_answer result) h ≡ rewrite g locks.now ((inputs + 1 + v) ∷ []) }
 {
-    let n = reading::numbers_of_lem(
+    let n = reading::numbers_of(
         inputs,
         nodes,
         outputs,
@@ -77,7 +77,7 @@ pub fn rewrite_pair(
         let h = graph_in inputs nodes outputs node_table.now node_bits.new output_table.now output_bits.new in
         outcome (saving_answer result) h ≡ rewrite g locks.now ((inputs + 1 + p) ∷ (inputs + 1 + v) ∷ []) }
 {
-    let named = reading::numbers_of_lem(
+    let named = reading::numbers_of(
         inputs,
         nodes,
         outputs,
@@ -88,7 +88,7 @@ pub fn rewrite_pair(
         locks,
         p,
     );
-    let node = reading::numbers_of_lem(
+    let node = reading::numbers_of(
         inputs,
         nodes,
         outputs,

@@ -30,7 +30,7 @@ pub fn pair_saving(
     ensures { let g = graph_in inputs nodes outputs node_table.now node_bits.now output_table.now output_bits.now in
         result ≡ difference (C g) (moved_c g ((inputs + 1 + p) ∷ (inputs + 1 + v) ∷ []) (a ∷ k ∷ [])) }
 {
-    let named = reading::numbers_of_lem(
+    let named = reading::numbers_of(
         inputs,
         nodes,
         outputs,
@@ -41,7 +41,7 @@ pub fn pair_saving(
         locks,
         p,
     );
-    let node = reading::numbers_of_lem(
+    let node = reading::numbers_of(
         inputs,
         nodes,
         outputs,

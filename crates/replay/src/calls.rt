@@ -12,7 +12,7 @@ ghost use Rattle.replay.specs.Inner.{Answers, Tells};
 use crate::faults::lesser;
 
 // What a call of the list answers, and how many nodes it leaves. A call that may rewire has what it answers in `own`.
-#[derive(Drop)]
+#[derive(Clone, Copy)]
 pub struct CallAnswer {
     pub number: u32,
     pub own: i64,

@@ -14,7 +14,7 @@ pub mod told;
 use tagged_file::Loaded;
 
 // Why words are no list of calls.
-#[derive(Drop)]
+#[derive(Clone, Copy)]
 pub enum CallsFault {
     LeftOver,
     UnknownKind,
@@ -22,7 +22,7 @@ pub enum CallsFault {
 }
 
 // What a replay answers.
-#[derive(Drop)]
+#[derive(Clone, Copy)]
 pub enum Replayed {
     Done {
         inputs: u32,

@@ -14,14 +14,14 @@ mod whole;
 use graph::table::room_of;
 
 // Which lent slice has no room for every report that the tables could hold.
-#[derive(Drop)]
+#[derive(Clone, Copy)]
 pub enum RoomFault {
     Scratch,
     Buffer,
 }
 
 // What reporting answers: how many bytes the text has.
-#[derive(Drop)]
+#[derive(Clone, Copy)]
 pub enum Reported {
     Text(usize),
     NoRoom(RoomFault),

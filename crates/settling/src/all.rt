@@ -11,7 +11,7 @@ use crate::phases;
 use crate::phases::Tally;
 
 // The rounds made, with C after them and the sums over all their calls.
-#[derive(Drop)]
+#[derive(Clone, Copy)]
 pub struct RoundsMade {
     pub rounds: u32,
     pub count: u32,
@@ -20,7 +20,7 @@ pub struct RoundsMade {
 }
 
 // The rounds made, with C before and after, and the sums of the odd edges outside before and after each call.
-#[derive(Drop)]
+#[derive(Clone, Copy)]
 pub struct Figures {
     pub rounds: u32,
     pub before: u32,

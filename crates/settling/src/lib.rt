@@ -13,7 +13,7 @@ mod phases;
 use graph::signed;
 
 // What settling answers.
-#[derive(Drop)]
+#[derive(Clone, Copy)]
 pub enum Settled {
     // The rounds made, the last one included, with C before and after, and what their calls saved, over the words of the nodes that
     // each names and over all other edges.

@@ -12,7 +12,7 @@ use graph::literal::MARK;
 use state::moving::Step;
 
 // C as it stands, and the sums over all calls so far of the odd edges outside of each call's nodes, before and after the call.
-#[derive(Drop)]
+#[derive(Clone, Copy)]
 pub struct Tally {
     pub count: u32,
     pub before: u64,

@@ -16,7 +16,7 @@ use moves::{decide, gains, words};
 
 // What a call leaves: C after it, and the odd edges outside of its nodes that name one of them, before and after, or both up to
 // one number.
-#[derive(Drop)]
+#[derive(Clone, Copy)]
 pub struct Step {
     pub count: u32,
     pub before: u32,
@@ -24,7 +24,7 @@ pub struct Step {
 }
 
 // The moves of a pair, with those odd edges.
-#[derive(Drop)]
+#[derive(Clone, Copy)]
 pub struct PairChoice {
     pub named: u32,
     pub node: u32,

@@ -15,7 +15,7 @@ pub mod locks;
 use file_checks::{bytes, fields};
 
 // What loading answers.
-#[derive(Drop)]
+#[derive(Clone, Copy)]
 pub enum Loaded {
     Graph {
         inputs: u32,
@@ -26,7 +26,7 @@ pub enum Loaded {
 }
 
 // What writing answers: how many bytes the file has.
-#[derive(Drop)]
+#[derive(Clone, Copy)]
 pub enum Written {
     Bytes(usize),
     Refused(graph::Refusal),
