@@ -75,15 +75,15 @@ pub if_equal_le : (a b x y n : ℕ) → x ≤ n → y ≤ n → if_equal a b x y
 if_equal_le a b x y n h k =
     ⊎_elim (λ (e : a ≡ b). rw (← equal a b x y e refl) h) (λ (d : a ≢ b). rw (← unequal a b x y d refl) k) (eq_or_ne a b)
 
-pub first_le_lem : (a b n : ℕ) → a ≤ n → b ≤ n → first a b ≤ n
+pub first_le : (a b n : ℕ) → a ≤ n → b ≤ n → first a b ≤ n
 unfolding first
-first_le_lem zero b n h k = k
-first_le_lem (suc a) b n h k = h
+first_le zero b n h k = k
+first_le (suc a) b n h k = h
 
 pub first_of_le : (m : ℕ) (f : ℕ → ℕ) (n : ℕ) → ((j : ℕ) → f j ≤ n) → first_of m f ≤ n
 unfolding first_of
 first_of_le zero f n h = omega arith
-first_of_le (suc m) f n h = first_le_lem (first_of m f) (f m) n (first_of_le m f n h) (h m)
+first_of_le (suc m) f n h = first_le (first_of m f) (f m) n (first_of_le m f n h) (h m)
 
 pub room_le : (i n o a b l : ℕ) → room_number i n o a b l ≤ 5
 unfolding room_number
@@ -96,37 +96,37 @@ room_le i n o a b l =
     (if_less_le _ _ _ _ _ (omega arith) (omega arith))))))
 
 module _ (g : Graph) where
-  word_le_lem : (j : ℕ) → word_number g j ≤ 5
+  word_le : (j : ℕ) → word_number g j ≤ 5
   unfolding word_number
-  word_le_lem j = cond_le (is_edge g j) _ _ _ (if_less_le _ _ _ _ _ (omega arith) (omega arith)) (omega arith)
+  word_le j = cond_le (is_edge g j) _ _ _ (if_less_le _ _ _ _ _ (omega arith) (omega arith)) (omega arith)
 
-  out_le_lem : (j : ℕ) → output_number g j ≤ 5
+  out_le : (j : ℕ) → output_number g j ≤ 5
   unfolding output_number
-  out_le_lem j = if_less_le _ _ _ _ _ (omega arith) (omega arith)
+  out_le j = if_less_le _ _ _ _ _ (omega arith) (omega arith)
 
   literal_le : literal_number g ≤ 5
   unfolding literal_number strays_number stray_number
   literal_le =
-      first_le_lem _ _ _
-      (first_le_lem _ _ _ (if_less_le _ _ _ _ _ (omega arith) (omega arith)) (if_less_le _ _ _ _ _ (omega arith) (omega arith)))
-      (first_le_lem _ _ _ (first_of_le _ _ _ word_le_lem) (first_of_le _ _ _ out_le_lem))
+      first_le _ _ _
+      (first_le _ _ _ (if_less_le _ _ _ _ _ (omega arith) (omega arith)) (if_less_le _ _ _ _ _ (omega arith) (omega arith)))
+      (first_le _ _ _ (first_of_le _ _ _ word_le) (first_of_le _ _ _ out_le))
 
   module _ (ls : List ℕ) where
     pub tables_le : tables_number g ls ≤ 5
     unfolding tables_number
     tables_le = room_le _ _ _ _ _ _
 
-    locks_le_lem : (n : ℕ) → locks_number n ls ≤ 13
+    locks_le : (n : ℕ) → locks_number n ls ≤ 13
     unfolding locks_number lock_number
-    locks_le_lem n = first_of_le _ _ _ (λ v. if_less_le _ _ _ _ _ (omega arith) (omega arith))
+    locks_le n = first_of_le _ _ _ (λ v. if_less_le _ _ _ _ _ (omega arith) (omega arith))
 
     pub content_le : content_number g ls ≤ 13
     unfolding content_number
-    content_le = first_le_lem _ _ _ (omega (arith, literal_le)) (locks_le_lem g.N)
+    content_le = first_le _ _ _ (omega (arith, literal_le)) (locks_le g.N)
 
     pub admission_le : admission_number g ls ≤ 13
     unfolding admission_number
-    admission_le = first_le_lem _ _ _ (omega (arith, tables_le)) content_le
+    admission_le = first_le _ _ _ (omega (arith, tables_le)) content_le
 
     -- what `refused_by` asks of the number
     pub admission_range : (k : ℕ) → k ≡ admission_number g ls → (k ≡ 0 → ⊥) → IsRefusal k
