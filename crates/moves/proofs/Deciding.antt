@@ -1,5 +1,5 @@
 -- A node's rows and its costs as numbers: bounds, and how the words' costs are met. From the laws on tests.
-use Rattle.std.proofs.Common.{◌≡◌, ℕ, zero, suc, ◌+◌, ◌-◌, ◌*◌, ◌%◌, ◌<◌, ◌≤◌, Bool, true, false, cond, eqb, List, [], ◌∷◌, get_or, sym, refl, ⊎_elim, arith, lt-ltb}
+use Rattle.std.proofs.Common.{◌≡◌, ℕ, zero, suc, ◌+◌, ◌-◌, ◌*◌, ◌%◌, ◌<◌, ◌≤◌, Bool, true, false, cond, eqb, List, [], ◌∷◌, get_or, sym, refl, arith, lt-ltb}
 use borrow.Author.Tests.{eqb-false}
 use Rattle.graph.specs.Admission.{Admitted}
 use Rattle.graph.specs.Count.{adds, named, output_named, node_readers, readers}

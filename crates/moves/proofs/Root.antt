@@ -1,11 +1,11 @@
 -- The potential once the root is decided: its cost, and what no move of it changes.
-use Rattle.std.proofs.Common.{◌≡◌, ℕ, suc, ◌+◌, ◌-◌, ◌*◌, ◌/◌, ◌%◌, ◌<◌, true, false, cond, eqb, ◌≢◌, ◌⊎◌, refl, ⊎_elim, arith, eq-eqb, ne_eqb, eqb-true}
+use Rattle.std.proofs.Common.{◌≡◌, ℕ, suc, ◌+◌, ◌*◌, ◌/◌, ◌%◌, ◌<◌, true, false, cond, eqb, ◌≢◌, refl, ⊎_elim, arith, eq-eqb, ne_eqb, eqb-true}
 use borrow.Author.Tests.{eqb-false}
 use Rattle.graph.specs.Admission.{Admitted}
 use Rattle.graph.specs.Count.{output_adds, named, output_named}
 use Rattle.graph.specs.Finite.{sum}
 use Rattle.graph.specs.Graph.{Graph, is_xor, node, word, output}
-use Rattle.moves.specs.Apply.{own, apply, at, none}
+use Rattle.moves.specs.Apply.{apply, at, none}
 use Rattle.moves.specs.Cost.{inner, shown, own_cost, word_cost, root_cost}
 use Rattle.moves.specs.Rows.{flag}
 use Rattle.moves.specs.Tree.{is_root, root_of}

@@ -1,6 +1,6 @@
 -- One more move, at a node that a choice leaves alone: what it changes is the node's own words and its readers, so C follows
 -- the numbers of the node. From what one changed move changes, and the sums.
-use Rattle.std.proofs.Common.{◌≡◌, ℕ, zero, suc, ◌+◌, ◌-◌, ◌*◌, ◌/◌, ◌%◌, ◌<◌, ◌≤◌, Bool, true, false, cond, eqb, ◌≢◌, List, [], ◌∷◌, get_or, sym, refl, ◌∙◌, ⊎_elim, arith, eq-eqb, ne_eqb, eqb-true}
+use Rattle.std.proofs.Common.{◌≡◌, ℕ, zero, suc, ◌+◌, ◌*◌, ◌/◌, ◌%◌, ◌<◌, ◌≤◌, Bool, true, false, cond, eqb, ◌≢◌, List, [], ◌∷◌, get_or, sym, refl, ◌∙◌, ⊎_elim, arith, eq-eqb, ne_eqb, eqb-true}
 use mathlib.Core.Path.{fun_ext}
 use borrow.Author.Tests.{eqb-false}
 use Rattle.graph.specs.Admission.{Admitted}

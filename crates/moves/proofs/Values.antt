@@ -1,6 +1,6 @@
 -- The value of an index after a choice of moves: turned where its own move turns its readers; so every output keeps its value.
 -- From the rows (majority is self-dual, an XOR's turned words cancel), by rising index.
-use Rattle.std.proofs.Common.{◌≡◌, ℕ, zero, suc, ◌+◌, ◌-◌, ◌*◌, ◌/◌, ◌%◌, ◌<◌, ◌≤◌, Bool, true, false, eqb, List, get_or, refl, ap, ◌∙◌, ⊎_elim, le_of_suc-le-suc, eq-or-lt_of_le, arith, eqb→eq}
+use Rattle.std.proofs.Common.{◌≡◌, ℕ, zero, suc, ◌+◌, ◌*◌, ◌/◌, ◌%◌, ◌<◌, ◌≤◌, Bool, true, false, eqb, List, get_or, refl, ap, ◌∙◌, ⊎_elim, le_of_suc-le-suc, eq-or-lt_of_le, arith, eqb→eq}
 use mathlib.Core.Bool.{and-false}
 use native.Mathlib.Nat.{mod-add-mod, add-mod-mod}
 use lib.ListN.{get_or-eq_default}

@@ -1,0 +1,24 @@
+-- `best_pair` meets its contract. From the laws on combinations by number.
+use Rattle.moves.proofs.Pair.{some_moves, not_negative, won, won_saving}
+use Rattle.moves.proofs.decide.best_pair.Goals as goal
+
+pub nonzero_div-result : goal.nonzero_div-result
+nonzero_div-result c =
+    some_moves c.args.named c.args.node c.args.which c.requires.0 c.requires.1
+
+pub nonzero_rem-result : goal.nonzero_rem-result
+nonzero_rem-result c =
+    some_moves c.args.named c.args.node c.args.which c.requires.0 c.requires.1
+
+pub count_of-requires : goal.count_of-requires
+count_of-requires c =
+    not_negative c.args.named c.args.node c.args.which c.requires.0 c.requires.1 c.best_numbered-best.result c.best_numbered-best.ensures
+
+pub returns : goal.returns
+returns c =
+    let a = c.args in
+    let r = c.best_numbered-best in
+    record {
+      greatest = won a.named a.node a.which c.requires.0 c.requires.1 r.result r.ensures;
+      saving = won_saving a.named a.node a.which c.requires.0 c.requires.1 r.result r.ensures _ c.count_of.ensures;
+    }

@@ -1,0 +1,19 @@
+-- `saving_numbered` meets its contract. From the laws on combinations by number.
+use Rattle.std.proofs.Common.{◌∙◌}
+use Rattle.graph.proofs.Difference.{read_as_lem}
+use Rattle.moves.specs.Pair.{saving_numbered}
+use Rattle.moves.proofs.Pair.{some_moves, numbered_fits}
+use Rattle.moves.proofs.decide.saving_numbered.Goals as goal
+
+pub nonzero_div-c : goal.nonzero_div-c
+nonzero_div-c c = some_moves c.args.named c.args.node c.args.which c.requires.0 c.requires.1
+
+pub pair_saving-requires : goal.pair_saving-requires
+pair_saving-requires c =
+    let a = c.args in
+    let f = numbered_fits a.named a.node a.which c.requires.0 c.requires.1 a.c c.requires.3 in
+    (c.requires.0, c.requires.1, c.requires.2, f.0, f.1)
+
+pub returns : goal.returns
+unfolding saving_numbered
+returns c = read_as_lem _ c.pair_saving.type_inv ∙ c.pair_saving.ensures

@@ -1,0 +1,11 @@
+-- `count_names` meets its contract: the words passed are tallied. From the laws on tallies.
+use Rattle.std.proofs.Common.{◌-◌, ◌≤◌}
+use Rattle.graph.specs.Literals.{literals}
+use Rattle.moves.specs.Decide.{Tallied}
+use Rattle.moves.proofs.reading.count_names.Given as goal
+
+abbrev pub invariant-loop-j : goal.invariant-loop-j
+invariant-loop-j l = (l.j ≤ l.n) × Tallied (literals l.table l.bits) l.j l.u l.t.count l.t.odd
+
+abbrev pub decreases-loop-j : goal.decreases-loop-j
+decreases-loop-j l = l.n - l.j
