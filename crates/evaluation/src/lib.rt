@@ -1,7 +1,8 @@
 #![tactic(auto)]
+
 ghost use Rattle.std.specs.Prelude.{◌≡◌, [], length};
 ghost use Rattle.graph.specs.Answer.{accepted, unless, ScratchKept};
-ghost use Rattle.graph.specs.Literals.{before, after, graph_before};
+ghost use Rattle.graph.specs.Literals.{before, graph_before};
 ghost use Rattle.evaluation.specs.Evaluation.{evaluate_number, results_after, evaluated_answer};
 
 mod faults;
@@ -31,11 +32,11 @@ pub fn evaluate(
     results: &mut [u64],
 ) -> Evaluated
     ensures answer { let g = graph_before inputs nodes outputs node_table node_bits output_table output_bits in
-        let number = evaluate_number g (before locks) (length (before input_words)) (length (before scratch)) (length (before results)) in
+        let number = evaluate_number g (before locks) (length (before input_words)) (length scratch.old) (length results.old) in
         evaluated_answer result ≡ unless number (accepted []) }
     ensures results { let g = graph_before inputs nodes outputs node_table node_bits output_table output_bits in
-        after results ≡ results_after g (before locks) (before input_words) (length (before scratch)) (before results) }
-    ensures scratch { ScratchKept (evaluated_answer result) (before scratch) (after scratch) }
+        results.new ≡ results_after g (before locks) (before input_words) (length scratch.old) results.old }
+    ensures scratch { ScratchKept (evaluated_answer result) scratch.old scratch.new }
 {
     let number = faults::evaluate_number(
         inputs,

@@ -1,0 +1,35 @@
+-- `results::fill_results` meets its contract. The invariant: results swept up to the output met. From the laws on sweeps.
+use mathlib.Core.Path.{◌≡◌, refl, ◌∙◌}
+use native.Mathlib.Omega.{arith}
+use lib.ListN.{length-set}
+use Rattle.graph.proofs.Sweep.{swept_zero, swept_front}
+use Rattle.evaluation.specs.Inner.{by_index, output_word_from}
+use Rattle.evaluation.proofs.Outputs.{swept_next}
+use Rattle.graph.specs.Literals.{literals}
+use Rattle.evaluation.proofs.results.fill_results.Goals as goal
+
+pub loop-o-init : goal.loop-o-init
+loop-o-init c =
+    let a = c.args in
+    (omega arith, refl, refl, swept_zero (output_word_from (by_index a.inputs a.input_words.now a.node_words.now) (literals a.output_table.now a.output_bits.now)) a.results.now)
+
+pub literal_word-w-requires : goal.literal_word-w-requires
+literal_word-w-requires c =
+    (c.requires.0, c.requires.1, omega arith, c.requires.4 c.loop-o.o (omega arith), c.odd_at-b.ensures.0, c.odd_at-b.ensures.1)
+
+pub loop-o-preserved : goal.loop-o-preserved
+loop-o-preserved c =
+    let a = c.args in
+    let ws = by_index a.inputs a.input_words.now a.node_words.now in (
+      omega arith,
+      c.loop-o.invariant.1,
+      simp length-set c.loop-o.invariant.2,
+      swept_next ws (literals a.output_table.now a.output_bits.now) a.results.now c.loop-o.results c.loop-o.o c.literal_word-w.result
+          (omega arith) c.loop-o.invariant.3 c.literal_word-w.ensures,
+    )
+
+pub returns : goal.returns
+returns c =
+    let a = c.args in
+    let e : c.loop-o.o ≡ a.outputs = omega arith in
+    rw e at c.loop-o.invariant.3 ∙ swept_front (output_word_from (by_index a.inputs a.input_words.now a.node_words.now) (literals a.output_table.now a.output_bits.now)) a.results.now a.outputs (omega arith)
