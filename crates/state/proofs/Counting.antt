@@ -7,7 +7,6 @@ use Prim.Native.Nat.{ℕ, ◌+◌, ◌≤◌, ◌<◌}
 use native.Mathlib.Omega.{arith}
 use Rattle.graph.specs.Admission.{Admitted}
 use Rattle.graph.specs.Count.{C, readers}
-use Rattle.graph.specs.Finite.{count}
 use Rattle.graph.specs.Graph.{Graph, node, is_xor}
 use Rattle.graph.proofs.Adds.{C_le}
 use Rattle.choice.specs.Inner.{FirstBelow}

@@ -19,7 +19,7 @@ use Rattle.graph.proofs.Turned.{turned_both, turned_same, up_to_in, up_to_past}
 use Rattle.graph.proofs.Words.{edge_low, edge_bit_lem}
 use Rattle.state.specs.State.{bit_in, kept_bit, pending_at, due_in, due, output_due, bit_now, stands, Ordered}
 use Rattle.state.proofs.Pending.{pending_index}
-use Rattle.state.proofs.Stands.{kept_at_lem, pending_high, due_edge, due_mark}
+use Rattle.state.proofs.Stands.{pending_high, due_edge, due_mark}
 use borrow.Author.Tests.{eq-eqb}
 
 -- the bits of a node's words, put one after the other
