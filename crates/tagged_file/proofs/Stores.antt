@@ -5,7 +5,7 @@ use mathlib.Core.List.{List, [], ◌∷◌, ◌++◌}
 use native.Mathlib.Omega.{arith}
 use native.Mathlib.Nat.{zero-add}
 use lib.ListN.{length, drop, set, length-append}
-use lib.Seq.{sets, sets-eq, set_set, set_comm}
+use lib.Seq.{sets, sets-eq, set-set, set_comm}
 
 -- a run of stores from the front
 pub front : (vs t : List ℕ) (k : ℕ) → length vs ≡ k → k ≤ length t → sets t 0 vs ≡ vs ++ drop k t
@@ -39,5 +39,5 @@ apart vs (w ∷ ws) t i k h = ap (λ (l : List ℕ). sets l (suc i) ws) (set_bel
 pub twice : (vs t : List ℕ) (k : ℕ) → sets (sets t k vs) k vs ≡ sets t k vs
 twice [] t k = refl
 twice (v ∷ vs) t k =
-    ap (λ (l : List ℕ). sets l (suc k) vs) (set_below vs (set t k v) k (suc k) v (omega arith) ∙ ap (λ (l : List ℕ). sets l (suc k) vs) (set_set t k v v))
+    ap (λ (l : List ℕ). sets l (suc k) vs) (set_below vs (set t k v) k (suc k) v (omega arith) ∙ ap (λ (l : List ℕ). sets l (suc k) vs) (set-set t k v v))
     ∙ twice vs (set t k v) (suc k)

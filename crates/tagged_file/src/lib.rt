@@ -1,8 +1,9 @@
 // The tagged file: one field of it, loading a graph from it, writing a graph as one.
 #![tactic(auto)]
+
 ghost use Rattle.std.specs.Prelude.{◌≡◌};
 ghost use Rattle.graph.specs.Answer.{locked_outcome};
-ghost use Rattle.graph.specs.Literals.{before, after, table_before, table_after, graph_before};
+ghost use Rattle.graph.specs.Literals.{before, literals, graph_before};
 ghost use Rattle.file_checks.specs.File.{field_number, field_payload};
 ghost use Rattle.tagged_file.specs.Load.{loaded_answer, loaded_graph, load_call};
 ghost use Rattle.tagged_file.specs.Write.{written_answer, write_outcome, write_call};
@@ -59,10 +60,10 @@ pub fn load(
     output_bits: &mut [u64],
     locks: &mut [u8],
 ) -> Loaded
-    ensures { let ns = table_before node_table node_bits in
-        let os = table_before output_table output_bits in
-        locked_outcome (loaded_answer result) (loaded_graph result (table_after node_table node_bits) (table_after output_table output_bits)) (after locks)
-        ≡ load_call (before file) ns os (before locks) }
+    ensures { let ns = literals node_table.old node_bits.old in
+        let os = literals output_table.old output_bits.old in
+        locked_outcome (loaded_answer result) (loaded_graph result (literals node_table.new node_bits.new) (literals output_table.new output_bits.new)) locks.new
+        ≡ load_call (before file) ns os locks.old }
 {
     let refusal = file_checks::faults::file_number(
         file,
@@ -100,7 +101,7 @@ pub fn write(
     buffer: &mut [u8],
 ) -> Written
     ensures { let g = graph_before inputs nodes outputs node_table node_bits output_table output_bits in
-        write_outcome (written_answer result) (after buffer) ≡ write_call g (before locks) (before buffer) }
+        write_outcome (written_answer result) buffer.new ≡ write_call g (before locks) buffer.old }
 {
     let number = faults::write_number(
         inputs,

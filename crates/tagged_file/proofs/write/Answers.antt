@@ -1,0 +1,24 @@
+-- `write` meets its contract: the number decides, and the file goes to the front of the buffer. From the laws on the whole of writing.
+use mathlib.Core.Path.{sym, ◌∙◌}
+use Rattle.graph.specs.Graph.{Graph, graph_of}
+use Rattle.graph.proofs.Admit.{admitted, locks_admitted}
+use Rattle.tagged_file.proofs.WholeWrite.{write_fault, write_passed, write_refused, write_accepted}
+use Rattle.graph.specs.Literals.{literals}
+use Rattle.tagged_file.proofs.write.Goals as goal
+
+pub refused_by-requires : goal.refused_by-requires
+refused_by-requires c = write_fault _ _ _ _ c.write_number-number.ensures c.if-number-ne0.true
+
+pub returns-then-number-ne0 : goal.returns-then-number-ne0
+returns-then-number-ne0 c = write_refused _ _ _ _ _ c.refused_by.ensures c.write_number-number.ensures c.if-number-ne0.true
+
+pub put_file-requires : goal.put_file-requires
+put_file-requires c =
+    let a = c.args in
+    let g : Graph = graph_of a.inputs a.nodes a.outputs (literals a.node_table.now a.node_bits.now) (literals a.output_table.now a.output_bits.now) in
+    let p = write_passed g a.locks.now _ (sym c.write_number-number.ensures ∙ c.if-number-ne0.false) in
+    (admitted g a.locks.now p.0, (locks_admitted g a.locks.now p.0).enough, p.1)
+
+pub returns : goal.returns
+returns c =
+    write_accepted _ _ _ _ _ (sym c.write_number-number.ensures ∙ c.if-number-ne0.false) c.put_file.ensures.0 c.put_file.ensures.1
