@@ -30,7 +30,6 @@ from __future__ import annotations
 
 import ctypes
 import enum
-import itertools
 import operator
 import os
 import re
@@ -867,7 +866,11 @@ class _TextReader:
     def binary(self) -> "_Circuit":
         """The circuit of a binary file."""
         last, inputs, outputs, gates = self.header("aig")
-        ends, ands = self.outputs(last, outputs), []
+        try:
+            ends, ands = self.outputs(last, outputs), []
+        except _Fault as fault:
+            # Of a header whose line ends in a carriage return that is told first.
+            raise _Fault(self.strict) if _RETURNS in self.mended and self.strict else fault
         if self.mended & {_RETURNS, _UNENDED}:
             why = "its lines do not end in newlines alone, as after a transfer as text; a binary file must come as it is"
             raise self.fault(10, why)
@@ -1281,20 +1284,14 @@ class Graph:
         return f"Graph({self.inputs}, {self.nodes}, {self.outputs}{locked})"
 
     def _repr_svg_(self) -> Optional[str]:
-        """A picture for notebooks, by Graphviz; None, so that the text is shown, where its program dot is not there, there is too much, or
-        the graph is refused."""
-        nodes = len(self._nodes) // 3
-        if shutil.which("dot") is None or nodes > _MOST_DRAWN or self.inputs + nodes + len(self._outputs) > _MOST_BOXES:
+        """A picture for notebooks, by Graphviz; None, so that the text is shown, where its program dot is not there or there is too much."""
+        if shutil.which("dot") is None or self.inputs + len(self._nodes) // 3 + len(self._outputs) > _MOST_DRAWN:
             return None
-        # In UTF-8 whatever the locale is.
-        how = {"capture_output": True, "encoding": "utf-8", "errors": "replace", "timeout": _LONGEST, "check": True}
         try:
-            svg = subprocess.run(["dot", "-Tsvg"], input=_Picture(self).dot(), **how).stdout
-        except (Refused, OSError, subprocess.SubprocessError):
+            done = subprocess.run(["dot", "-Tsvg"], input=_dot(self), capture_output=True, text=True, timeout=4, check=True)
+        except (OSError, subprocess.SubprocessError):
             return None
-        # One that is wider than its window scales to it.
-        _, root, rest = svg.partition("<svg ")
-        return f'{root}style="max-width:100%;height:auto" {rest}' if root else None
+        return done.stdout[done.stdout.find("<svg") :]
 
     def __eq__(self, other: object) -> bool:
         if not isinstance(other, Graph):
@@ -1448,9 +1445,7 @@ class Graph:
         output is wanted by 0, 1, or 2 for either; in text x stands for either. More than 16 inputs are refused by 17."""
         given, found = _wanted(wanted), (_U32 * 2)()
         lent = self._lent()
-        # Enough for 256 assignments together, of as many inputs as are searched.
-        room = 4 * (min(lent[0], MOST_SEARCHED) + 1 + lent[1])
-        _call(_assignment, *lent, *given, _array(_U64, room), room, found)
+        _call(_assignment, *lent, *given, _array(_U64, lent[1]), lent[1], found)
         return found[1] if found[0] else None
 
     def complemented_edges(self) -> int:
@@ -1557,166 +1552,30 @@ class Graph:
         return Settled(*figures, *savings)
 
 
-#: The most literals that are shown one by one.
+#: The most literals that are shown one by one, and the most inputs, nodes and outputs that are drawn.
 _MOST_SHOWN = 60
-#: The limits of pictures, which are those of `panjerov picture`: nodes; inputs, nodes and outputs together; levels that edges cross, all
-#: together; signs of a name in a cell and in a box.
-_MOST_DRAWN = 300
-_MOST_BOXES = 600
-_MOST_CROSSED = 2500
-_IN_CELL, _IN_BOX = 9, 16
-#: The seconds after which Graphviz is taken to hang.
-_LONGEST = 60
-
-#: Signs within quotes of DOT, which knows the entities of HTML; those that no picture can show are spaces.
-_QUOTED = {**dict.fromkeys([*range(32), *range(127, 160)], " "), **str.maketrans({"&": "&amp;", '"': '\\"'})}
-#: Signs within a label, where some part cells, and within a tooltip, which Graphviz reads for backslashes twice.
-_SHOWN = {**_QUOTED, **str.maketrans({"\\": "\\" * 2, "{": "&#123;", "}": "&#125;", "|": "&#124;", "<": "&lt;", ">": "&gt;"})}
-_TOLD = {**_QUOTED, **str.maketrans({"\\": "\\" * 4})}
-#: The sign of a complement, and the dot of a constant, which has no edge.
-_NOT, _DOT = "\u00ac", " \u25cf"
-#: What parts lines within quotes.
-_LINE = "\\n"
-
-#: How everything looks unless a line says otherwise, and how nodes look.
-_LOOKS = """    graph [rankdir=BT, ranksep=0.5, nodesep=0.25, nslimit=2, nslimit1=2, labelloc=t];
-    graph [fontname="Verdana,DejaVu Sans,sans-serif", fontsize=13];
-    node [shape=box, style=filled, fillcolor=white, height=0.3];
-    node [fontname="DejaVu Sans Mono,Menlo,Consolas,monospace", fontsize=11];
-    edge [arrowhead=none, arrowsize=0.8, tailport=n];
-"""
-_SHAPES = {
-    "majority": 'shape=record, fillcolor="#dcebf7"',
-    "AND": 'shape=record, fillcolor="#d9efd2"',
-    "OR": 'shape=record, fillcolor="#d9efd2"',
-    "XOR": 'shape=Mrecord, fillcolor="#fbdf9d"',
-}
+_MOST_DRAWN = 600
 
 
-def _shown(name: str, most: int) -> str:
-    """A name in a label. The middle of a long one is left out, since names of one bus differ at their ends."""
-    end = most // 2
-    cut = name if len(name) <= most else f"{name[:most - 1 - end]}\u2026{name[-end:]}"
-    return cut.translate(_SHOWN)
-
-
-def _kind(words: List[int]) -> str:
-    """What a node is drawn as: a majority with just one constant is an AND, or an OR where that is complemented."""
-    constants = [word for word in words if word < 2]
-    if len(words) == 2:
-        return "XOR"
-    return ("AND", "OR")[constants[0]] if len(constants) == 1 else "majority"
-
-
-def _marked(many: int, what: str, mark: str) -> str:
-    """How many there are, and what each has in the picture."""
-    return f"{_told_many(many, what)}, {'' if many == 1 else 'each '}with a {mark}"
-
-
-class _Picture:
-    """A graph in the language of Graphviz, as `panjerov picture` gives it: inputs below, outputs above, and a dot for each complemented
-    edge. A graph that the library does not admit raises Refused."""
-
-    def __init__(self, graph: Graph) -> None:
-        self.graph, self.dots, words = graph, graph.complemented_edges(), list(graph.nodes)
-        triples = zip(words[::3], words[1::3], words[2::3])
-        self.nodes = {at: [word for word in three if word != MARK] for at, three in enumerate(triples, graph.inputs + 1)}
-        self.outputs = {at: [word] for at, word in enumerate(graph.outputs, 1)}
-        self.input_names = {at: name for at, name in graph.input_names.items() if 1 <= at <= graph.inputs}
-        self.rows, self.stubs = True, set()
-        if sum(far for far, _ in self._crossed()) > _MOST_CROSSED:
-            self.rows = False
-            self.stubs = self._long()
-
-    def _crossed(self) -> List[Tuple[int, str]]:
-        """How many levels the edge of each word crosses, with the word as n17w2. Outputs that have no row stand at their nodes."""
-        inputs, lowest = self.graph.inputs + 1, {}
-        levels = [0] * inputs
-        for node, words in self.nodes.items():
-            levels.append(1 + max(levels[word // 2] for word in words))
-            for word in words:
-                lowest[word // 2] = min(levels[node], lowest.get(word // 2, levels[node]))
-        top = 1 + max(levels)
-        if not self.rows:
-            # An input stands just below its lowest reader.
-            levels[:inputs] = [lowest.get(at, 1) - 1 for at in range(inputs)]
-        edges = [(levels[node], word, f"n{node}w{at}") for node, words in self.nodes.items() for at, word in enumerate(words, 1)]
-        edges += [(top, word, f"o{at}w1") for at, [word] in self.outputs.items() if self.rows]
-        return [(level - 1 - levels[word // 2], name) for level, word, name in edges if word > 1]
-
-    def _long(self) -> Set[str]:
-        """The words whose edges are stubs, since all together would cross too many levels."""
-        crossed = sorted(self._crossed(), key=operator.itemgetter(0))
-        sums = list(itertools.accumulate(far for far, _ in crossed))
-        # Where some are cut short, more are: those that are left can be followed.
-        most = _MOST_CROSSED if sums[-1] <= _MOST_CROSSED else _MOST_CROSSED // 4
-        return {word for (_, word), far in zip(crossed, sums) if far > most}
-
-    def _cell(self, word: int) -> str:
-        """The index that a word names or the input's name; a constant has its dot here."""
-        name = self.input_names.get(word // 2)
-        shown = str(word // 2) if name is None else _shown(name, _IN_CELL)
-        return _NOT * (word % 2) + shown + _DOT * (word == 1)
-
-    def _edges(self, box: str, words: List[int], port: str) -> List[str]:
-        """The lines of a box's edges, after the stubs that they come from."""
-        lines = []
-        for at, word in enumerate(words, 1):
-            if word < 2:
-                continue
-            source, name = f"{'i' if word // 2 <= self.graph.inputs else 'n'}{word // 2}", f"{box}w{at}"
-            looks = ["arrowhead=dot"] * (word % 2)
-            if name in self.stubs:
-                lines.append(f'{name} [label="", shape=point, width=0.01];')
-                source, looks = name, ["style=dotted", *looks]
-            lines.append(f"{source} -> {box}{port.format(at)}:s{' [' + ', '.join(looks) + ']' if looks else ''};")
-        return lines
-
-    def _node(self, node: int, words: List[int]) -> List[str]:
-        """The lines of a node. The constant of an AND or an OR has no cell, and its dot stands in the head."""
-        kind, locked = _kind(words), self.graph.is_locked(node)
-        constants = [at for at, word in enumerate(words, 1) if word < 2] if kind in ("AND", "OR") else []
-        cells = "|".join(f"<w{at}> {self._cell(word)}" for at, word in enumerate(words, 1) if at not in constants)
-        head = f"{kind} {node}" + " locked" * locked + _DOT * (kind == "OR")
-        title = f"{kind} {node}" + "".join(f", a majority with the constant as word {at}" for at in constants)
-        title += f"{_LINE}literals {' '.join(map(str, words))}" + f"{_LINE}locked: it may not turn" * locked
-        looks = _SHAPES[kind] + ", penwidth=3" * locked
-        line = f'n{node} [label="{{{head}|{{{cells}}}}}", {looks}, tooltip="{title}"];'
-        return [line, *self._edges(f"n{node}", words, ":w{}")]
-
-    def _row(self, what: str, words: Dict[int, List[int]], names: Dict[int, str], rank: str) -> List[str]:
-        """The boxes of inputs or outputs, which stand in a row by number."""
-        lines = []
-        for at in words:
-            name = [names[at]] if at in names else []
-            label = [f"{what} {at}", *(_shown(text, _IN_BOX) for text in name), *map(self._cell, words[at])]
-            title = [" ".join([f"{what} {at}", *name]).translate(_TOLD), *(f"literal {word}" for word in words[at])]
-            lines.append(f'{what[0]}{at} [label="{_LINE.join(label)}", tooltip="{_LINE.join(title)}"];')
-        if not lines or not self.rows:
-            return lines
-        if len(words) > 1:
-            lines.append(" -> ".join(f"{what[0]}{at}" for at in words) + ' [style=invis, tailport=""];')
-        return ["{", *(f"    {line}" for line in [f"rank={rank};", *lines]), "}"]
-
-    def _caption(self) -> List[str]:
-        """What stands above the graph."""
-        locked, stubs = len(self.graph.locked), len(self.stubs)
-        lines = [self.graph._sizes(), _marked(self.dots, "complemented edge", "dot")]
-        lines += [_marked(locked, "locked node", "thick border")] * (locked > 0)
-        near = "inputs and outputs stand near their nodes, since the graph is deep"
-        edges = "edge is a stub" if stubs == 1 else "edges are stubs"
-        return lines + [near + f"; {stubs} long {edges}: the word says where from" * (stubs > 0)] * (not self.rows)
-
-    def dot(self) -> str:
-        """The text, from the inputs up."""
-        lines = [f'label="{_LINE.join(self._caption())}";']
-        lines += self._row("input", {at: [] for at in range(1, self.graph.inputs + 1)}, self.input_names, "source")
-        for node, words in self.nodes.items():
-            lines += self._node(node, words)
-        lines += self._row("output", self.outputs, self.graph.output_names, "sink")
-        for at, words in self.outputs.items():
-            lines += self._edges(f"o{at}", words, "")
-        return f"digraph panjerov {{\n{_LOOKS}" + "".join(f"    {line}\n" for line in lines) + "}\n"
+def _dot(graph: Graph) -> str:
+    """The graph in the language of Graphviz: inputs below, a dot on each complemented edge, the constant at each reader."""
+    lines = ["digraph graph_ {", "rankdir=BT; node [shape=box, style=filled, fillcolor=white]; edge [arrowhead=none];"]
+    lines += [f'x{at} [label="input {at}"];' for at in range(1, graph.inputs + 1)]
+    literals, first = list(graph.nodes), graph.inputs + 1
+    boxes = [(f"x{first + at // 3}", literals[at : at + 3]) for at in range(0, len(literals), 3)]
+    for name, words in boxes:
+        kind, colour = ("XOR", "#fbdf9d") if words[2] == MARK else ("majority", "#dcebf7")
+        locked = ", penwidth=3" if graph.is_locked(int(name[1:])) else ""
+        lines.append(f'{name} [label="{kind} {name[1:]}", fillcolor="{colour}"{locked}];')
+    outputs = [(f"o{at}", [literal]) for at, literal in enumerate(graph.outputs, 1)]
+    lines += [f'{name} [label="output {name[1:]}"];' for name, _ in outputs]
+    for name, words in boxes + outputs:
+        for word, literal in enumerate(word for word in words if word != MARK):
+            source = f"x{literal // 2}" if literal > 1 else f"{name}_{word}"
+            if literal <= 1:
+                lines.append(f'{source} [label="0", shape=circle, width=0.2, fixedsize=true];')
+            lines.append(f"{source} -> {name}{' [arrowhead=dot]' if literal % 2 else ''};")
+    return "\n".join(lines + ["}"])
 
 
 def _second(graph: Graph) -> list:

@@ -18,8 +18,6 @@ import time
 import unittest
 import warnings
 from pathlib import Path
-from unittest import mock
-from xml.etree import ElementTree
 
 import panjerov
 from panjerov import MARK, Difference, Graph, Literals, Majority, Refused
@@ -758,14 +756,6 @@ def chain(nodes: int, outputs: int) -> Graph:
     for at in range(nodes):
         words += [2 * at + 4 + at % 2, 2 + at // 2 % 4, MARK if at % 3 == 2 else at // 3 % 6]
     return Graph(2, words, [2 * (at % (nodes + 3)) + at % 2 for at in range(outputs)])
-
-
-def deep(nodes: int, inputs: int) -> Graph:
-    """So many ANDs and ORs in a chain, each with an input in turn, and complemented edges among them."""
-    words = []
-    for at in range(nodes):
-        words += [2 * (inputs + at) + at % 2, 2 * (1 + at % inputs) + at // 3 % 2, at // 5 % 2]
-    return Graph(inputs, words, [2 * (inputs + nodes) + 1])
 
 
 def kept(graph: Graph) -> tuple:
@@ -1772,6 +1762,7 @@ class Users(unittest.TestCase):
                 (self.BINARY[:23], "refused 10: .*; byte 23, gate 3 of 3: the file ends within it"),
                 (self.BINARY[:19] + b"\0\2", "refused 5: .*; byte 19, gate 1 of 3: its words lie 0 and then 2 below its literal 6, which"),
                 (b"aig 5 2 1 2 2\n", "refused 11: .*; line 1, the header: it says 1 latch; make each an input and an output first"),
+                (b"aig 5 2 0 2 3\r\n", "refused 10: .*; line 1, the header: .* and a carriage return ends it"),
                 (b"\x1f\x8b\x08\0", "refused 2: .*; byte 0, the head: it is compressed: unpack it by gunzip first"),
                 (b"", "refused 1: .*; byte 0, the head: 0 bytes left, and the head of a field has 3"),
             ]:
@@ -1806,6 +1797,24 @@ class Users(unittest.TestCase):
         graph = chain(1000, 5)
         graph.lock(7)
         self.assertEqual(repr(graph), "<Graph: 2 inputs, 1000 nodes, 5 outputs, 1 locked>")
+
+    def test_svg(self) -> None:
+        if shutil.which("dot") is None:
+            self.skipTest("Graphviz is not there")
+        graph = Graph(3, [3, 5, 7, 8, 1, MARK], [11, 0], [4])
+        svg = graph._repr_svg_()
+        self.assertTrue(svg.startswith("<svg") and svg.rstrip().endswith("</svg>"))
+        # A dot at each complemented edge is filled black; the constant's circles are not.
+        self.assertEqual(svg.count('<ellipse fill="black"'), graph.complemented_edges())
+        for label in ["input 3", "majority 4", "XOR 5", "output 2"]:
+            self.assertIn(f">{label}<", svg)
+        self.assertIsNone(chain(1000, 5)._repr_svg_())
+        path = os.environ["PATH"]
+        try:
+            os.environ["PATH"] = ""
+            self.assertIsNone(graph._repr_svg_())
+        finally:
+            os.environ["PATH"] = path
 
     def test_node_calls_cost_what_they_cost_in_c(self) -> None:
         """Of 100,000 nodes: at most twice the time, each at its best of many."""
@@ -1845,165 +1854,6 @@ class Users(unittest.TestCase):
             graph.node_call(51000)
             here.append(time.perf_counter() - start)
         self.assertLess(min(here), 2 * in_c)
-
-
-def dot_of(graph: Graph) -> str:
-    return panjerov._Picture(graph).dot()
-
-
-def dots(text: str, edges: str = "arrowhead=dot") -> int:
-    """The dots of a picture, those of edges and those of constants."""
-    return text.count(edges) + text.count("\u25cf")
-
-
-def boxes_of(svg: str) -> dict:
-    """By what a box is called: its texts, its tooltip, and where it stands."""
-    found = {}
-    for group in ElementTree.fromstring(svg).iter("{http://www.w3.org/2000/svg}g"):
-        if group.get("class") == "node":
-            texts, anchor = list(group.iter("{http://www.w3.org/2000/svg}text")), next(group.iter("{http://www.w3.org/2000/svg}a"))
-            place = (float(texts[0].get("x")), float(texts[0].get("y")))
-            found[group[0].text] = ([text.text for text in texts], anchor.get("{http://www.w3.org/1999/xlink}title"), place)
-    return found
-
-
-class Pictures(unittest.TestCase):
-    """What a notebook shows of a graph."""
-
-    def graphs(self) -> list:
-        """Examples with their names, and graphs of all kinds."""
-        examples = [panjerov.load_file(path) for path in sorted(EXAMPLES.iterdir()) if path.suffix in (".mig", ".aag")]
-        self.assertGreater(len(examples), 9)
-        generator = random.Random(35)
-        return examples + [random_graph(generator) for _ in range(200)]
-
-    def needs_graphviz(self) -> None:
-        if shutil.which("dot") is None:
-            self.skipTest("Graphviz is not there")
-
-    def with_dot(self, script: str) -> None:
-        """Until the test ends, Graphviz is this script of the shell."""
-        folder = tempfile.TemporaryDirectory()
-        self.addCleanup(folder.cleanup)
-        program = Path(folder.name) / "dot"
-        program.write_text(f"#!/bin/sh\n{script}\n")
-        program.chmod(0o755)
-        path = mock.patch.dict(os.environ, {"PATH": folder.name})
-        path.start()
-        self.addCleanup(path.stop)
-
-    def test_dots_are_the_complemented_edges(self) -> None:
-        text = ""
-        for graph in self.graphs():
-            text += dot_of(graph)
-            self.assertEqual(dots(dot_of(graph)), graph.complemented_edges(), graph)
-        # There are many of each form: on an edge, beside OR, in a cell, and in an output's box.
-        forms = [" [arrowhead=dot]", " \u25cf|{", "> \u00ac0 \u25cf", "\\n\u00ac0 \u25cf"]
-        self.assertTrue(all(text.count(form) > 30 for form in forms), [text.count(form) for form in forms])
-
-    def test_dots_as_drawn(self) -> None:
-        self.needs_graphviz()
-        for graph in [*self.graphs()[:40], deep(300, 1), deep(300, 9)]:
-            svg = graph._repr_svg_()
-            self.assertTrue(svg.startswith("<svg ") and svg.rstrip().endswith("</svg>"))
-            self.assertEqual(dots(svg, '<ellipse fill="black"'), graph.complemented_edges(), graph)
-
-    def test_kinds(self) -> None:
-        """Just one constant, at whichever place, makes an AND or an OR of a majority."""
-        cases = [
-            ([0, 4, 6], "AND 4|{<w2> 2|<w3> 3}", "AND 4, a majority with the constant as word 1"),
-            ([5, 0, 6], "AND 4|{<w1> \u00ac2|<w3> 3}", "AND 4, a majority with the constant as word 2"),
-            ([4, 7, 1], "OR 4 \u25cf|{<w1> 2|<w2> \u00ac3}", "OR 4, a majority with the constant as word 3"),
-            ([1, 0, 7], "majority 4|{<w1> \u00ac0 \u25cf|<w2> 0|<w3> \u00ac3}", "majority 4"),
-            ([0, 0, 0], "majority 4|{<w1> 0|<w2> 0|<w3> 0}", "majority 4"),
-            ([2, 4, 7], "majority 4|{<w1> x|<w2> 2|<w3> \u00ac3}", "majority 4"),
-            ([3, 1, MARK], "XOR 4|{<w1> \u00acx|<w2> \u00ac0 \u25cf}", "XOR 4"),
-        ]
-        for words, label, told in cases:
-            graph = Graph(3, words, [1])
-            # A name that is no input's is shown nowhere.
-            graph.input_names = {0: "zero", 1: "x", 4: "four"}
-            literals = " ".join(str(word) for word in words if word != MARK)
-            text = dot_of(graph)
-            self.assertIn(f'n4 [label="{{{label}}}", shape=', text)
-            self.assertIn(f'tooltip="{told}\\nliterals {literals}"];', text)
-            self.assertIn('o1 [label="output 1\\n\u00ac0 \u25cf", tooltip="output 1\\nliteral 1"];', text)
-
-    def test_locks_and_what_stands_above(self) -> None:
-        graph = Graph(2, [3, 1, 4, 6, 5, MARK], [8], [3])
-        text = dot_of(graph)
-        self.assertIn('label="2 inputs, 2 nodes, 1 output\\n3 complemented edges, each with a dot\\n1 locked node, with a thick border";', text)
-        self.assertIn('n3 [label="{OR 3 locked \u25cf|{<w1> \u00ac1|<w3> 2}}", shape=record, fillcolor="#d9efd2", penwidth=3, tooltip="', text)
-        self.assertIn("\\nliterals 3 1 4\\nlocked: it may not turn", text)
-        self.assertEqual(text.count("penwidth"), 1)
-
-    def test_names_with_signs_of_dot_and_html(self) -> None:
-        self.needs_graphviz()
-        names = ["{a}|<b>", '"q"\\N&lt;', "<w1> \\n", "\\", "&amp;", "\u00e9\u2713", "averylongname[12]", "a\tb"]
-        graph = Graph(8, [3, 5, 7, 9, 11, 13, 15, 17, MARK, 18, 21, 22], [25, 22, 20, 18, 2, 4, 6, 8])
-        graph.input_names = graph.output_names = dict(enumerate(names, 1))
-        found = boxes_of(graph._repr_svg_())
-        self.assertEqual(len(found), 8 + 4 + 8)
-        shown = names[:6] + ["averylo\u2026name[12]", "a b"]
-        for at, (name, box) in enumerate(zip(names, shown), 1):
-            told = name.replace("\t", " ")
-            self.assertEqual(found[f"i{at}"][:2], ([f"input {at}", box], f"input {at} {told}"))
-            texts, title, _ = found[f"o{at}"]
-            self.assertEqual((texts[:2], title), ([f"output {at}", box], f"output {at} {told}\nliteral {graph.outputs[at - 1]}"))
-        cells = [f"\u00ac{name}" for name in names[:6]]
-        self.assertEqual(found["n9"][0] + found["n10"][0], ["majority 9", *cells[:3], "majority 10", *cells[3:]])
-        self.assertEqual(found["n11"][0], ["XOR 11", "\u00acaver\u2026[12]", "\u00aca b"])
-
-    def test_order(self) -> None:
-        """Inputs stand in a row by number, and so do outputs, though edges would cross less otherwise."""
-        self.needs_graphviz()
-        graph = Graph(6, [12, 11, 0, 8, 7, 0, 4, 2, 1, 14, 17, 18], [19, 2, 16, 14, 12])
-        found = boxes_of(graph._repr_svg_())
-        for kind, many in [("i", 6), ("o", 5)]:
-            across, heights = zip(*(found[f"{kind}{at}"][2] for at in range(1, many + 1)))
-            self.assertEqual((list(across), len(set(heights))), (sorted(across), 1))
-
-    def test_deep_graphs(self) -> None:
-        """An edge from the row of inputs crosses 0 to 70 levels in the first, 2,485 together; stubs keep their dots."""
-        near = "\\ninputs and outputs stand near their nodes, since the graph is deep"
-        self.assertEqual([near in dot_of(deep(nodes, 100)) for nodes in (71, 72)], [False, True])
-        self.assertEqual(["rank=" in dot_of(deep(nodes, 100)) for nodes in (71, 72)], [True, False])
-        # Edges of one input cross 0 to 299 levels: the first 35 cross 595 together, the next would be over 625.
-        graph = deep(300, 1)
-        text = dot_of(graph)
-        self.assertIn(f'{near}; 265 long edges are stubs: the word says where from";', text)
-        self.assertEqual((text.count("shape=point"), text.count("style=dotted")), (265, 265))
-        self.assertEqual(dots(text), graph.complemented_edges())
-
-    def test_limits(self) -> None:
-        self.with_dot("while read -r line; do :; done; echo '<?xml?><svg id=\"it\"></svg>'")
-        drawn = [deep(300, 5), Graph(300, [], [2] * 300), Graph(0, [], [])]
-        beyond = [deep(301, 5), Graph(300, [], [2] * 301), Graph(1, [9, 9, 9], []), Graph(1, [MARK, 2, 2], [])]
-        for graph in drawn:
-            self.assertEqual(graph._repr_svg_(), '<svg style="max-width:100%;height:auto" id="it"></svg>\n')
-        self.assertEqual([graph._repr_svg_() for graph in beyond], [None] * 4)
-
-    def test_graphviz_missing_failing_or_hanging(self) -> None:
-        with mock.patch.dict(os.environ, {"PATH": ""}):
-            self.assertIsNone(p1()._repr_svg_())
-        self.assertEqual(panjerov._LONGEST, 60)
-        for script in ["exit 1", "kill -11 $$", "exit 0", "while :; do :; done"]:
-            self.with_dot(script)
-            with mock.patch.object(panjerov, "_LONGEST", 0.5):
-                self.assertIsNone(p1()._repr_svg_(), script)
-
-    def test_as_the_program(self) -> None:
-        """The text is what `panjerov picture` gives, but for the title. Its tooltips have other backslashes."""
-        program = ROOT / "rust" / "reducer" / "target" / "release" / "panjerov"
-        if not program.exists():
-            self.skipTest("panjerov is not built")
-        graphs = self.graphs()[:60] + [chain(nodes, 5) for nodes in (20, 75, 300)] + [deep(72, 100), deep(300, 1)]
-        with tempfile.TemporaryDirectory() as folder:
-            for graph in graphs:
-                graph.input_names = {at: f'{{a}}|<"{at}">&{"long" * (at % 4)}' for at in range(1, graph.inputs + 1) if at % 3}
-                graph.save_file(Path(folder) / "graph")
-                done = subprocess.run([str(program), "picture", "graph"], cwd=folder, capture_output=True, check=True)
-                self.assertEqual(done.stdout.decode().replace('label="graph\\n', 'label="', 1), dot_of(graph))
 
 
 def run_c(source: str, given: bytes = b"") -> str:

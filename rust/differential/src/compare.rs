@@ -176,7 +176,6 @@ fn owned_numbers(g: &Packed, h: &Packed) -> (Result<[u32; 2], u32>, Vec<u8>) {
                 Difference::OutputIndex(place) => [3, place as u32],
                 Difference::NodeBit(place) => [4, place as u32],
                 Difference::OutputBit(place) => [5, place as u32],
-                other => panic!("{other}"),
             };
             (Ok(told), vec![])
         }

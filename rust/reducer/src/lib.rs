@@ -318,7 +318,6 @@ impl Majority {
 
 /// Where a graph first differs from another so that no moves lead from one to the other. Places of tables count from 0.
 #[derive(Clone, Copy, Debug, PartialEq, Eq, Hash)]
-#[non_exhaustive]
 pub enum Difference {
     /// In the number of inputs.
     Inputs,
@@ -382,7 +381,6 @@ pub enum Compared {
 /// What a preview tells of a tree call that is not made.
 #[must_use]
 #[derive(Clone, Debug, PartialEq, Eq, Hash)]
-#[non_exhaustive]
 pub struct Preview {
     /// What the tree call would save.
     pub saving: Saving,
@@ -791,9 +789,7 @@ impl Graph {
     /// The least assignment under which the outputs are as wanted, a byte an output: 0, 1, or 2 for either. Bit k of an assignment is input
     /// k + 1. None exactly where no assignment gives the pattern.
     pub fn assignment_for(&self, wanted: &[u8]) -> Result<Option<u32>, Refusal> {
-        // Enough for 256 assignments together.
-        let indices = self.size.inputs.min(MOST_SEARCHED) + 1 + self.size.nodes.min(MOST_NODES);
-        let mut scratch = vec![0; 4 * indices as usize];
+        let mut scratch = vec![0; self.size.nodes.min(MOST_NODES) as usize];
         lent::assignment(
             self.size,
             &self.node_table,

@@ -7,8 +7,6 @@ use std::path::{Path, PathBuf};
 use std::process::{Command, Output, Stdio};
 use std::time::{Duration, Instant};
 
-mod damage;
-
 #[path = "program/assignments.rs"]
 mod assignments;
 #[path = "program/classes.rs"]
@@ -29,8 +27,6 @@ mod locks;
 mod moves;
 #[path = "program/names.rs"]
 mod names;
-#[path = "program/pages.rs"]
-mod pages;
 #[path = "program/pictures.rs"]
 mod pictures;
 #[path = "program/reports.rs"]

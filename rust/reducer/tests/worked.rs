@@ -190,7 +190,7 @@ fn settling_by_two_rounds_that_lower() {
 }
 
 fn told(g: &Graph, root: u32) -> (Saving, Vec<u8>) {
-    let Preview { saving, moves, .. } = g.preview(root).unwrap();
+    let Preview { saving, moves } = g.preview(root).unwrap();
     (saving, moves)
 }
 

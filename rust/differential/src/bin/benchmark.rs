@@ -185,15 +185,13 @@ fn compared() {
 
 const ASSIGNMENT: &str = "assignment";
 
-/// A pattern that none of the assignments of 16 inputs gives: 256 passes with scratch for four blocks, and else 1,024.
+/// A pattern that none of the assignments of 16 inputs gives: 1,024 passes.
 fn assigned() {
     println!("{SINGLE_HEAD}");
-    for (what, four) in [(ASSIGNMENT, true), ("assignment, least scratch", false)] {
-        for (name, shape) in SHAPES {
-            let fresh = Pattern::new(shape, 100_000, four);
-            let times = race(name, &fresh, [proved::assignment, plain::assignment], |_| ());
-            print_single(what, name, fresh.g.nodes, 1, times);
-        }
+    for (name, shape) in SHAPES {
+        let fresh = Pattern::new(shape, 100_000);
+        let times = race(name, &fresh, [proved::assignment, plain::assignment], |_| ());
+        print_single(ASSIGNMENT, name, fresh.g.nodes, 1, times);
     }
 }
 

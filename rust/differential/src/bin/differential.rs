@@ -87,7 +87,7 @@ const KINDS: [Kind; 71] = [
     ("graphs compared with every choice of faults of known numbers", 1, faulty_comparisons),
     ("graphs of thousands of nodes compared", 12, compared_large),
     ("assignments for wanted outputs", 80_000, assigned),
-    ("assignments of up to 16 inputs", 2_400, assigned_longer),
+    ("assignments of up to 16 inputs", 600, assigned_longer),
     ("assignments with every choice of faults of known numbers", 1, faulty_assignments),
     ("assignments on thousands of nodes", 16, assigned_large),
     ("graphs joined", 40_000, joined),

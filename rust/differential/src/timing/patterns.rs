@@ -14,13 +14,12 @@ pub struct Pattern {
 }
 
 impl Pattern {
-    /// Of 16 inputs: the last node and its complement are both wanted 1. With scratch for one block at a time, or for four.
-    pub fn new(shape: Shape, nodes: u32, four: bool) -> Pattern {
+    /// Of 16 inputs: the last node and its complement are both wanted 1.
+    pub fn new(shape: Shape, nodes: u32) -> Pattern {
         let g = graph(&mut Random::new(nodes.into()), shape, 16, nodes, 0);
         let last = 2 * (g.inputs + g.nodes);
         let g = Graph { outputs: 2, output_table: vec![last, last + 1], ..g };
-        let room = if four { 4 * (g.inputs + 1 + nodes) } else { nodes };
-        Pattern { g: pack(&g), wanted: [1, 1], scratch: vec![0; room as usize] }
+        Pattern { g: pack(&g), wanted: [1, 1], scratch: vec![0; nodes as usize] }
     }
 }
 

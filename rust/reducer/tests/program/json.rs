@@ -103,23 +103,15 @@ fn drawn() -> Vec<Case> {
     vec![(&["p1"], 0, whole.into()), (&["--compare", "p2", "turned", "--root=7"], 0, part.into())]
 }
 
-/// Inputs or outputs of these numbers, of which none has a name.
-fn unnamed(what: &str, numbers: &[u32]) -> String {
-    let all: Vec<String> = numbers.iter().map(|at| format!("{{\"{what}\": {at}, \"name\": null}}")).collect();
-    format!("[{}]", all.join(", "))
-}
-
 fn previewed() -> Vec<Case> {
-    let around = format!("\"reads\": {}, \"drives\": {}", unnamed("input", &[1, 2, 3, 4, 5]), unnamed("output", &[1]));
     let root = "{\"root\": 7, \"before\": 4, \"after\": 2, \"saving\": 2, \"own\": 2, \"others\": 0, \
                 \"tree\": {\"nodes\": 2, \"majorities\": 2, \"xors\": 0, \"locked\": 0}, \
                 \"moves\": [{\"node\": 6, \"kind\": \"majority\", \"move\": 1, \"locked\": false}, \
-                {\"node\": 7, \"kind\": \"majority\", \"move\": 0, \"locked\": false}]";
-    let root = format!("{root}, {around}}}\n");
+                {\"node\": 7, \"kind\": \"majority\", \"move\": 0, \"locked\": false}]}\n";
     let roots =
         "{\"before\": 4, \"roots\": [{\"root\": 7, \"nodes\": 2, \"majorities\": 2, \"xors\": 0, \"locked\": 0, \
-                 \"saving\": 2, \"own\": 2, \"others\": 0, \"drives\": [{\"output\": 1, \"name\": null}]}]}\n";
-    vec![(&["p2"], 0, roots.into()), (&["p2", "7"], 0, root.clone()), (&["p2", "7", "--moves"], 0, root)]
+                 \"saving\": 2, \"own\": 2, \"others\": 0}]}\n";
+    vec![(&["p2"], 0, roots.into()), (&["p2", "7"], 0, root.into()), (&["p2", "7", "--moves"], 0, root.into())]
 }
 
 fn sheets() -> Vec<Case> {
@@ -221,15 +213,6 @@ fn figures_beside_a_file() {
     assert_eq!((text(&output.stdout), said(&output), output.status.code()), (none, String::new(), Some(1)));
     let named = run_in(&folder, &["show", "--json"], format!("{MAJORITY}i0 x\no0 y[0]\n").as_bytes());
     assert!(text(&named.stdout).ends_with(NAMED), "{}", text(&named.stdout));
-    let drives = "\"drives\": [{\"output\": 1, \"name\": \"y[0]\"}]}";
-    let reads =
-        "\"reads\": [{\"input\": 1, \"name\": \"x\"}, {\"input\": 2, \"name\": null}, {\"input\": 3, \"name\": null}], ";
-    for (words, due) in
-        [(&["preview"][..], format!("{drives}]}}\n")), (&["preview", "-", "7"], format!("{reads}{drives}\n"))]
-    {
-        let named = run(&[words, &["--json"]].concat(), format!("{MAJORITY}i0 x\no0 y[0]\n").as_bytes());
-        assert!(text(&named.stdout).ends_with(&due), "{}", text(&named.stdout));
-    }
     // A refusal is told as ever.
     let refused = "panjerov: standard input: refused 1: the bytes end within a field; it is empty\n";
     stops(&run(&["settle", "--json"], b""), 1, refused);

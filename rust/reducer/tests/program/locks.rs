@@ -1,6 +1,6 @@
 //! Locking and unlocking, and what the other commands do with locks.
 
-use super::pictures::{drawn, has_graphviz, p3};
+use super::pictures::{drawn, p3, run_with, with_dot};
 use super::reports::rows;
 use super::*;
 
@@ -189,39 +189,37 @@ fn locks_in_pictures() {
     let due = r##"    label="standard input\n5 inputs, 2 nodes, 1 output\n4 complemented edges, each with a dot\n1 locked node, with a thick border";
     {
         rank=source;
-        i1 [label="input 1", tooltip="input 1"];
-        i2 [label="input 2", tooltip="input 2"];
-        i3 [label="input 3", tooltip="input 3"];
-        i4 [label="input 4", tooltip="input 4"];
-        i5 [label="input 5", tooltip="input 5"];
-        i1 -> i2 -> i3 -> i4 -> i5 [style=invis, tailport=""];
+        i1 [label="input 1"];
+        i2 [label="input 2"];
+        i3 [label="input 3"];
+        i4 [label="input 4"];
+        i5 [label="input 5"];
     }
-    n6 [label="{majority 6|{<w1> ¬1|<w2> ¬2|<w3> 3}}", shape=record, fillcolor="#dcebf7", tooltip="majority 6\nliterals 3 5 6"];
+    n6 [label="{majority 6|{<w1> 3|<w2> 5|<w3> 6}}", shape=record, fillcolor="#dcebf7"];
     i1 -> n6:w1:s [arrowhead=dot];
     i2 -> n6:w2:s [arrowhead=dot];
     i3 -> n6:w3:s;
-    n7 [label="{majority 7 locked|{<w1> ¬6|<w2> 4|<w3> ¬5}}", shape=record, fillcolor="#dcebf7", penwidth=3, tooltip="majority 7\nliterals 13 8 11\nlocked: it may not turn"];
+    n7 [label="{majority 7 locked|{<w1> 13|<w2> 8|<w3> 11}}", shape=record, fillcolor="#dcebf7", penwidth=3];
     n6 -> n7:w1:s [arrowhead=dot];
     i4 -> n7:w2:s;
     i5 -> n7:w3:s [arrowhead=dot];
     {
         rank=sink;
-        o1 [label="output 1\n7", tooltip="output 1\nliteral 14"];
+        o1 [label="{output 1|<w1> 14}", shape=record];
     }
-    n7 -> o1:s;
+    n7 -> o1:w1:s;
 }
 "##;
     assert_eq!(drawn(&run(&["picture"], &p2_locked(&[7]))), due);
     let xor = tagged(&[(1, &[2, 1, 1]), (3, &[2, 4]), (4, &[6]), (6, &[3]), (5, &[])]);
     let output = run(&["picture"], &xor);
-    let due =
-        "n3 [label=\"{XOR 3 locked|{<w1> 1|<w2> 2}}\", shape=Mrecord, fillcolor=\"#fbdf9d\", penwidth=3, tooltip=";
+    let due = "n3 [label=\"{XOR 3 locked|{<w1> 2|<w2> 4}}\", shape=Mrecord, fillcolor=\"#fbdf9d\", penwidth=3];";
     assert!(text(&output.stdout).contains(due));
     // Node 4, which the tree of node 6 reads, is locked, and so is node 5 within it.
     let locked = run(&["lock", "-", "4,5"], &two_trees()).stdout;
     let output = run(&["picture", "--root", "6"], &locked);
     let dot = text(&output.stdout);
-    assert!(dot.contains("n4 [label=\"node 4 locked\", style=dashed, penwidth=3, tooltip="));
+    assert!(dot.contains("n4 [label=\"majority 4 locked\", style=dashed, penwidth=3];"));
     assert!(dot.contains("n5 [label=\"{XOR 5 locked|"));
     assert!(dot.contains("each with a dot\\n2 locked nodes of the whole graph's 2, each with a thick border\";"));
     let output = run(&["picture", "--output", "1"], &locked);
@@ -256,16 +254,13 @@ fn locks_compared() {
     let dot = text(&output.stdout);
     assert!(dot.contains("before_n7 [label=\"{majority 7 locked|") && dot.contains("after_n7 [label=\"{majority 7|"));
     assert!(dot.contains("before_n6 [label=\"{majority 6|") && dot.contains("after_n6 [label=\"{majority 6 locked|"));
-    assert_eq!(dot.matches(", penwidth=3, ").count(), 2);
+    assert_eq!(dot.matches("penwidth=3]").count(), 2);
 }
 
 #[test]
 fn locks_in_a_report() {
-    if !has_graphviz() {
-        return;
-    }
-    let folder = folder("locks_in_a_report");
-    let run_with = |folder: &Path, words: &[&str]| run_in(folder, words, b"");
+    let script = "echo '<svg>'; cat; echo '</svg>'";
+    let folder = with_dot("locks_in_a_report", Some(script));
     fs::write(folder.join("in"), p2_locked(&[7])).unwrap();
     let figures = "inputs 5 nodes 2 outputs 1 before 4 after 2 rounds 2 own 2 others 0 locked 1\n";
     gives(&run_with(&folder, &["report", "in", "-o", "out"]), b"", figures);
@@ -273,10 +268,10 @@ fn locks_in_a_report() {
     assert_eq!(rows(&page)[6], ["of these locked", "1", "1", ""]);
     assert!(page.contains("with the same wiring and function. One node is locked and did not turn.</p>\n"));
     assert!(page.contains("<h2>Nodes that turned: 1 of 2</h2>\n"));
-    assert!(page.contains("<h2>Locked nodes: 1 of 2</h2>\n<p class=\"long\">7</p>\n"));
+    assert!(page.contains("<h2>Locked nodes: 1 of 2</h2>\n<p>7</p>\n"));
     assert!(
-        page.contains("<g class=\"box majority locked\" id=\"n7\"")
-            && page.contains("<g class=\"box majority\" id=\"n6\"")
+        page.contains("before_n7 [label=\"{majority 7 locked|")
+            && page.contains("after_n7 [label=\"{majority 7 locked|")
     );
     assert!(page.contains("</svg>locked node, which may not turn\n"));
     // Both locked: nothing turns.
@@ -284,7 +279,7 @@ fn locks_in_a_report() {
     assert_eq!(run_with(&folder, &["report", "in", "-o", "out"]).status.code(), Some(0));
     let page = fs::read_to_string(folder.join("out")).unwrap();
     assert!(page.contains("lowers the 4 complemented edges. 2 nodes are locked and did not turn.</p>\n"));
-    assert!(page.contains("<h2>Locked nodes: 2 of 2</h2>\n<p class=\"long\">6 to 7</p>\n"));
+    assert!(page.contains("<h2>Locked nodes: 2 of 2</h2>\n<p>6 to 7</p>\n"));
     // Without locks there is no such section.
     fs::write(folder.join("in"), p2()).unwrap();
     assert_eq!(run_with(&folder, &["report", "in", "-o", "out"]).status.code(), Some(0));

@@ -103,21 +103,9 @@ fn shown() {
     assert!(text(&output.stdout).ends_with("\nreads input 1 x[0]\nreads input 3 cin\ndrives output 1 sum[2]\n"));
     let output = run_in(&folder, &["preview", "graph", "7", "--moves"], b"");
     assert_eq!(text(&output.stdout).lines().count(), 4);
-    // Of the roots that outputs read, those with a name; two outputs of one root have both.
-    let two = "aag 4 2 0 4 2\n2\n4\n6\n7\n9\n2\n6 2 4\n8 3 5\no0 a b\no1 c\no3 wire\n";
-    let roots = "roots 2\nroot 3 nodes 1 majorities 1 xors 0 saving 0 drives a b, c\n\
-                 root 4 nodes 1 majorities 1 xors 0 saving 2\n";
-    gives(&run(&["preview"], two.as_bytes()), roots.as_bytes(), "");
-    for words in [&["preview", "graph"][..], &["preview", "graph", "--sort", "saving"]] {
-        let output = run_in(&folder, words, b"");
-        assert!(text(&output.stdout).ends_with(" drives sum[2]\n"), "{}", text(&output.stdout));
-    }
     let output = run_in(&folder, &["picture", "graph"], b"");
-    for label in [
-        "i1 [label=\"input 1\\nx[0]\", tooltip=\"input 1 x[0]\"];",
-        "i2 [label=\"input 2\", ",
-        "o1 [label=\"output 1\\nsum[2]\\n¬7\", tooltip=\"output 1 sum[2]\\nliteral 15\"];",
-    ] {
+    for label in ["i1 [label=\"input 1 x[0]\"];", "i2 [label=\"input 2\"];", "o1 [label=\"{output 1 sum[2]|<w1> 15}\""]
+    {
         assert!(text(&output.stdout).contains(label), "{label}");
     }
     let output = run_in(&folder, &["report", "graph"], b"");
@@ -127,7 +115,7 @@ fn shown() {
     assert!(text(&output.stdout).starts_with("assignment 3\n"));
     // What parts cells of a picture does not do so in a name.
     let odd = format!("{MAJORITY}o0 a{{b|c}}<d>\"e\\f\n");
-    let label = r#"o1 [label="output 1\na&#123;b&#124;c&#125;&lt;d&gt;\"e\\f\n¬7", "#;
+    let label = r#"o1 [label="{output 1 a&#123;b&#124;c&#125;&lt;d&gt;\"e\\f|<w1> 15}""#;
     assert!(text(&run(&["picture"], odd.as_bytes()).stdout).contains(label));
 }
 
@@ -167,11 +155,11 @@ fn form_by_the_ending() {
         assert_eq!(aiger, name.contains(".a"), "{name}");
     }
     if Command::new("dot").arg("-V").output().is_ok() {
-        for (name, begin) in [("out.svg", &b"<svg "[..]), ("out.png", b"\x89PNG")] {
+        for (name, begin) in [("out.svg", &b"<?xml"[..]), ("out.png", b"\x89PNG")] {
             assert_eq!(run_in(&folder, &["settle", "in.aag", "-o", name], b"").status.code(), Some(0), "{name}");
             assert_eq!(run_in(&folder, &["picture", "in.aag", "-o", "drawn.svg"], b"").status.code(), Some(0));
             assert!(fs::read(folder.join(name)).unwrap().starts_with(begin), "{name}");
-            assert!(fs::read(folder.join("drawn.svg")).unwrap().starts_with(b"<svg "));
+            assert!(fs::read(folder.join("drawn.svg")).unwrap().starts_with(b"<?xml"));
         }
     }
     // What the ending says gives way to what is asked for.
@@ -244,7 +232,7 @@ fn of_two_graphs() {
     let due = "standard input: its lines end in carriage returns, which are passed over\nbefore 6 after 6 saving 0 moved 0 left ";
     assert!(said(&output).starts_with(due), "{}", said(&output));
     let output = run_in(&folder, &["picture", "--compare", "graph", "in.aag"], b"");
-    assert_eq!(text(&output.stdout).matches("label=\"output 1\\nsum[2]\\n").count(), 2);
+    assert_eq!(text(&output.stdout).matches("output 1 sum[2]|").count(), 2);
 }
 
 /// Damaged files that are refused change nothing; of what is accepted, the file that is given is whole.
@@ -272,33 +260,6 @@ fn damaged_files() {
         holds(&folder, &["in", "out"]);
     }
     assert!((60..75).contains(&refused), "{refused}");
-}
-
-/// The same of many files at once, damaged by chance.
-#[test]
-fn a_class_of_damaged_files() {
-    let folder = folder("a_class_of_damaged_files");
-    let mut random = damage::Random(5);
-    let files: Vec<(String, Vec<u8>)> = (0..500).map(|at| (format!("{at:03}"), damage::damaged(&mut random))).collect();
-    ["in", "out"].iter().for_each(|name| fs::create_dir(folder.join(name)).unwrap());
-    for (name, file) in &files {
-        fs::write(folder.join("in").join(name), file).unwrap();
-        fs::write(folder.join("out").join(name), "old").unwrap();
-    }
-    let output = run_in(&folder, &["class", "in", "-o", "out", "--json"], b"");
-    assert_eq!(output.status.code(), Some(1));
-    let mut refused = 0;
-    for (name, file) in &files {
-        assert_eq!(&fs::read(folder.join("in").join(name)).unwrap(), file);
-        let given = fs::read(folder.join("out").join(name)).unwrap();
-        let accepted = text(&output.stdout).contains(&format!("\"file\": \"{name}\", \"before\": "));
-        assert_eq!(reducer::Graph::load(&given).is_ok(), accepted, "{}", file.escape_ascii());
-        assert!(accepted || given == b"old", "{}", file.escape_ascii());
-        refused += usize::from(!accepted);
-    }
-    assert!((200..480).contains(&refused), "{refused}");
-    let names: Vec<&str> = files.iter().map(|(name, _)| &name[..]).collect();
-    holds(&folder.join("in"), &names);
 }
 
 /// What is no graph says what makes one of it.

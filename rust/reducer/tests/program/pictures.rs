@@ -36,79 +36,81 @@ fn draws(output: &Output, above: &[&str], due: &str, line: &str) {
 fn worked_graphs() {
     let due = r##"    {
         rank=source;
-        i1 [label="input 1", tooltip="input 1"];
-        i2 [label="input 2", tooltip="input 2"];
-        i3 [label="input 3", tooltip="input 3"];
-        i1 -> i2 -> i3 [style=invis, tailport=""];
+        i1 [label="input 1"];
+        i2 [label="input 2"];
+        i3 [label="input 3"];
     }
-    n4 [label="{majority 4|{<w1> ¬1|<w2> ¬2|<w3> ¬3}}", shape=record, fillcolor="#dcebf7", tooltip="majority 4\nliterals 3 5 7"];
+    n4 [label="{majority 4|{<w1> 3|<w2> 5|<w3> 7}}", shape=record, fillcolor="#dcebf7"];
     i1 -> n4:w1:s [arrowhead=dot];
     i2 -> n4:w2:s [arrowhead=dot];
     i3 -> n4:w3:s [arrowhead=dot];
     {
         rank=sink;
-        o1 [label="output 1\n¬4", tooltip="output 1\nliteral 9"];
+        o1 [label="{output 1|<w1> 9}", shape=record];
     }
-    n4 -> o1:s [arrowhead=dot];
+    n4 -> o1:w1:s [arrowhead=dot];
 }
 "##;
     let above = ["3 inputs, 1 node, 1 output", "4 complemented edges, each with a dot"];
     draws(&run(&["picture"], &p1()), &above, due, "");
     let due = r##"    {
         rank=source;
-        i1 [label="input 1", tooltip="input 1"];
-        i2 [label="input 2", tooltip="input 2"];
-        i3 [label="input 3", tooltip="input 3"];
-        i4 [label="input 4", tooltip="input 4"];
-        i5 [label="input 5", tooltip="input 5"];
-        i1 -> i2 -> i3 -> i4 -> i5 [style=invis, tailport=""];
+        i1 [label="input 1"];
+        i2 [label="input 2"];
+        i3 [label="input 3"];
+        i4 [label="input 4"];
+        i5 [label="input 5"];
     }
-    n6 [label="{majority 6|{<w1> ¬1|<w2> ¬2|<w3> 3}}", shape=record, fillcolor="#dcebf7", tooltip="majority 6\nliterals 3 5 6"];
+    n6 [label="{majority 6|{<w1> 3|<w2> 5|<w3> 6}}", shape=record, fillcolor="#dcebf7"];
     i1 -> n6:w1:s [arrowhead=dot];
     i2 -> n6:w2:s [arrowhead=dot];
     i3 -> n6:w3:s;
-    n7 [label="{majority 7|{<w1> 6|<w2> ¬4|<w3> 5}}", shape=record, fillcolor="#dcebf7", tooltip="majority 7\nliterals 12 9 10"];
+    n7 [label="{majority 7|{<w1> 12|<w2> 9|<w3> 10}}", shape=record, fillcolor="#dcebf7"];
     n6 -> n7:w1:s;
     i4 -> n7:w2:s [arrowhead=dot];
     i5 -> n7:w3:s;
     {
         rank=sink;
-        o1 [label="output 1\n¬7", tooltip="output 1\nliteral 15"];
+        o1 [label="{output 1|<w1> 15}", shape=record];
     }
-    n7 -> o1:s [arrowhead=dot];
+    n7 -> o1:w1:s [arrowhead=dot];
 }
 "##;
     let above = ["5 inputs, 2 nodes, 1 output", "4 complemented edges, each with a dot"];
     draws(&run(&["picture"], &p3()), &above, due, "");
 }
 
-/// An XOR, constants in cells, one of them a fixed one at an output, a node that is named twice and an input that nothing reads.
+/// An XOR, the constant at each of its three readers, a node that is named twice and an input that nothing reads.
 #[test]
 fn xors_and_constants() {
     let graph =
         tagged(&[(1, &[3, 3, 2]), (3, &[2, 5]), (2, &[1, 8, 0]), (3, &[10, 11]), (4, &[12]), (4, &[1]), (5, &[])]);
     let due = r##"    {
         rank=source;
-        i1 [label="input 1", tooltip="input 1"];
-        i2 [label="input 2", tooltip="input 2"];
-        i3 [label="input 3", tooltip="input 3"];
-        i1 -> i2 -> i3 [style=invis, tailport=""];
+        i1 [label="input 1"];
+        i2 [label="input 2"];
+        i3 [label="input 3"];
     }
-    n4 [label="{XOR 4|{<w1> 1|<w2> ¬2}}", shape=Mrecord, fillcolor="#fbdf9d", tooltip="XOR 4\nliterals 2 5"];
+    n4 [label="{XOR 4|{<w1> 2|<w2> 5}}", shape=Mrecord, fillcolor="#fbdf9d"];
     i1 -> n4:w1:s;
     i2 -> n4:w2:s [arrowhead=dot];
-    n5 [label="{majority 5|{<w1> ¬0 ●|<w2> 4|<w3> 0}}", shape=record, fillcolor="#dcebf7", tooltip="majority 5\nliterals 1 8 0"];
+    n5 [label="{majority 5|{<w1> 1|<w2> 8|<w3> 0}}", shape=record, fillcolor="#dcebf7"];
+    n5_c1 [label="0", shape=circle, width=0.2, fixedsize=true, fontsize=9];
+    n5_c1 -> n5:w1:s [weight=2, arrowhead=dot];
     n4 -> n5:w2:s;
-    n6 [label="{XOR 6|{<w1> 5|<w2> ¬5}}", shape=Mrecord, fillcolor="#fbdf9d", tooltip="XOR 6\nliterals 10 11"];
+    n5_c3 [label="0", shape=circle, width=0.2, fixedsize=true, fontsize=9];
+    n5_c3 -> n5:w3:s [weight=2];
+    n6 [label="{XOR 6|{<w1> 10|<w2> 11}}", shape=Mrecord, fillcolor="#fbdf9d"];
     n5 -> n6:w1:s;
     n5 -> n6:w2:s [arrowhead=dot];
     {
         rank=sink;
-        o1 [label="output 1\n6", tooltip="output 1\nliteral 12"];
-        o2 [label="output 2\n¬0 ●", tooltip="output 2\nliteral 1"];
-        o1 -> o2 [style=invis, tailport=""];
+        o1 [label="{output 1|<w1> 12}", shape=record];
+        o2 [label="{output 2|<w1> 1}", shape=record];
     }
-    n6 -> o1:s;
+    n6 -> o1:w1:s;
+    o2_c1 [label="0", shape=circle, width=0.2, fixedsize=true, fontsize=9];
+    o2_c1 -> o2:w1:s [weight=2, arrowhead=dot];
 }
 "##;
     let above = ["3 inputs, 3 nodes, 2 outputs", "4 complemented edges, each with a dot"];
@@ -117,105 +119,6 @@ fn xors_and_constants() {
     assert!(text(&one.stdout).contains("\\n1 complemented edge, with a dot\";"));
     let above = ["0 inputs, 0 nodes, 0 outputs", "0 complemented edges, each with a dot"];
     draws(&run(&["picture"], &tagged(&[(1, &[0, 0, 0]), (5, &[])])), &above, "}\n", "");
-}
-
-/// How many dots a DOT text shows: at the ends of edges, and of constants in their boxes.
-pub fn dots_of(dot: &str) -> usize {
-    dot.matches("arrowhead=dot").count() + dot.matches('●').count()
-}
-
-/// The graphs of examples/, by name.
-fn examples() -> Vec<(String, Vec<u8>)> {
-    let folder = fs::read_dir(concat!(env!("CARGO_MANIFEST_DIR"), "/../../examples")).unwrap();
-    let is_graph = |path: &PathBuf| path.extension().is_some_and(|ending| ending == "mig" || ending == "aag");
-    let paths = folder.map(|entry| entry.unwrap().path()).filter(is_graph);
-    paths.map(|path| (path.display().to_string(), fs::read(&path).unwrap())).collect()
-}
-
-/// In DOT text and in SVG, as given and settled.
-#[test]
-fn dots_of_examples() {
-    let examples = examples();
-    assert!(examples.len() >= 11);
-    for (name, given) in examples {
-        let graph = Graph::load(&given).or_else(|_| Graph::import(&given)).unwrap();
-        let mut settled = graph.clone();
-        settled.settle().unwrap();
-        for graph in [graph, settled] {
-            let (file, c) = (graph.write().unwrap(), graph.complemented_edges().unwrap() as usize);
-            assert_eq!(dots_of(text(&run(&["picture"], &file).stdout)), c, "{name}");
-            if has_graphviz() {
-                let output = run(&["picture", "--svg"], &file);
-                assert_eq!(text(&output.stdout).matches("class=\"dot\"").count(), c, "{name}");
-            }
-        }
-    }
-}
-
-/// A majority with the constant at any of its words is an AND or an OR, and keeps the places of the other two.
-#[test]
-fn ands_and_ors() {
-    let graph = tagged(&[
-        (1, &[2, 5, 1]),
-        (2, &[0, 2, 5]),
-        (2, &[2, 1, 5]),
-        (2, &[3, 5, 0]),
-        (2, &[7, 9, 1]),
-        (2, &[1, 1, 2]),
-        (4, &[12]),
-        (5, &[]),
-    ]);
-    let output = run(&["picture"], &graph);
-    let dot = text(&output.stdout);
-    let green = "shape=record, fillcolor=\"#d9efd2\", tooltip=";
-    let constant = |node: &str, word: u32| format!("\"{node}, a majority with the constant as word {word}\\nliterals ");
-    for due in [
-        format!("n3 [label=\"{{AND 3|{{<w2> 1|<w3> ¬2}}}}\", {green}{}0 2 5\"];", constant("AND 3", 1)),
-        format!("n4 [label=\"{{OR 4 ●|{{<w1> 1|<w3> ¬2}}}}\", {green}{}2 1 5\"];", constant("OR 4", 2)),
-        format!("n5 [label=\"{{AND 5|{{<w1> ¬1|<w2> ¬2}}}}\", {green}{}3 5 0\"];", constant("AND 5", 3)),
-        format!("n6 [label=\"{{OR 6 ●|{{<w1> ¬3|<w2> ¬4}}}}\", {green}{}7 9 1\"];", constant("OR 6", 3)),
-        "n7 [label=\"{majority 7|{<w1> ¬0 ●|<w2> ¬0 ●|<w3> 1}}\", shape=record, fillcolor=\"#dcebf7\", ".into(),
-        "    i1 -> n4:w1:s;\n    i2 -> n4:w3:s [arrowhead=dot];\n".into(),
-    ] {
-        assert!(dot.contains(&due), "{due}\n{dot}");
-    }
-    assert!(dot.contains("\\n10 complemented edges, each with a dot\"") && dots_of(dot) == 10);
-    if has_graphviz() {
-        let output = run(&["picture", "--svg"], &graph);
-        let pieces = pieces_of(text(&output.stdout));
-        let kinds: Vec<&str> =
-            pieces.iter().map(|piece| piece.class).filter(|class| class.starts_with("box ")).collect();
-        let due = ["input", "input", "and", "or", "and", "or", "majority", "output"];
-        assert_eq!(kinds, due.map(|kind| format!("box {kind}")));
-        let or = pieces.iter().find(|piece| piece.id == "n4").unwrap().body;
-        let words: Vec<&str> = or.split("class=\"word\"").skip(1).map(|word| between(word, ">", "<")).collect();
-        assert_eq!((words, or.matches("<g class=\"folded\" id=\"n4w2\">").count()), (vec!["1", "2"], 1));
-        assert!(or.contains("<title>OR 4, a majority with the constant as word 2\nliterals 2 1 5</title>"));
-    }
-}
-
-/// Words show names of inputs, long ones without their middle; the tooltip has all.
-#[test]
-fn names_in_cells() {
-    let given = "aag 3 2 0 1 1\n2\n4\n7\n6 3 4\ni0 a\ni1 operand_of_the_adder[3]\no0 a_very_long_name_of_a_sum[0]\n";
-    let output = run(&["picture"], given.as_bytes());
-    let dot = text(&output.stdout);
-    for due in [
-        "i2 [label=\"input 2\\noperand…adder[3]\", tooltip=\"input 2 operand_of_the_adder[3]\"];",
-        "n3 [label=\"{AND 3|{<w2> ¬a|<w3> oper…r[3]}}\"",
-        "o1 [label=\"output 1\\na_very_…a_sum[0]\\n¬3\", tooltip=\"output 1 a_very_long_name_of_a_sum[0]\\nliteral 7\"];",
-    ] {
-        assert!(dot.contains(due), "{due}\n{dot}");
-    }
-}
-
-/// A backslash of a name is one in the label, which Graphviz reads once, and in the tooltip, which it reads twice.
-#[test]
-fn backslashes_of_names() {
-    let given = "aag 1 1 0 1 0\n2\n2\ni0 \\Net\n";
-    let output = run(&["picture"], given.as_bytes());
-    let dot = text(&output.stdout);
-    assert!(dot.contains(r#"i1 [label="input 1\n\\Net", tooltip="input 1 \\\\Net"];"#), "{dot}");
 }
 
 /// Each edge of a DOT text: where it comes from, which box and word it ends at, and its looks.
@@ -238,7 +141,7 @@ pub fn edges_due(graph: &Graph, before: &str) -> Vec<(String, String, bool)> {
     let (nodes, outputs) = (graph.node_literals().unwrap(), graph.output_literals().unwrap());
     let nodes = nodes.into_iter().enumerate().filter(|&(_, word)| word != reducer::MARK);
     let nodes = nodes.map(|(at, word)| due(word, format!("n{}:w{}", inputs + 1 + at as u32 / 3, 1 + at % 3)));
-    let outputs = outputs.into_iter().enumerate().map(|(at, word)| due(word, format!("o{}", at + 1)));
+    let outputs = outputs.into_iter().enumerate().map(|(at, word)| due(word, format!("o{}:w1", at + 1)));
     let named = |edge: &(String, String, bool)| edge.0 != format!("{before}i0");
     nodes.chain(outputs).filter(named).collect()
 }
@@ -262,15 +165,14 @@ fn an_adder_of_8_bits() {
 fn a_part() {
     let due = r##"    {
         rank=source;
-        i1 [label="input 1", tooltip="input 1"];
-        i2 [label="input 2", tooltip="input 2"];
-        i1 -> i2 [style=invis, tailport=""];
+        i1 [label="input 1"];
+        i2 [label="input 2"];
     }
-    n4 [label="node 4", style=dashed, tooltip="majority 4, whose words are not drawn"];
-    n5 [label="{XOR 5|{<w1> ¬1|<w2> ¬2}}", shape=Mrecord, fillcolor="#fbdf9d", tooltip="XOR 5\nliterals 3 5"];
+    n4 [label="majority 4", style=dashed];
+    n5 [label="{XOR 5|{<w1> 3|<w2> 5}}", shape=Mrecord, fillcolor="#fbdf9d"];
     i1 -> n5:w1:s [arrowhead=dot];
     i2 -> n5:w2:s [arrowhead=dot];
-    n6 [label="{majority 6|{<w1> 5|<w2> 4|<w3> 2}}", shape=record, fillcolor="#dcebf7", tooltip="majority 6\nliterals 10 8 4"];
+    n6 [label="{majority 6|{<w1> 10|<w2> 8|<w3> 4}}", shape=record, fillcolor="#dcebf7"];
     n5 -> n6:w1:s;
     n4 -> n6:w2:s;
     i2 -> n6:w3:s;
@@ -281,20 +183,19 @@ fn a_part() {
     draws(&run(&["picture", "-", "--root", "6"], &two_trees()), &above, due, line);
     let due = r##"    {
         rank=source;
-        i1 [label="input 1", tooltip="input 1"];
-        i2 [label="input 2", tooltip="input 2"];
-        i3 [label="input 3", tooltip="input 3"];
-        i1 -> i2 -> i3 [style=invis, tailport=""];
+        i1 [label="input 1"];
+        i2 [label="input 2"];
+        i3 [label="input 3"];
     }
-    n4 [label="{majority 4|{<w1> ¬1|<w2> ¬2|<w3> ¬3}}", shape=record, fillcolor="#dcebf7", tooltip="majority 4\nliterals 3 5 7"];
+    n4 [label="{majority 4|{<w1> 3|<w2> 5|<w3> 7}}", shape=record, fillcolor="#dcebf7"];
     i1 -> n4:w1:s [arrowhead=dot];
     i2 -> n4:w2:s [arrowhead=dot];
     i3 -> n4:w3:s [arrowhead=dot];
     {
         rank=sink;
-        o1 [label="output 1\n¬4", tooltip="output 1\nliteral 9"];
+        o1 [label="{output 1|<w1> 9}", shape=record];
     }
-    n4 -> o1:s [arrowhead=dot];
+    n4 -> o1:w1:s [arrowhead=dot];
 }
 "##;
     let line = "drawn: output 1 and 1 node that it rests on\n";
@@ -337,19 +238,6 @@ fn deep_graphs() {
     assert!(!text(&deep.stdout).contains("rank="));
     assert!(text(&deep.stdout)
         .contains("each with a dot\\ninputs and outputs stand near their nodes, since the graph is deep\""));
-    // Two inputs are read all along this one.
-    let long = chain(300, 2);
-    let output = run(&["picture"], long.as_bytes());
-    let stubs = text(&output.stdout).matches(" [style=dotted").count();
-    assert!(text(&output.stdout).contains(&format!("; {stubs} long edges are stubs: the word says where from\"")));
-    // 299 readers in the chain and the output; one word a node is the constant, one an input.
-    assert!((200..300).contains(&stubs) && dots_of(text(&output.stdout)) == 300);
-    if has_graphviz() {
-        let svg = run(&["picture", "--svg"], long.as_bytes());
-        let pieces = pieces_of(text(&svg.stdout));
-        assert_eq!(pieces.iter().filter(|piece| piece.class == "edge stub").count(), stubs);
-        assert_eq!(text(&svg.stdout).matches("class=\"dot\"").count(), 300);
-    }
 }
 
 #[test]
@@ -366,10 +254,10 @@ fn graphs_at_the_limits() {
     assert_eq!(said(&part), line);
     let dot = text(&part.stdout);
     // The uppermost 300, with the one below them in a dashed box.
-    assert_eq!(dot.matches("[label=\"{AND ").count(), 300);
+    assert_eq!(dot.matches("[label=\"{majority ").count(), 300);
     assert!(
-        dot.contains("    n103797 [label=\"{AND 103797|")
-            && dot.contains("    n103796 [label=\"node 103796\", style=dashed, ")
+        dot.contains("    n103797 [label=\"{majority 103797|")
+            && dot.contains("    n103796 [label=\"majority 103796\", style=dashed];")
     );
     // One a node that reads another, and the output's.
     assert!(dot.contains("\\n301 complemented edges of the whole graph's 100000, each with a dot"));
@@ -386,10 +274,6 @@ fn names_in_pictures() {
     gives(&output, b"", "");
     let dot = fs::read_to_string(folder.join("dot")).unwrap();
     assert!(dot.contains("    label=\"a\\\"b\\\\n&amp;lt; \u{e9}\\n3 inputs, "), "{dot}");
-    if has_graphviz() {
-        let svg = run_in(&folder, &["picture", &format!("./{name}"), "--svg"], b"").stdout;
-        assert!(text(&svg).contains(">a&quot;b\\n&amp;lt; \u{e9}</text>"), "{}", text(&svg));
-    }
 }
 
 /// A folder with a program `dot` that is this script, or with none.
@@ -412,29 +296,17 @@ pub fn run_with(folder: &Path, words: &[&str]) -> Output {
     Command::new(PROGRAM).args(words).current_dir(folder).env("PATH", path).stdin(Stdio::null()).output().unwrap()
 }
 
-/// Graphviz is asked for places, and for a PNG then to draw with these.
 #[test]
 fn through_graphviz() {
-    let told = "case $1 in -Tplain-ext) exec $(PATH=/usr/local/bin:/usr/bin:/bin command -v dot) \"$@\" ;; esac; echo \"$@\"; cat";
-    let folder = with_dot("through_graphviz", Some(told));
-    if has_graphviz() {
-        let output = run_with(&folder, &["picture", "in", "--png"]);
-        let (words, dot) = text(&output.stdout).split_once('\n').unwrap();
-        assert_eq!((words, said(&output).as_str()), ("-Kneato -n2 -Tpng -Gsize=50,50", ""));
-        // P1 has 4 complemented edges; with them stand 5 boxes and a caption.
-        assert_eq!(
-            (dot.matches("shape=circle, color=black, fillcolor=black, ").count(), dot.matches("!\"];").count()),
-            (4, 10)
-        );
-        gives(&run_with(&folder, &["picture", "--png", "in", "-o", "out"]), b"", "");
-        assert_eq!(fs::read(folder.join("out")).unwrap(), output.stdout);
-        holds(&folder, &["bin", "in", "out"]);
+    let folder = with_dot("through_graphviz", Some("echo \"$@\"; cat"));
+    let dot = run_with(&folder, &["picture", "in"]).stdout;
+    for (option, words) in [("--svg", "-Tsvg\n"), ("--png", "-Tpng -Gsize=50,50\n")] {
+        let due = [words.as_bytes(), &dot].concat();
+        gives(&run_with(&folder, &["picture", "in", option]), &due, "");
+        gives(&run_with(&folder, &["picture", option, "in", "-o", "out"]), b"", "");
+        assert_eq!(fs::read(folder.join("out")).unwrap(), due);
     }
-    let folder = with_dot("through_graphviz_2", Some("echo \"$@\" >&2; exit 3"));
-    let asked = "panjerov: Graphviz made no picture (exit status: 3): -Tplain-ext\n";
-    stops(&run_with(&folder, &["picture", "in", "--svg"]), 1, asked);
-    let folder = with_dot("through_graphviz_3", Some("cat >/dev/null; echo graph 1 2"));
-    stops(&run_with(&folder, &["picture", "in", "--svg"]), 1, "panjerov: Graphviz gave no layout that can be read\n");
+    holds(&folder, &["bin", "in", "out"]);
 }
 
 #[test]
@@ -461,17 +333,23 @@ fn without_graphviz() {
     }
 }
 
-/// What is drawn goes by sizes: a machine at other work takes longer, and gives the same picture.
+/// It is stopped where it does not end, whether it reads or not, and where another program keeps its output open.
 #[test]
-fn a_slow_graphviz() {
-    if !has_graphviz() {
-        return;
-    }
-    let folder =
-        with_dot("a_slow_graphviz", Some("sleep 5; exec $(PATH=/usr/local/bin:/usr/bin:/bin command -v dot) \"$@\""));
-    let slow = run_with(&folder, &["picture", "in", "--svg"]);
-    gives(&slow, &run_in(&folder, &["picture", "in", "--svg"], b"").stdout, "");
-    assert!(slow.stdout.starts_with(b"<svg "));
+fn a_graphviz_that_hangs() {
+    let slow =
+        "panjerov: Graphviz had not finished after 4 seconds and was stopped; --output K or --root R draws a part\n";
+    let scripts = ["exec sleep 20", "cat >/dev/null; exec sleep 20", "sleep 20 & exit 0"];
+    let waiting = scripts.map(|script| {
+        std::thread::spawn(move || {
+            let folder = with_dot(&format!("a_graphviz_that_hangs_{}", script.len()), Some(script));
+            let start = Instant::now();
+            stops(&run_with(&folder, &["picture", "in", "--svg", "-o", "out"]), 1, slow);
+            assert!(start.elapsed() < Duration::from_secs(15));
+            assert_eq!(fs::read(folder.join("out")).unwrap(), b"old");
+            holds(&folder, &["bin", "in", "out"]);
+        })
+    });
+    waiting.into_iter().for_each(|thread| thread.join().unwrap());
 }
 
 /// Whether Graphviz is there; where it is not, what it would draw is passed over.
@@ -488,52 +366,54 @@ fn between<'a>(text: &'a str, from: &str, to: &str) -> &'a str {
     text.split_once(from).and_then(|(_, rest)| rest.split_once(to)).unwrap().0
 }
 
-/// A box or an edge of an SVG.
-pub struct Piece<'a> {
+/// A box or an edge of an SVG that Graphviz wrote.
+pub struct Group<'a> {
     pub class: &'a str,
-    pub id: &'a str,
+    /// A box's name in the DOT text; an edge's two, without ports, and an arrow between.
+    pub name: String,
     pub body: &'a str,
 }
 
-pub fn pieces_of(svg: &str) -> Vec<Piece<'_>> {
-    let piece = |text| {
-        let (class, rest) = str::split_once(text, "\" id=\"").unwrap();
-        let (id, body) = rest.split_once('"').unwrap();
-        Piece { class, id, body }
+pub fn groups_of(svg: &str) -> Vec<Group<'_>> {
+    let group = |piece| {
+        let body = str::split_once(piece, "</g>").map_or(piece, |(body, _)| body);
+        let title = between(body, "<title>", "</title>").replace("&#45;", "-").replace("&gt;", ">");
+        let ends: Vec<&str> = title.split("->").map(|end| end.split(':').next().unwrap()).collect();
+        Group { class: between(body, "class=\"", "\""), name: ends.join("->"), body }
     };
-    svg.split("\n<g class=\"").skip(1).map(piece).collect()
+    svg.split("<g id=\"").skip(1).map(group).collect()
 }
 
-/// Where the left upper corner of a box stands.
-fn corner(pieces: &[Piece], id: &str) -> (f64, f64) {
-    let found = pieces.iter().find(|piece| piece.id == id).unwrap();
-    let (x, y) = between(found.body, "translate(", ")").split_once(' ').unwrap();
-    (x.parse().unwrap(), y.parse().unwrap())
+/// How far down the first text of a box stands.
+fn height(groups: &[Group], name: &str) -> f64 {
+    let found = groups.iter().find(|group| group.class == "node" && group.name == name).unwrap();
+    between(between(found.body, "<text ", ">"), " y=\"", "\"").parse().unwrap()
 }
 
 #[test]
-fn an_svg() {
+fn an_svg_of_graphviz() {
     if !has_graphviz() {
         return;
     }
     let output = run(&["picture", "--svg"], &p3());
     assert_eq!((said(&output).as_str(), output.status.code()), ("", Some(0)));
-    let pieces = pieces_of(text(&output.stdout));
-    let edges = pieces.iter().filter(|piece| piece.class == "edge");
-    let edges: Vec<(&str, bool)> = edges.map(|edge| (edge.id, edge.body.contains("<circle class=\"dot\""))).collect();
+    let groups = groups_of(text(&output.stdout));
+    let edges = groups.iter().filter(|group| group.class == "edge");
+    let mut edges: Vec<(&str, bool)> = edges.map(|edge| (&edge.name[..], edge.body.contains("<ellipse"))).collect();
+    edges.sort();
     let due = [
-        ("n6w1", true),
-        ("n6w2", true),
-        ("n6w3", false),
-        ("n7w1", false),
-        ("n7w2", true),
-        ("n7w3", false),
-        ("o1w1", true),
+        ("i1->n6", true),
+        ("i2->n6", true),
+        ("i3->n6", false),
+        ("i4->n7", true),
+        ("i5->n7", false),
+        ("n6->n7", false),
+        ("n7->o1", true),
     ];
     assert_eq!(edges, due);
-    let inputs = [1, 2, 3, 4, 5].map(|input| corner(&pieces, &format!("i{input}")));
-    assert!(inputs.windows(2).all(|two| two[0].1 == two[1].1 && two[0].0 + 40.0 < two[1].0), "{inputs:?}");
-    let heights = [inputs[0].1, corner(&pieces, "n6").1, corner(&pieces, "n7").1, corner(&pieces, "o1").1];
+    let inputs = [1, 2, 3, 4, 5].map(|input| height(&groups, &format!("i{input}")));
+    assert!(inputs.iter().all(|at| *at == inputs[0]), "{inputs:?}");
+    let heights = [inputs[0], height(&groups, "n6"), height(&groups, "n7"), height(&groups, "o1")];
     assert!(heights.windows(2).all(|two| two[0] > two[1] + 10.0), "{heights:?}");
     let png = run(&["picture", "--png"], &p3());
     assert_eq!((png.status.code(), png.stdout.get(..8)), (Some(0), Some(&b"\x89PNG\r\n\x1a\n"[..])));
@@ -546,52 +426,50 @@ const P3_COMPARED: &str = r##"    label="6 turned edges, thick and orange";
         label="before: p3\n5 inputs, 2 nodes, 1 output\n4 complemented edges, each with a dot";
         {
             rank=source;
-            before_i1 [label="input 1", width=0.9, tooltip="input 1"];
-            before_i2 [label="input 2", width=0.9, tooltip="input 2"];
-            before_i3 [label="input 3", width=0.9, tooltip="input 3"];
-            before_i4 [label="input 4", width=0.9, tooltip="input 4"];
-            before_i5 [label="input 5", width=0.9, tooltip="input 5"];
-            before_i1 -> before_i2 -> before_i3 -> before_i4 -> before_i5 [style=invis, tailport=""];
+            before_i1 [label="input 1"];
+            before_i2 [label="input 2"];
+            before_i3 [label="input 3"];
+            before_i4 [label="input 4"];
+            before_i5 [label="input 5"];
         }
-        before_n6 [label="{majority 6|{<w1> ¬1|<w2> ¬2|<w3> 3}}", shape=record, fillcolor="#dcebf7", width=1.4, tooltip="majority 6\nliterals 3 5 6 before, 2 4 7 after\nmove 1: words 1, 2 and 3 and every reader turn\n3 of its words turned, saving 1 among them"];
+        before_n6 [label="{majority 6|{<w1> 3|<w2> 5|<w3> 6}}", shape=record, fillcolor="#dcebf7"];
         before_i1 -> before_n6:w1:s [arrowhead=dot, color="#d55e00", penwidth=2.5];
         before_i2 -> before_n6:w2:s [arrowhead=dot, color="#d55e00", penwidth=2.5];
         before_i3 -> before_n6:w3:s [color="#d55e00", penwidth=2.5];
-        before_n7 [label="{majority 7|{<w1> 6|<w2> ¬4|<w3> 5}}", shape=record, fillcolor="#dcebf7", width=1.4, tooltip="majority 7\nliterals 12 9 10 before, 12 8 11 after\nmove 1: words 1, 2 and 3 and every reader turn\n2 of its words turned, saving 0 among them"];
+        before_n7 [label="{majority 7|{<w1> 12|<w2> 9|<w3> 10}}", shape=record, fillcolor="#dcebf7"];
         before_n6 -> before_n7:w1:s;
         before_i4 -> before_n7:w2:s [arrowhead=dot, color="#d55e00", penwidth=2.5];
         before_i5 -> before_n7:w3:s [color="#d55e00", penwidth=2.5];
         {
             rank=sink;
-            before_o1 [label="output 1\n¬7", width=1.0, tooltip="output 1\nliteral 15 before, 14 after"];
+            before_o1 [label="{output 1|<w1> 15}", shape=record];
         }
-        before_n7 -> before_o1:s [arrowhead=dot, color="#d55e00", penwidth=2.5];
+        before_n7 -> before_o1:w1:s [arrowhead=dot, color="#d55e00", penwidth=2.5];
     }
     subgraph cluster_after {
         color=gray; labelloc=b;
         label="after: settled\n5 inputs, 2 nodes, 1 output\n2 complemented edges, each with a dot";
         {
             rank=source;
-            after_i1 [label="input 1", width=0.9, tooltip="input 1"];
-            after_i2 [label="input 2", width=0.9, tooltip="input 2"];
-            after_i3 [label="input 3", width=0.9, tooltip="input 3"];
-            after_i4 [label="input 4", width=0.9, tooltip="input 4"];
-            after_i5 [label="input 5", width=0.9, tooltip="input 5"];
-            after_i1 -> after_i2 -> after_i3 -> after_i4 -> after_i5 [style=invis, tailport=""];
+            after_i1 [label="input 1"];
+            after_i2 [label="input 2"];
+            after_i3 [label="input 3"];
+            after_i4 [label="input 4"];
+            after_i5 [label="input 5"];
         }
-        after_n6 [label="{majority 6|{<w1> 1|<w2> 2|<w3> ¬3}}", shape=record, fillcolor="#dcebf7", width=1.4, tooltip="majority 6\nliterals 3 5 6 before, 2 4 7 after\nmove 1: words 1, 2 and 3 and every reader turn\n3 of its words turned, saving 1 among them"];
+        after_n6 [label="{majority 6|{<w1> 2|<w2> 4|<w3> 7}}", shape=record, fillcolor="#dcebf7"];
         after_i1 -> after_n6:w1:s [color="#d55e00", penwidth=2.5];
         after_i2 -> after_n6:w2:s [color="#d55e00", penwidth=2.5];
         after_i3 -> after_n6:w3:s [arrowhead=dot, color="#d55e00", penwidth=2.5];
-        after_n7 [label="{majority 7|{<w1> 6|<w2> 4|<w3> ¬5}}", shape=record, fillcolor="#dcebf7", width=1.4, tooltip="majority 7\nliterals 12 9 10 before, 12 8 11 after\nmove 1: words 1, 2 and 3 and every reader turn\n2 of its words turned, saving 0 among them"];
+        after_n7 [label="{majority 7|{<w1> 12|<w2> 8|<w3> 11}}", shape=record, fillcolor="#dcebf7"];
         after_n6 -> after_n7:w1:s;
         after_i4 -> after_n7:w2:s [color="#d55e00", penwidth=2.5];
         after_i5 -> after_n7:w3:s [arrowhead=dot, color="#d55e00", penwidth=2.5];
         {
             rank=sink;
-            after_o1 [label="output 1\n7", width=1.0, tooltip="output 1\nliteral 15 before, 14 after"];
+            after_o1 [label="{output 1|<w1> 14}", shape=record];
         }
-        after_n7 -> after_o1:s [color="#d55e00", penwidth=2.5];
+        after_n7 -> after_o1:w1:s [color="#d55e00", penwidth=2.5];
     }
 }
 "##;
@@ -627,11 +505,11 @@ fn p1_compared() {
         ("before_i1", "before_n4:w1", &dotted[..]),
         ("before_i2", "before_n4:w2", &dotted),
         ("before_i3", "before_n4:w3", &dotted),
-        ("before_n4", "before_o1", &dotted),
+        ("before_n4", "before_o1:w1", &dotted),
         ("after_i1", "after_n4:w1", &plain),
         ("after_i2", "after_n4:w2", &plain),
         ("after_i3", "after_n4:w3", &plain),
-        ("after_n4", "after_o1", &plain),
+        ("after_n4", "after_o1:w1", &plain),
     ];
     assert_eq!(edges_of(text(&output.stdout)), due);
     // A graph beside itself: nothing turned.
@@ -658,20 +536,16 @@ fn compared_circuit(test: &str, given: &[u8]) {
         (Graph::import(given).unwrap(), Graph::load(&fs::read(folder.join("settled")).unwrap()).unwrap());
     assert_eq!(told(before), edges_due(&graph, "before_"));
     assert_eq!(told(after), edges_due(&moved, "after_"));
+    // All words, the constant's among them.
     let words = |graph: &Graph| [graph.node_literals().unwrap(), graph.output_literals().unwrap()].concat();
-    let (words, moved_words) = (words(&graph), words(&moved));
-    let pairs = || words.iter().zip(&moved_words);
-    let turned: Vec<bool> = pairs().filter(|pair| *pair.0 > 1).map(|(x, y)| x != y).collect();
+    let turned: Vec<bool> = words(&graph).iter().zip(words(&moved)).map(|(x, y)| *x != y).collect();
     let coloured = |side| -> Vec<bool> { edges_of(side).iter().map(|edge| edge.2.contains("#d55e00")).collect() };
     assert_eq!((coloured(before), coloured(after)), (turned.clone(), turned.clone()));
-    // A constant has no edge: the text of its box is coloured, and here each has just one.
-    let fixed = pairs().filter(|(x, y)| **x < 2 && x != y).count();
-    assert_eq!([before, after].map(|side| side.matches(", fontcolor=\"#d55e00\"").count()), [fixed; 2]);
-    let dots = |side: &str| dots_of(side) as u32;
+    let dots = |side: &str| side.matches("arrowhead=dot").count() as u32;
     assert_eq!(dots(before), graph.complemented_edges().unwrap());
     assert_eq!(dots(after), moved.complemented_edges().unwrap());
     assert!(dots(after) < dots(before));
-    let many = pairs().filter(|(x, y)| x != y).count();
+    let many = turned.iter().filter(|&&turned| turned).count();
     assert!(dot.contains(&format!("    label=\"{many} turned edges, thick and orange\";")));
 }
 
@@ -723,11 +597,11 @@ fn what_cannot_be_compared() {
 
 /// Both sides have their boxes at the same places, before on the left.
 #[test]
-fn two_sides() {
+fn two_sides_of_graphviz() {
     if !has_graphviz() {
         return;
     }
-    let folder = folder("two_sides");
+    let folder = folder("two_sides_of_graphviz");
     fs::write(folder.join("p3"), p3()).unwrap();
     gives(
         &run_in(&folder, &["settle", "p3", "-o", "settled"], b""),
@@ -736,21 +610,25 @@ fn two_sides() {
     );
     let output = run_in(&folder, &["picture", "--compare", "p3", "settled", "--svg"], b"");
     assert_eq!((said(&output).as_str(), output.status.code()), ("", Some(0)));
-    let svg = text(&output.stdout);
-    let pieces = pieces_of(svg);
-    for id in ["i1", "i2", "i3", "i4", "i5", "n6", "n7", "o1"] {
-        assert_eq!(corner(&pieces, &format!("before_{id}")), corner(&pieces, &format!("after_{id}")), "{id}");
-    }
-    let sides: Vec<f64> = svg
-        .split("\n<g transform=\"translate(")
-        .filter(|side| side.contains("\n<g class=\"box"))
-        .map(|side| side.split(' ').next().unwrap().parse().unwrap())
+    let groups = groups_of(text(&output.stdout));
+    let place = |name: String| {
+        let found = groups.iter().find(|group| group.class == "node" && group.name == name).unwrap();
+        let place = |axis: &str| between(between(found.body, "<text ", ">"), axis, "\"").parse::<f64>().unwrap();
+        (place(" x=\""), place(" y=\""))
+    };
+    let shifts: Vec<f64> = ["i1", "i2", "i3", "i4", "i5", "n6", "n7", "o1"]
+        .iter()
+        .map(|name| {
+            let (before, after) = (place(format!("before_{name}")), place(format!("after_{name}")));
+            assert!((before.1 - after.1).abs() < 1.0, "{name}");
+            after.0 - before.0
+        })
         .collect();
-    assert!(sides.len() == 2 && sides[0] + 100.0 < sides[1], "{sides:?}");
-    let edges = pieces.iter().filter(|piece| piece.class.starts_with("edge"));
+    assert!(shifts[0] > 100.0 && shifts.iter().all(|shift| (shift - shifts[0]).abs() < 1.0), "{shifts:?}");
+    let edges = groups.iter().filter(|group| group.class == "edge");
     let told = |dot: bool, turned: bool| {
-        let has = |edge: &Piece| (edge.body.contains("\"dot\""), edge.class == "edge turned") == (dot, turned);
-        edges.clone().filter(|edge| has(edge)).count()
+        let has = |body: &str| (body.contains("<ellipse"), body.contains("stroke=\"#d55e00\"")) == (dot, turned);
+        edges.clone().filter(|edge| has(edge.body)).count()
     };
     assert_eq!((told(true, true), told(false, true), told(false, false), told(true, false)), (6, 6, 2, 0));
 }

@@ -14,27 +14,12 @@ pub fn rows(page: &str) -> Vec<Vec<String>> {
 }
 
 /// That a page asks for nothing but itself. Names of what SVG is look like addresses.
-pub fn needs_nothing(page: &str) {
+fn needs_nothing(page: &str) {
     let names = ["\"http://www.w3.org/2000/svg\"", "\"http://www.w3.org/1999/xlink\""];
-    let own = names.iter().fold(page.to_string(), |page, name| page.replace(name, "")).replace("href=\"#", "");
-    for asked in [
-        "http",
-        "src=",
-        "href=",
-        "url(",
-        "@import",
-        "<link",
-        "<iframe",
-        "<object",
-        "<!ENTITY",
-        "<?xml",
-        "fetch(",
-        "import(",
-        "XMLHttpRequest",
-        "WebSocket",
-        "innerHTML",
-        "eval(",
-    ] {
+    let own = names.iter().fold(page.to_string(), |page, name| page.replace(name, ""));
+    for asked in
+        ["http", "src=", "href=", "url(", "@import", "<script", "<link", "<iframe", "<object", "<!ENTITY", "<?xml"]
+    {
         assert!(!own.contains(asked), "{asked}");
     }
     assert!(page.starts_with("<!DOCTYPE html>\n<html lang=\"en\">\n<head>\n<meta charset=\"utf-8\">\n"));
@@ -98,9 +83,21 @@ fn a_report_without_pictures() {
     holds(&folder, &["bin", "in", "out"]);
 }
 
-/// One picture for both states: its dots say which they are of, and it is shown twice where no script runs.
+/// The pictures stand in the page, without the head of an SVG file and with no name twice.
 #[test]
-fn a_report_with_a_picture() {
+fn a_report_with_pictures() {
+    let script = "cat >/dev/null; echo '<?xml version=\"1.0\"?><!DOCTYPE svg><svg><g id=\"node1\"/></svg>'";
+    let folder = with_dot("a_report_with_pictures", Some(script));
+    gives(&run_with(&folder, &["report", "in", "-o", "out"]), b"", FIGURES);
+    let page = fs::read_to_string(folder.join("out")).unwrap();
+    needs_nothing(&page);
+    let figure = |which| format!("<figure>\n<svg><g id=\"{which}_node1\"/></svg>\n</figure>\n");
+    assert!(page.contains(&format!("<div class=\"pictures\">\n{}{}</div>\n", figure("before"), figure("after"))));
+    assert!(page.contains("</svg>complemented edge\n") && page.contains("</svg>edge that turned\n"));
+}
+
+#[test]
+fn a_report_of_graphviz() {
     if !has_graphviz() {
         return;
     }
@@ -109,29 +106,30 @@ fn a_report_with_a_picture() {
     let page = text(&output.stdout);
     needs_nothing(page);
     assert_eq!(rows(page), p3_rows());
-    let pieces = pieces_of(page);
-    let edges = |class: &str| {
-        let has = |piece: &&Piece| {
-            piece.class.split(' ').any(|own| own == "edge") && piece.class.split(' ').any(|own| own == class)
+    let figures: Vec<&str> =
+        page.split("<figure>").skip(1).map(|figure| figure.split("</figure>").next().unwrap()).collect();
+    for (figure, which, dotted) in [
+        (figures[0], "before", ["i1->n6", "i2->n6", "i4->n7", "n7->o1"].as_slice()),
+        (figures[1], "after", &["i3->n6", "i5->n7"]),
+    ] {
+        let groups = groups_of(figure);
+        let edges = groups.iter().filter(|group| group.class == "edge");
+        let named = |part: &str| {
+            let with = edges.clone().filter(|edge| edge.body.contains(part));
+            let mut names: Vec<String> = with.map(|edge| edge.name.replace(&format!("{which}_"), "")).collect();
+            names.sort();
+            names
         };
-        pieces.iter().filter(has).map(|piece| piece.id).collect::<Vec<&str>>()
-    };
-    assert_eq!(edges("edge"), ["n6w1", "n6w2", "n6w3", "n7w1", "n7w2", "n7w3", "o1w1"]);
-    assert_eq!(edges("b"), ["n6w1", "n6w2", "n7w2", "o1w1"]);
-    assert_eq!(edges("a"), ["n6w3", "n7w3"]);
-    assert_eq!(edges("turned"), ["n6w1", "n6w2", "n6w3", "n7w2", "n7w3", "o1w1"]);
-    for (which, count) in [("before", 4), ("after", 2)] {
-        let opening =
-            format!("<figure class=\"{which}\">\n<figcaption>{which}: {count} complemented edges</figcaption>\n");
-        assert_eq!(page.matches(&opening).count(), 1);
+        assert_eq!(named("<ellipse"), dotted, "{which}");
+        let turned = ["i1->n6", "i2->n6", "i3->n6", "i4->n7", "i5->n7", "n7->o1"];
+        assert_eq!(named("stroke=\"#d55e00\""), turned, "{which}");
+        assert_eq!(edges.clone().count(), 7);
     }
-    assert_eq!(page.matches("<use href=\"#graph\"/>").count(), 2);
-    assert!(page.contains("</svg>complemented edge\n") && page.contains("</svg>edge that turned\n"));
-    let mut names: Vec<&str> = page.split(" id=\"").skip(1).map(|rest| rest.split('"').next().unwrap()).collect();
-    let all = names.len();
-    names.sort();
-    names.dedup();
-    assert_eq!(names.len(), all);
+    let names: Vec<&str> = page.split(" id=\"").skip(1).map(|rest| rest.split('"').next().unwrap()).collect();
+    let mut once = names.clone();
+    once.sort();
+    once.dedup();
+    assert_eq!(once.len(), names.len());
 }
 
 /// XORs of every move: worked out by hand, as the test of previews has them.
@@ -163,19 +161,15 @@ fn moves_in_a_report() {
 
 #[test]
 fn a_report_of_a_part() {
-    if !has_graphviz() {
-        return;
-    }
-    let folder = folder("a_report_of_a_part");
+    let folder = with_dot("a_report_of_a_part", Some("echo '<svg>'; cat; echo '</svg>'"));
     fs::write(folder.join("two"), two_trees()).unwrap();
-    let run_with = |folder: &Path, words: &[&str]| run_in(folder, words, b"");
     let output = run_with(&folder, &["report", "two", "--output", "1", "-o", "out"]);
     let line = "drawn: output 1 and 1 node that it rests on\n";
     gives(&output, b"", &format!("inputs 3 nodes 3 outputs 2 before 6 after 1 rounds 2 own 5 others 0\n{line}"));
     let page = fs::read_to_string(folder.join("out")).unwrap();
-    let caption = "6 complemented edges in the whole graph; drawn: output 1 and 1 node that it rests on</figcaption>";
-    assert!(page.contains(&format!("<figcaption>before: {caption}")), "{page}");
-    assert_eq!(page.matches("\n<g class=\"box majority").count(), 1);
+    assert!(page.contains(
+        "label=\"before\\noutput 1 and 1 node that it rests on\\n4 complemented edges of the whole graph's 6,"
+    ));
     fs::write(folder.join("out"), "old").unwrap();
     for (words, why) in [
         (["--output", "3"], "there is no output 3: outputs are 1 to 2"),
@@ -188,10 +182,10 @@ fn a_report_of_a_part() {
                 byte 40, after the end field: 1 byte more, and none is due\n";
     stops(&run_in(&folder, &["report", "-o", "out"], &[p1(), vec![0]].concat()), 1, long);
     assert_eq!(fs::read(folder.join("out")).unwrap(), b"old");
-    holds(&folder, &["out", "two"]);
+    holds(&folder, &["bin", "in", "out", "two"]);
 }
 
-/// A graph at the limits: no picture of the whole, its trees and levels, and every node that turned. Each third node reads both its inputs complemented; it turns,
+/// A graph at the limits: no pictures, and every node that turned. Each third node reads both its inputs complemented; it turns,
 /// and then its constant is the one complemented edge.
 #[test]
 fn a_report_at_the_limits() {
@@ -206,18 +200,13 @@ fn a_report_at_the_limits() {
     let output = run(&["report"], given.as_bytes());
     assert!(start.elapsed() < Duration::from_secs(5));
     let figures = "inputs 4096 nodes 100000 outputs 0 before 66668 after 33334 rounds 2 own 33334 others 0\n";
-    let none = "not drawn whole: 4096 inputs, 100000 nodes, 0 outputs are too many for one picture, which takes 300 nodes, and 600 \
+    let none = "no pictures: 4096 inputs, 100000 nodes, 0 outputs are too many for one picture, which takes 300 nodes, and 600 \
                 inputs, nodes and outputs together; --root R draws a tree, and `panjerov preview` tells the roots";
     assert_eq!(said(&output), format!("{figures}{none}\n"));
     let page = text(&output.stdout);
     needs_nothing(page);
-    assert!(page.contains(&format!("<p class=\"none\">The graph is {none}.</p>\n")));
-    assert!(page.contains("<h2>Trees that would save most: 33,334 of 100,000 save something</h2>\n"));
-    assert!(page.contains("<tr data-box=\"n4097\"><td>4097<td>1<td>1<td>0<td>0<td>1<td>+1<td>0<td class=\"open\">\n"));
-    assert!(page.contains("<h2>Levels: 1</h2>\n") && page.contains("<tr><th>1<td>100,000<td class=\"bars\">"));
-    assert!(!page.contains("<h2>Outputs") && page.len() < 5_000_000, "{}", page.len());
-    let cells = rows(page).into_iter().find(|row| row[0] == "all cells").unwrap();
-    assert_eq!(cells[1..], ["1,366,684", "933,342", "-433,342 (-32 %)"]);
+    assert!(page.contains(&format!("<p class=\"none\">There are {none}.</p>\n")));
+    assert_eq!(rows(page)[15][1..], ["1,366,684", "933,342", "-433,342 (-32 %)"]);
     let nodes: Vec<String> = (4_097..=104_096).step_by(3).map(|node| node.to_string()).collect();
     let head = "<strong>majority, move 1: words 1, 2 and 3 and every reader turn; nodes: 33,334</strong>";
     assert!(page.contains("<h2>Nodes that turned: 33,334 of 100,000</h2>\n"));

@@ -175,13 +175,12 @@ fn enter(class: &mut Class, file: &Handed) -> Result<Entered, String> {
 }
 
 /// A file's row. What cannot be written ends the work; what cannot be read or settled is told in the row.
-fn row(class: &mut Class, file: &Handed, asked: &Work, told_of: (&Progress, &mut Vec<String>)) -> Result<Row, String> {
+fn row(class: &mut Class, file: &Handed, asked: &Work, lines: &mut Vec<String>) -> Result<Row, String> {
     let before = class.all().map_err(told)?;
     let Entered { input, settled, beside, read, written } = match enter(class, file) {
         Ok(entered) => entered,
         Err(why) => return Ok(Row { title: file.title.clone(), told: Err(why), report: None }),
     };
-    let (working, lines) = told_of;
     lines.extend(read);
     let mut link = None;
     if let Some(folder) = &asked.output {
@@ -191,7 +190,7 @@ fn row(class: &mut Class, file: &Handed, asked: &Work, told_of: (&Progress, &mut
         files::write_beside(Some(&place), beside.as_deref())?;
         if asked.sheet == Some(SheetForm::Html) {
             let Loaded { graph, names, .. } = formats::graph_of(&input)?;
-            write(&page, &report::of(&input, (&graph, &names), Wanted::Whole, working)?.bytes)?;
+            write(&page, &report::of(&input, (&graph, &names), Wanted::Whole)?.bytes)?;
             link = Some(format!("{}.html", file.title));
         }
     }
@@ -224,7 +223,7 @@ pub fn work(asked: &Work) -> Result<bool, String> {
     let (mut class, mut rows, mut lines) = (Class::new(), Vec::new(), Vec::new());
     for (at, file) in handed.iter().enumerate() {
         working.reached(at + 1, handed.len());
-        rows.push(row(&mut class, file, asked, (&working, &mut lines))?);
+        rows.push(row(&mut class, file, asked, &mut lines)?);
     }
     drop(working);
     lines.iter().filter(|_| !asked.quiet).for_each(|line| crate::say(line));

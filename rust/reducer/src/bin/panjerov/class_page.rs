@@ -1,8 +1,8 @@
 //! The page of a class: its sheet with a bar a file.
 
 use crate::class_sheet::{percent, tenths, Row, Sheet};
-use crate::html::{self, escaped, grouped, MINUS, STYLE};
 use crate::parts::count;
+use crate::report::{escaped, grouped, MINUS, STYLE};
 use reducer::Figures;
 
 const CLASS_STYLE: &str = include_str!("class.css");
@@ -79,10 +79,12 @@ pub fn of(sheet: &Sheet) -> String {
     };
     let sums = sheet.sums().map(sum).concat();
     let style = format!("{STYLE}{CLASS_STYLE}");
+    let head =
+        format!("<meta charset=\"utf-8\">\n<title>A class: complemented edges</title>\n<style>\n{style}</style>\n");
     let legend = "<p class=\"legend\"><span><span class=\"was\"></span> before</span> <span><span class=\"is\"></span> after</span></p>\n";
     let table = format!("<table class=\"figures class\">\n{HEAD}{rows}{sums}</table>\n");
     let top = format!("<h1>A class</h1>\n<p class=\"summary\">{}</p>\n{legend}", summary(sheet));
-    html::page("A class", &style, &[top, table, NOTE.into()].concat())
+    format!("<!DOCTYPE html>\n<html lang=\"en\">\n<head>\n{head}</head>\n<body>\n{top}{table}{NOTE}</body>\n</html>\n")
 }
 
 #[cfg(test)]

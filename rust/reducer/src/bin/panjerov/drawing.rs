@@ -8,36 +8,24 @@ use crate::graphviz::{self, Failure};
 use crate::locks;
 use crate::parts::Part;
 use crate::picture::{self, Named};
-use crate::sheet::Sheet;
-use crate::svg;
 use crate::turned::{self, Apart};
 use crate::words::Work;
 use crate::Given;
 use reducer::Graph;
 
-/// What is made with Graphviz, as an option or the ending of the file's name says.
+/// What Graphviz makes, as an option or the ending of the file's name says.
 fn form_of(asked: &Work) -> Option<Form> {
     asked.form.or_else(|| asked.output.as_deref().and_then(Format::of_ending).and_then(Format::form))
 }
 
-/// As DOT text, as SVG or as PNG.
-pub fn in_form(
-    form: Option<Form>,
-    dot: impl FnOnce() -> Result<String, String>,
-    sheet: impl FnOnce() -> Result<Sheet, Failure>,
-) -> Result<Vec<u8>, Failure> {
-    match form {
-        Some(Form::Svg) => Ok(svg::of(&sheet()?).into_bytes()),
-        Some(Form::Png) => graphviz::png(sheet()?.dot()),
-        None => Ok(dot()?.into_bytes()),
-    }
-}
-
-/// What is said where there is no picture.
-fn none(failure: Failure) -> String {
-    match failure {
-        Failure::Missing => format!("{failure}; without --svg or --png a picture is given as DOT text"),
-        _ => failure.to_string(),
+/// As the DOT text, or as what Graphviz makes of it.
+fn formed(asked: &Work, text: String) -> Result<Vec<u8>, String> {
+    match form_of(asked) {
+        Some(form) => graphviz::picture(text, form).map_err(|failure| match failure {
+            Failure::Missing => format!("{failure}; without --svg or --png a picture is given as DOT text"),
+            _ => failure.to_string(),
+        }),
+        None => Ok(text.into_bytes()),
     }
 }
 
@@ -54,9 +42,7 @@ fn drawn(part: &Part) -> Figures {
 /// Draws a part of a graph, or all of it.
 pub fn draw(asked: &Work, input: &Input, named: Named) -> Result<Given, String> {
     let part = part_of(asked, named.0, input)?;
-    let title = input.title();
-    let bytes = in_form(form_of(asked), || picture::of(named, &part, &title), || Sheet::of(named, &part, &title));
-    let bytes = bytes.map_err(none)?;
+    let bytes = formed(asked, picture::of(named, &part, &input.title())?)?;
     Ok(Given::of(bytes, drawn(&part)).saying(part.line()))
 }
 
@@ -84,9 +70,7 @@ pub fn compare(asked: &Work, before: &Input, first: Named, format: Format) -> Re
     }
     let part = part_of(asked, graphs[0], before)?;
     let titles = [("before", before), ("after", after)].map(|(which, input)| format!("{which}: {}", input.title()));
-    let named = [first, (&second.graph, &second.names)];
-    let dot = || picture::compared(named, &part, &titles);
-    let bytes = in_form(form_of(asked), dot, || Sheet::compared(named, &part, &titles)).map_err(none)?;
+    let bytes = formed(asked, picture::compared([first, (&second.graph, &second.names)], &part, &titles)?)?;
     let said = said_of(graphs, [&before.name, &after.name], moves);
     let given = Given::of(bytes, drawn(&part)).saying(part.line()).saying(said);
     Ok(Given { first: second.lines, ..given })

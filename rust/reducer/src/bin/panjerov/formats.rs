@@ -2,15 +2,13 @@
 
 use std::path::Path;
 
-use crate::drawing;
 use crate::figures::Figures;
 use crate::files::Input;
-use crate::graphviz::Form;
+use crate::graphviz::{self, Form};
 use crate::hints;
 use crate::locks;
 use crate::parts::{count, Part, Wanted};
 use crate::picture;
-use crate::sheet::Sheet;
 use crate::words::Work;
 use crate::Given;
 use reducer::{aiger, verilog, Graph, Names, Read};
@@ -142,8 +140,11 @@ fn as_aiger(graph: &Graph, names: &Names, binary: bool) -> Result<(Vec<u8>, Vec<
 /// A picture of the whole graph.
 fn drawn(graph: &Graph, names: &Names, title: &str, form: Option<Form>) -> Result<Vec<u8>, String> {
     let part = Part::of(graph, Wanted::Whole)?;
-    let (dot, sheet) = (|| picture::of((graph, names), &part, title), || Sheet::of((graph, names), &part, title));
-    drawing::in_form(form, dot, sheet).map_err(|failure| failure.to_string())
+    let text = picture::of((graph, names), &part, title)?;
+    match form {
+        Some(form) => graphviz::picture(text, form).map_err(|failure| failure.to_string()),
+        None => Ok(text.into_bytes()),
+    }
 }
 
 /// The last name of a path without its ending.

@@ -1,4 +1,4 @@
-//! Graphviz, whose program `dot` lays out what a DOT text says, and draws it.
+//! Graphviz, whose program `dot` makes pictures of DOT text.
 
 use std::fmt;
 use std::io::{self, Read, Write};
@@ -13,9 +13,8 @@ pub enum Form {
     Png,
 }
 
-/// When it is stopped. All that it is asked for takes it a few seconds, so that it hangs then or the machine does; what is drawn goes
-/// by sizes alone.
-const LONGEST: Duration = Duration::from_secs(60);
+/// How long it may take. What takes longer would hardly be looked at.
+const LONGEST: Duration = Duration::from_secs(4);
 
 /// Why there is no picture.
 #[derive(Debug, PartialEq, Eq)]
@@ -30,21 +29,21 @@ impl fmt::Display for Failure {
         f.write_str(match self {
             Failure::Missing => "Graphviz is not there: no program dot was found; it comes with the package graphviz",
             Failure::Slow => {
-                "Graphviz had not finished after a minute and was stopped, though the picture is no large one"
+                "Graphviz had not finished after 4 seconds and was stopped; --output K or --root R draws a part"
             }
             Failure::Other(why) => why,
         })
     }
 }
 
-impl From<String> for Failure {
-    fn from(why: String) -> Failure {
-        Failure::Other(why)
-    }
-}
-
-fn started(mut command: Command) -> Result<Child, Failure> {
-    command.stdin(Stdio::piped()).stdout(Stdio::piped()).stderr(Stdio::piped());
+fn started(form: Form) -> Result<Child, Failure> {
+    let options: &[&str] = match form {
+        Form::Svg => &["-Tsvg"],
+        // At most 50 inches, which are 4,800 points, a side: a larger one takes seconds to write.
+        Form::Png => &["-Tpng", "-Gsize=50,50"],
+    };
+    let mut command = Command::new("dot");
+    command.args(options).stdin(Stdio::piped()).stdout(Stdio::piped()).stderr(Stdio::piped());
     command.spawn().map_err(|error| match error.kind() {
         io::ErrorKind::NotFound => Failure::Missing,
         _ => Failure::Other(format!("cannot run dot, the program of Graphviz: {error}")),
@@ -84,28 +83,10 @@ fn ended(child: &mut Child, deadline: Instant) -> io::Result<Option<ExitStatus>>
     }
 }
 
-/// What the program makes of a DOT text, or why it makes nothing.
-fn asked(options: &[&str], text: String) -> Result<Vec<u8>, Failure> {
-    let mut command = Command::new("dot");
-    command.args(options);
-    made(command, text, LONGEST)
-}
-
-/// The places of boxes and edges, as text.
-pub fn places(text: String) -> Result<String, Failure> {
-    let said = asked(&["-Tplain-ext"], text)?;
-    Ok(String::from_utf8_lossy(&said).into_owned())
-}
-
-/// A PNG of a text that gives all places. It has at most 50 inches, which are 4,800 points, a side: a larger one takes seconds to write.
-pub fn png(text: String) -> Result<Vec<u8>, Failure> {
-    asked(&["-Kneato", "-n2", "-Tpng", "-Gsize=50,50"], text)
-}
-
-/// What a program makes of a DOT text, which it gets as its input.
-fn made(command: Command, text: String, longest: Duration) -> Result<Vec<u8>, Failure> {
-    let deadline = Instant::now() + longest;
-    let mut child = started(command)?;
+/// The picture of a DOT text, or why there is none.
+pub fn picture(text: String, form: Form) -> Result<Vec<u8>, Failure> {
+    let deadline = Instant::now() + LONGEST;
+    let mut child = started(form)?;
     feed(&mut child, text);
     let (given, said) = (all_of(child.stdout.take()), all_of(child.stderr.take()));
     let status = ended(&mut child, deadline);
@@ -119,31 +100,5 @@ fn made(command: Command, text: String, longest: Duration) -> Result<Vec<u8>, Fa
             Err(Failure::Other(format!("Graphviz made no picture ({status}): {}", said.trim_end())))
         }
         _ => Err(Failure::Slow),
-    }
-}
-
-#[cfg(test)]
-mod tests {
-    use super::*;
-
-    /// It is stopped where it does not end, whether it reads or not, and where another program keeps its output open.
-    #[test]
-    fn hangs() {
-        let scripts = ["exec sleep 9", "cat >/dev/null; exec sleep 9", "sleep 9 & exit 0"];
-        let waiting = scripts.map(|script| {
-            thread::spawn(move || {
-                let mut command = Command::new("sh");
-                command.args(["-c", script]);
-                let start = Instant::now();
-                assert_eq!(made(command, "digraph {}".into(), Duration::from_millis(700)), Err(Failure::Slow));
-                assert!(start.elapsed() < Duration::from_secs(8));
-            })
-        });
-        waiting.into_iter().for_each(|thread| thread.join().unwrap());
-    }
-
-    #[test]
-    fn missing() {
-        assert_eq!(made(Command::new("/no/such/dot"), String::new(), LONGEST), Err(Failure::Missing));
     }
 }

@@ -5,13 +5,10 @@
 mod abc;
 mod apply;
 mod assign;
-mod boxes;
 mod class;
 mod class_page;
 mod class_sheet;
 mod compared;
-#[cfg(test)]
-mod dots;
 mod drawing;
 mod equal;
 mod figures;
@@ -21,31 +18,19 @@ mod found;
 mod graphviz;
 mod help;
 mod hints;
-mod html;
 mod join;
-mod large;
-mod layout;
 mod locks;
 mod near;
 mod nodes;
-mod page;
-mod page_data;
 mod parts;
 mod picture;
-mod plan;
-mod png;
 mod preview;
 mod progress;
 mod report;
 mod resistive;
-mod room;
 mod savings;
-mod sheet;
 mod sheets;
 mod show;
-mod states;
-mod steps;
-mod svg;
 mod trees;
 mod turned;
 mod words;
@@ -188,12 +173,12 @@ fn given_of(asked: &Work, input: &Input, loaded: Loaded, working: &Progress) -> 
         }
         Command::Preview => preview::of((&graph, &names), asked, working).map_err(of_file(input)),
         Command::Sheets => compared::sheets(asked, &graph),
-        Command::Compare => compared::compare(asked, input, (&graph, &names), working),
+        Command::Compare => compared::compare(asked, input, &graph),
         Command::Equal => equal::of(asked, input, (&graph, &names), working),
         Command::Assign => assign::of((&graph, &names), &asked.pattern, asked.all, working).map_err(of_file(input)),
         Command::Picture if asked.compare => drawing::compare(asked, input, (&graph, &names), got),
         Command::Picture => drawing::draw(asked, input, (&graph, &names)),
-        Command::Report => report::of(input, (&graph, &names), asked.wanted, working),
+        Command::Report => report::of(input, (&graph, &names), asked.wanted),
         Command::Join | Command::Class => unreachable!("these have many files"),
     }
 }

@@ -1,165 +1,211 @@
-//! Pictures as DOT text, which Graphviz and other programs draw: inputs below, outputs above, a dot for each complemented edge.
+//! Pictures as DOT text, which Graphviz draws: inputs below, outputs above, a dot on each complemented edge.
 
-use crate::boxes::{Boxed, Kind, Scene, Word, NOT};
-use crate::layout;
 use crate::locks::is_locked;
+use crate::nodes::{is_xor, output_of, words_of};
 use crate::parts::{count, Part};
-use crate::plan::Plan;
 use reducer::{Graph, Names};
 
-/// How everything looks unless a line says otherwise. `nslimit` keeps large pictures quick. The colours differ in lightness too. The font has signs of
-/// one width, so that two graphs of the same wiring have boxes of the same widths.
-const LOOKS: &str = "    graph [rankdir=BT, ranksep=0.5, nodesep=0.25, nslimit=2, nslimit1=2, labelloc=t];
+/// How everything looks unless a line says otherwise. A majority is a box with corners, an XOR one without; each has its words
+/// in a row below, and each word's edge ends there. The colours differ in lightness too. `nslimit` keeps large pictures quick.
+/// The font has digits of one width, so that two graphs of the same wiring have boxes of the same widths.
+const LOOKS: &str = "    graph [rankdir=BT, ranksep=0.5, nodesep=0.25, nslimit=2, labelloc=t];
     graph [fontname=\"Verdana,DejaVu Sans,sans-serif\", fontsize=13];
     node [shape=box, style=filled, fillcolor=white, height=0.3];
-    node [fontname=\"DejaVu Sans Mono,Menlo,Consolas,monospace\", fontsize=11];
+    node [fontname=\"Verdana,DejaVu Sans,sans-serif\", fontsize=11];
     edge [arrowhead=none, arrowsize=0.8, tailport=n];
 ";
-/// What names of boxes begin with where two graphs are compared.
-pub const PREFIXES: [&str; 2] = ["before_", "after_"];
+const MAJORITY: &str = "shape=record, fillcolor=\"#dcebf7\"";
+const XOR: &str = "shape=Mrecord, fillcolor=\"#fbdf9d\"";
 /// Thick, so that it is seen in black and white, as is the border of a locked node.
-pub const TURNED: &str = "color=\"#d55e00\", penwidth=2.5";
-/// What Graphviz leaves free beside a text, in points. Boxes of two graphs have the widths of their longest words, so that they stand alike.
-const ROOM: f64 = 20.0;
-/// The dot of a constant, which has no edge.
-const DOT: char = '\u{25cf}';
+const TURNED: &str = "color=\"#d55e00\", penwidth=2.5";
+const LOCKED: &str = ", penwidth=3";
+const CONSTANT: &str = "label=\"0\", shape=circle, width=0.2, fixedsize=true, fontsize=9";
 
-fn look(kind: Kind) -> &'static str {
-    match kind {
-        Kind::Majority => ", shape=record, fillcolor=\"#dcebf7\"",
-        Kind::And | Kind::Or => ", shape=record, fillcolor=\"#d9efd2\"",
-        Kind::Xor => ", shape=Mrecord, fillcolor=\"#fbdf9d\"",
-        Kind::Beyond => ", style=dashed",
-        Kind::Input | Kind::Output => "",
-    }
-}
-
-/// With spaces for signs that no picture can show.
-fn plain(text: &str) -> String {
-    text.chars().map(|sign| if sign.is_control() { ' ' } else { sign }).collect()
-}
+/// The most levels that edges may cross, all together, for inputs to stand in one row at the bottom and outputs at the top.
+const MOST_CROSSED: usize = 2_500;
 
 /// Text within quotes of DOT, which knows backslashes and the entities of HTML.
 fn quoted(text: &str) -> String {
-    plain(text).replace('&', "&amp;").replace('\\', "\\\\").replace('"', "\\\"")
-}
-
-/// Lines of text within quotes.
-pub fn quoted_lines<'a>(lines: impl Iterator<Item = &'a str>) -> String {
-    lines.map(quoted).collect::<Vec<String>>().join("\\n")
+    let plain: String = text.chars().map(|sign| if sign.is_control() { ' ' } else { sign }).collect();
+    plain.replace('&', "&amp;").replace('\\', "\\\\").replace('"', "\\\"")
 }
 
 /// A graph with the names of its inputs and outputs.
 pub type Named<'a> = (&'a Graph, &'a Names);
 
-/// Text in a label with or without cells.
-fn shown(text: &str) -> String {
+/// A name after what it is the name of, in a label with or without cells.
+fn after(what: String, name: Option<&str>) -> String {
+    let Some(name) = name else { return what };
     // Signs that part cells; the entities are those of HTML.
     let cells = [('{', "&#123;"), ('}', "&#125;"), ('|', "&#124;"), ('<', "&lt;"), ('>', "&gt;")];
-    cells.into_iter().fold(quoted(text), |text, (sign, entity)| text.replace(sign, entity))
-}
-
-/// A word as it stands in its cell; a constant has its dot there.
-fn cell(word: &Word) -> String {
-    let not = if word.complemented() { NOT.to_string() } else { String::new() };
-    let dot = if word.complemented() && word.source.is_none() { format!(" {DOT}") } else { String::new() };
-    format!("{not}{}{dot}", shown(&word.shown))
-}
-
-/// What stands in a box: its head, and its words in cells below it.
-fn box_label(boxed: &Boxed) -> String {
-    let dot = if boxed.folded.as_ref().is_some_and(Word::complemented) { format!(" {DOT}") } else { String::new() };
-    let head = boxed.heads.iter().map(|line| shown(line)).collect::<Vec<String>>().join("\\n") + &dot;
-    match boxed.kind {
-        Kind::Input | Kind::Beyond => head,
-        Kind::Output => format!("{head}\\n{}", boxed.words.iter().map(cell).collect::<String>()),
-        _ => {
-            let cells: Vec<String> = boxed.words.iter().map(|word| format!("<w{}> {}", word.at, cell(word))).collect();
-            format!("{{{head}|{{{}}}}}", cells.join("|"))
-        }
-    }
-}
-
-/// What is said of a box wherever it stands.
-pub fn box_looks(boxed: &Boxed) -> String {
-    let border = if boxed.locked { ", penwidth=3" } else { "" };
-    // A constant that turned has no edge that could show it.
-    let turned = boxed.all_words().any(|word| word.source.is_none() && word.turned());
-    let turned = if turned { ", fontcolor=\"#d55e00\"" } else { "" };
-    format!("label=\"{}\"{}{border}{turned}", box_label(boxed), look(boxed.kind))
+    let shown = cells.into_iter().fold(quoted(name), |text, (sign, entity)| text.replace(sign, entity));
+    format!("{what} {shown}")
 }
 
 /// A graph as it is drawn.
 struct Side<'a> {
-    scene: Scene<'a>,
-    boxes: Vec<Boxed>,
-    plan: &'a Plan,
+    graph: &'a Graph,
+    names: &'a Names,
+    /// The graph of the same wiring that it is compared with.
+    other: Option<&'a Graph>,
+    part: &'a Part,
     /// What the names of its boxes begin with.
     prefix: &'a str,
+    /// Whether inputs and outputs stand in rows.
+    rows: bool,
 }
 
-impl<'a> Side<'a> {
-    fn of(scene: Scene<'a>, plan: &'a Plan, prefix: &'a str) -> Side<'a> {
-        Side { boxes: scene.boxes(), scene, plan, prefix }
+/// The edges into a box: its words, and the same words of the graph that is compared.
+struct Edges {
+    reader: String,
+    words: Vec<u32>,
+    others: Option<Vec<u32>>,
+}
+
+impl Edges {
+    fn turned(&self) -> impl Iterator<Item = bool> + '_ {
+        let others = self.others.as_ref();
+        self.words.iter().enumerate().map(move |(at, literal)| others.is_some_and(|others| others[at] != *literal))
+    }
+}
+
+impl Side<'_> {
+    fn node_edges(&self, node: u32) -> Edges {
+        let words = |graph: &Graph| words_of(graph, node).collect();
+        Edges { reader: format!("{}n{node}", self.prefix), words: words(self.graph), others: self.other.map(words) }
     }
 
-    /// The lines of a box's edges, after the stubs that they come from.
-    fn edge_lines(&self, boxed: &Boxed) -> Vec<String> {
+    fn output_edges(&self, output: u32) -> Edges {
+        let words = |graph: &Graph| vec![output_of(graph, output)];
+        Edges { reader: format!("{}o{output}", self.prefix), words: words(self.graph), others: self.other.map(words) }
+    }
+
+    /// All edges that are drawn.
+    fn edges(&self) -> impl Iterator<Item = Edges> + '_ {
+        let nodes = self.part.nodes.iter().map(|&node| self.node_edges(node));
+        nodes.chain(self.part.outputs.iter().map(|&output| self.output_edges(output)))
+    }
+
+    /// The box that an edge comes from. A constant is drawn for each word that reads it.
+    fn source(&self, literal: u32, reader: &str, word: usize) -> String {
+        match literal / 2 {
+            0 => format!("{reader}_c{word}"),
+            index if index <= self.graph.size.inputs => format!("{}i{index}", self.prefix),
+            index => format!("{}n{index}", self.prefix),
+        }
+    }
+
+    /// The lines of edges, after the constants that they come from.
+    fn edge_lines(&self, edges: &Edges) -> Vec<String> {
         let mut lines = Vec::new();
-        for word in &boxed.words {
-            let Some(source) = &word.source else { continue };
-            let (id, prefix) = (boxed.word_id(word), self.prefix);
-            let stub = self.plan.stubs.contains(&id);
-            let from = if stub { format!("{prefix}{id}") } else { format!("{prefix}{source}") };
-            if stub {
-                lines.push(format!("{from} [label=\"\", shape=point, width=0.01];"));
+        for ((&literal, turned), word) in edges.words.iter().zip(edges.turned()).zip(1..) {
+            let source = self.source(literal, &edges.reader, word);
+            if literal / 2 == 0 {
+                lines.push(format!("{source} [{CONSTANT}];"));
             }
-            let looks = [(stub, "style=dotted"), (word.complemented(), "arrowhead=dot"), (word.turned(), TURNED)];
+            let looks = [(literal / 2 == 0, "weight=2"), (literal % 2 == 1, "arrowhead=dot"), (turned, TURNED)];
             let looks: Vec<&str> = looks.into_iter().filter_map(|(has, look)| has.then_some(look)).collect();
             let looks = if looks.is_empty() { String::new() } else { format!(" [{}]", looks.join(", ")) };
-            let port = if boxed.kind == Kind::Output { String::new() } else { format!(":w{}", word.at) };
-            lines.push(format!("{from} -> {prefix}{}{port}:s{looks};", boxed.id));
+            lines.push(format!("{source} -> {}:w{word}:s{looks};", edges.reader));
         }
         lines
     }
 
-    fn box_line(&self, boxed: &Boxed) -> String {
-        let looks = box_looks(boxed);
-        let width = match self.prefix {
-            "" => String::new(),
-            _ => format!(", width={:.1}", (layout::width(boxed, ROOM) / 72.0).max(0.75)),
-        };
-        // Graphviz reads the backslashes of a tooltip twice.
-        let title = quoted_lines(boxed.title.replace('\\', "\\\\").lines());
-        format!("{}{} [{looks}{width}, tooltip=\"{title}\"];", self.prefix, boxed.id)
+    /// A row of boxes.
+    fn row(&self, place: &str, boxes: Vec<String>) -> Vec<String> {
+        if boxes.is_empty() || !self.rows {
+            return boxes;
+        }
+        let inner = boxes.iter().map(|line| format!("    {line}"));
+        let opening = ["{".to_string(), format!("    rank={place};")];
+        opening.into_iter().chain(inner).chain(["}".to_string()]).collect()
     }
 
-    /// The boxes of inputs or outputs, which stand in a row by number.
-    fn row(&self, kind: Kind, place: &str) -> Vec<String> {
-        let boxes = || self.boxes.iter().filter(|boxed| boxed.kind == kind);
-        let lines: Vec<String> = boxes().map(|boxed| self.box_line(boxed)).collect();
-        if lines.is_empty() || !self.plan.rows {
-            return lines;
+    /// What a box says first. The word makes it wider, and the two sides of a comparison differ in it only where their locks do.
+    fn kind(&self, node: u32) -> String {
+        let locked = if is_locked(self.graph, node) { " locked" } else { "" };
+        format!("{} {node}{locked}", if is_xor(self.graph, node) { "XOR" } else { "majority" })
+    }
+
+    fn border(&self, node: u32) -> &'static str {
+        if is_locked(self.graph, node) {
+            LOCKED
+        } else {
+            ""
         }
-        let ids: Vec<String> = boxes().map(|boxed| format!("{}{}", self.prefix, boxed.id)).collect();
-        let order = (ids.len() > 1).then(|| format!("{} [style=invis, tailport=\"\"];", ids.join(" -> ")));
-        let inner = [format!("rank={place};")].into_iter().chain(lines).chain(order);
-        let inner = inner.map(|line| format!("    {line}"));
-        ["{".to_string()].into_iter().chain(inner).chain(["}".to_string()]).collect()
+    }
+
+    fn node_lines(&self, node: u32) -> Vec<String> {
+        let edges = self.node_edges(node);
+        let cells: Vec<String> =
+            edges.words.iter().zip(1..).map(|(literal, word)| format!("<w{word}> {literal}")).collect();
+        let look = if is_xor(self.graph, node) { XOR } else { MAJORITY };
+        let (kind, cells, border) = (self.kind(node), cells.join("|"), self.border(node));
+        let own = format!("{} [label=\"{{{kind}|{{{cells}}}}}\", {look}{border}];", edges.reader);
+        [vec![own], self.edge_lines(&edges)].concat()
+    }
+
+    fn output_line(&self, output: u32) -> String {
+        let Edges { reader, words, .. } = self.output_edges(output);
+        let called = after(format!("output {output}"), self.names.output(output));
+        format!("{reader} [label=\"{{{called}|<w1> {}}}\", shape=record];", words[0])
     }
 
     /// From the inputs up.
     fn lines(&self) -> Vec<String> {
-        let mut lines = self.row(Kind::Input, "source");
-        for boxed in self.boxes.iter().filter(|boxed| !matches!(boxed.kind, Kind::Input | Kind::Output)) {
-            lines.push(self.box_line(boxed));
-            lines.extend(self.edge_lines(boxed));
-        }
-        lines.extend(self.row(Kind::Output, "sink"));
-        let outputs = self.boxes.iter().filter(|boxed| boxed.kind == Kind::Output);
-        lines.extend(outputs.flat_map(|boxed| self.edge_lines(boxed)));
+        let Part { inputs, nodes, beyond, outputs, .. } = self.part;
+        let input = |&at: &u32| {
+            let called = after(format!("input {at}"), self.names.input(at));
+            format!("{}i{at} [label=\"{called}\"];", self.prefix)
+        };
+        let mut lines = self.row("source", inputs.iter().map(input).collect());
+        let dashed = |&at: &u32| {
+            let (prefix, kind, border) = (self.prefix, self.kind(at), self.border(at));
+            format!("{prefix}n{at} [label=\"{kind}\", style=dashed{border}];")
+        };
+        lines.extend(beyond.iter().map(dashed));
+        lines.extend(nodes.iter().flat_map(|&node| self.node_lines(node)));
+        lines.extend(self.row("sink", outputs.iter().map(|&at| self.output_line(at)).collect()));
+        lines.extend(outputs.iter().flat_map(|&at| self.edge_lines(&self.output_edges(at))));
         lines
     }
+
+    fn complemented(&self) -> usize {
+        self.edges().map(|edges| edges.words.iter().filter(|&literal| literal % 2 == 1).count()).sum()
+    }
+
+    /// How many boxes are those of locked nodes.
+    fn locked(&self) -> usize {
+        let boxes = self.part.nodes.iter().chain(&self.part.beyond);
+        boxes.filter(|&&node| is_locked(self.graph, node)).count()
+    }
+
+    fn turned(&self) -> usize {
+        self.edges().map(|edges| edges.turned().filter(|&turned| turned).count()).sum()
+    }
+}
+
+/// How many levels the edges of a part cross, all together, where inputs stand at the bottom and outputs at the top.
+fn crossed(graph: &Graph, part: &Part) -> usize {
+    let mut levels = vec![0; 1 + (graph.size.inputs + graph.size.nodes) as usize];
+    let mut crossed = 0;
+    let mut cross = |levels: &[usize], literals: &[u32], to: usize| {
+        let below = literals.iter().map(|&literal| literal as usize / 2);
+        // The constant and what is beyond the part stand near their readers.
+        let far = below.filter(|&index| index != 0 && (index <= graph.size.inputs as usize || levels[index] != 0));
+        crossed += far.map(|index| to - 1 - levels[index]).sum::<usize>();
+    };
+    for &node in &part.nodes {
+        let words: Vec<u32> = words_of(graph, node).collect();
+        let level = 1 + words.iter().map(|&literal| levels[literal as usize / 2]).max().unwrap_or(0);
+        cross(&levels, &words, level);
+        levels[node as usize] = level;
+    }
+    let top = 1 + levels.iter().max().unwrap_or(&0);
+    for &output in &part.outputs {
+        cross(&levels, &[output_of(graph, output)], top);
+    }
+    crossed
 }
 
 /// How many of these are drawn, of how many in the whole graph where a part is drawn, and what each has.
@@ -170,37 +216,23 @@ fn marked(drawn: usize, what: &str, all: u32, whole: bool, mark: &str) -> String
 }
 
 /// What thick borders mean, and how many there are; none where no node of the graph is locked.
-fn locked_line(scene: &Scene) -> Option<String> {
-    let (graph, part) = (scene.graph(), scene.part);
-    let drawn = part.nodes.iter().chain(&part.beyond).filter(|&&node| is_locked(graph, node)).count();
-    (graph.locked() != 0).then(|| marked(drawn, "locked node", graph.locked(), part.whole, "thick border"))
-}
-
-/// How many words of the boxes are as asked.
-fn many(scene: &Scene, asked: fn(&Word) -> bool) -> usize {
-    scene.boxes().iter().map(|boxed| boxed.all_words().filter(|word| asked(word)).count()).sum()
+fn locked_line(side: &Side) -> Option<String> {
+    let all = side.graph.locked();
+    (all != 0).then(|| marked(side.locked(), "locked node", all, side.part.whole, "thick border"))
 }
 
 /// What stands above a graph: its title, what is drawn of it, its dots, its locks, and where inputs are to be looked for.
-pub fn caption(scene: &Scene, plan: &Plan, title: &str) -> Result<Vec<String>, String> {
-    let all = scene.graph().complemented_edges().map_err(|refusal| refusal.to_string())?;
-    let dots = marked(many(scene, Word::complemented), "complemented edge", all, scene.part.whole, "dot");
-    let lines = [plain(title), scene.part.told.clone(), dots];
-    Ok(lines.into_iter().chain(locked_line(scene)).chain(plan.told()).collect())
-}
-
-/// What stands above two graphs.
-pub fn turned_line(scene: &Scene) -> String {
-    format!("{}, thick and orange", count(many(scene, Word::turned), "turned edge"))
-}
-
 fn label(side: &Side, title: &str) -> Result<String, String> {
-    let lines = caption(&side.scene, side.plan, title)?;
-    Ok(format!("label=\"{}\";", quoted_lines(lines.iter().map(String::as_str))))
+    let all = side.graph.complemented_edges().map_err(|refusal| refusal.to_string())?;
+    let dots = marked(side.complemented(), "complemented edge", all, side.part.whole, "dot");
+    let near = "inputs and outputs stand near their nodes, since the graph is deep";
+    let near = if side.rows { None } else { Some(near) };
+    let locked = locked_line(side);
+    let lines = [title, &side.part.told, &dots].into_iter().chain(locked.as_deref()).chain(near);
+    Ok(format!("label=\"{}\";", lines.map(quoted).collect::<Vec<String>>().join("\\n")))
 }
 
-/// A text of these lines, with how everything looks.
-pub fn digraph(lines: &[String]) -> String {
+fn digraph(lines: &[String]) -> String {
     let lines: String = lines.iter().map(|line| format!("    {line}\n")).collect();
     format!("digraph panjerov {{\n{LOOKS}{lines}}}\n")
 }
@@ -211,7 +243,17 @@ fn alone(side: &Side, title: &str) -> Result<String, String> {
 
 /// The picture of a part of a graph, under a title.
 pub fn of((graph, names): Named, part: &Part, title: &str) -> Result<String, String> {
-    alone(&Side::of(Scene::of((graph, names), part), &Plan::of(graph, part, 1), ""), title)
+    let rows = crossed(graph, part) <= MOST_CROSSED;
+    alone(&Side { graph, names, other: None, part, prefix: "", rows }, title)
+}
+
+/// The pictures of a part of two graphs of the same wiring, before and after, each by itself.
+pub fn both(graphs: [&Graph; 2], names: &Names, part: &Part) -> Result<[String; 2], String> {
+    let [before, after] = graphs;
+    let rows = crossed(before, part) <= MOST_CROSSED;
+    let first = Side { graph: before, names, other: Some(after), part, prefix: "before_", rows };
+    let second = Side { graph: after, names, other: Some(before), part, prefix: "after_", rows };
+    Ok([alone(&first, "before")?, alone(&second, "after")?])
 }
 
 /// One of two graphs in a frame.
@@ -225,13 +267,13 @@ fn framed(side: &Side, title: &str) -> Result<Vec<String>, String> {
 
 /// The picture of a part of two graphs of the same wiring, before and after, each under its title.
 pub fn compared(graphs: [Named; 2], part: &Part, titles: &[String; 2]) -> Result<String, String> {
-    let both = graphs.map(|(graph, _)| graph);
-    let plan = Plan::of(both[0], part, 2);
-    let [first, second] =
-        [0, 1].map(|which| Side::of(Scene::compared(both, which, graphs[which].1, part), &plan, PREFIXES[which]));
-    let turned = format!("label=\"{}\";", turned_line(&first.scene));
+    let [(before, names), (after, names_after)] = graphs;
+    let rows = 2 * crossed(before, part) <= MOST_CROSSED;
+    let first = Side { graph: before, names, other: Some(after), part, prefix: "before_", rows };
+    let second = Side { graph: after, names: names_after, other: Some(before), part, prefix: "after_", rows };
+    let turned = format!("label=\"{}, thick and orange\";", count(first.turned(), "turned edge"));
     // Each frame is laid out by itself, and so both alike; but what does not hang together would be torn apart.
-    let packed = (part.connected(both[0]) && plan.stubs.is_empty()).then(|| "packmode=array_u2;".into());
+    let packed = part.connected(before).then(|| "packmode=array_u2;".into());
     let opening = [turned].into_iter().chain(packed).collect();
     Ok(digraph(&[opening, framed(&first, &titles[0])?, framed(&second, &titles[1])?].concat()))
 }

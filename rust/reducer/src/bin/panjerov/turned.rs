@@ -23,14 +23,6 @@ fn kind(graph: &Graph, node: u32) -> &'static str {
     }
 }
 
-/// A word of a node or an output, both from 1, or a whole node.
-#[derive(Clone, Copy, Debug, PartialEq, Eq)]
-pub enum Spot {
-    Node(u32),
-    Word(u32, usize),
-    Output(u32),
-}
-
 /// The node and the word, from 1, at a place of the node table.
 fn node_at(graph: &Graph, place: usize) -> (u32, usize) {
     (graph.size.inputs + 1 + (place / 3) as u32, 1 + place % 3)
@@ -74,41 +66,16 @@ fn apart(graphs: [&Graph; 2], difference: Difference) -> Apart {
             let output = format!("output {}", place + 1);
             Apart::Bit(output.clone(), turned(output, outputs(place)))
         }
-        other => Apart::Wiring(other.to_string()),
     }
 }
 
-/// The place of a difference; none where sizes differ. Where kinds do, it is the node.
-fn spot(graphs: [&Graph; 2], difference: Difference) -> Option<Spot> {
-    let word = |place| {
-        let (node, word) = node_at(graphs[0], place);
-        let [first, second] = graphs.map(|graph| is_xor(graph, node));
-        if first == second {
-            Spot::Word(node, word)
-        } else {
-            Spot::Node(node)
-        }
-    };
-    match difference {
-        Difference::NodeIndex(place) | Difference::NodeBit(place) => Some(word(place)),
-        Difference::OutputIndex(place) | Difference::OutputBit(place) => Some(Spot::Output(place as u32 + 1)),
-        _ => None,
-    }
-}
-
-/// A byte a node by rising index: the move that all moves made there come to; or why there are none, and the place that shows it.
-pub fn compared(before: &Graph, after: &Graph) -> Result<Vec<u8>, (Apart, Option<Spot>)> {
-    let graphs = [before, after];
+/// A byte a node by rising index: the move that all moves made there come to.
+pub fn moves(before: &Graph, after: &Graph) -> Result<Vec<u8>, Apart> {
     match before.compare(after) {
         Ok(Compared::Moves(moves)) => Ok(moves),
-        Ok(Compared::Differ(difference)) => Err((apart(graphs, difference), spot(graphs, difference))),
-        Err(refusal) => Err((Apart::Refused(refusal.to_string()), None)),
+        Ok(Compared::Differ(difference)) => Err(apart([before, after], difference)),
+        Err(refusal) => Err(Apart::Refused(refusal.to_string())),
     }
-}
-
-/// The same without the place.
-pub fn moves(before: &Graph, after: &Graph) -> Result<Vec<u8>, Apart> {
-    compared(before, after).map_err(|(apart, _)| apart)
 }
 
 #[cfg(test)]

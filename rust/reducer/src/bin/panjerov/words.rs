@@ -125,11 +125,6 @@ impl Command {
         }
     }
 
-    /// Whether it is told what to draw.
-    fn draws(self) -> bool {
-        matches!(self, Command::Picture | Command::Report | Command::Compare)
-    }
-
     /// Whether it takes the root of a tree after FILE.
     fn takes_root(self) -> bool {
         matches!(self, Command::Preview | Command::Resistive)
@@ -178,8 +173,6 @@ pub struct Work {
     pub compare: bool,
     /// The second of two graphs; none is standard input.
     pub after: Option<PathBuf>,
-    /// Whether a comparison gives a page.
-    pub html: bool,
     /// What is wanted of the outputs.
     pub pattern: Vec<String>,
     /// The files and folders of a class, or the stages after the first; none among them is standard input.
@@ -212,7 +205,6 @@ impl Work {
             form: None,
             compare: false,
             after: None,
-            html: false,
             pattern: Vec::new(),
             files: Vec::new(),
             sheet: None,
@@ -529,12 +521,11 @@ fn put_option(work: &mut Work, option: &str, words: &mut Words<impl Iterator<Ite
         "--no-symbols" if command.takes_format() || command == Command::Import => work.no_symbols = true,
         "--all" if matches!(command, Command::Resistive | Command::Assign) => work.all = true,
         "--abc" if command == Command::Equal => work.abc = true,
-        "--html" if command == Command::Compare => work.html = true,
         "--moves" if command == Command::Preview => work.only_moves = true,
         "--sort" if command == Command::Preview => work.by_saving = sorted_by(words.value())?,
         "--find" if command == Command::Settle => work.find = true,
         "--json" => work.json = true,
-        _ if command.draws() => put_drawing(work, option, || words.value())?,
+        _ if matches!(command, Command::Picture | Command::Report) => put_drawing(work, option, || words.value())?,
         _ => return Err(no_option(command, option)),
     }
     match words.joined.take() {
@@ -582,9 +573,6 @@ fn fits(work: &Work) -> Result<(), String> {
     }
     if work.by_saving && work.root.is_some() {
         return Err("--sort is for the list of all roots, and so cannot stand with ROOT".into());
-    }
-    if work.command == Command::Compare && work.wanted != Wanted::Whole && !work.html {
-        return Err("--output and --root say what a page draws, and so want --html".into());
     }
     match work.command {
         Command::Lock | Command::Unlock => holds_locks(work),
@@ -818,9 +806,6 @@ mod tests {
         };
         assert_eq!(of(&["compare", "a", "b"]), compare(Some("a"), Some("b")));
         assert_eq!(of(&["compare", "-", "b"]), compare(None, Some("b")));
-        let (input, after, wanted) = (path(Some("a")), path(Some("b")), Wanted::Output(3));
-        let page = Work { input, after, wanted, html: true, ..Work::of(Command::Compare) };
-        assert_eq!(of(&["compare", "a", "--html", "b", "--output", "3"]), Ok(Asked::Work(page)));
     }
 
     #[test]
@@ -946,10 +931,6 @@ mod tests {
             &["compare", "-", "-"],
             &["compare", "a", "b", "c"],
             &["compare", "a", "b", "--compare"],
-            &["compare", "a", "b", "--root", "7"],
-            &["compare", "a", "b", "--html", "--svg"],
-            &["equal", "a", "b", "--html"],
-            &["report", "a", "--html"],
             &["assign"],
             &["assign", "a"],
             &["assign", "a", "--all"],
