@@ -12,7 +12,7 @@ use Rattle.graph.specs.Value.{literal_value, values, output_value}
 use Rattle.tagged_file.proofs.Whole.{guarded_number}
 use Rattle.aiger.specs.Lines.{number, skip, number_at}
 use Rattle.aiger.specs.Import.{gate_word, graph_imported, import_number, import_call}
-use Rattle.aiger.specs.Export.{gates_before, exported, gates, export_text}
+use Rattle.aiger.specs.Export.{gates_before, exported, export_text}
 use Rattle.aiger.specs.Promises.{BackAgain}
 use Rattle.aiger.proofs.Agree.{Carries, agree}
 use Rattle.aiger.proofs.Exported.{body_text, output_line_lem, gate_line, export_read, import_three_or_four}
