@@ -1,0 +1,19 @@
+-- `fill_moves` meets its contract: the nodes of the tree passed are decided. From the laws on the pass.
+use mathlib.Core.List.{List}
+use Prim.Native.Nat.{ℕ}
+use Rattle.graph.specs.Graph.{Graph, graph_of}
+use Rattle.state.specs.State.{stands}
+use Rattle.trees.proofs.Falling.{bound_of}
+use Rattle.trees.proofs.DecidePass.{MoveRight}
+use Rattle.trees.proofs.Passes.{FallenTo}
+use Rattle.graph.specs.Literals.{literals}
+use Rattle.trees.proofs.deciding.fill_moves.Given as goal
+
+abbrev pub Inv : Graph → List ℕ → List ℕ → ℕ → List ℕ → ℕ → Type 0
+Inv g ls sc₁ r sc v = FallenTo (stands g sc₁) (MoveRight (stands g sc₁) ls r) sc₁ r v sc
+
+abbrev pub invariant-loop-v : goal.invariant-loop-v
+invariant-loop-v l = Inv (graph_of l.inputs l.nodes l.outputs (literals l.node_table l.node_bits) (literals l.output_table l.output_bits)) l.locks l.initial.scratch l.root l.scratch l.v
+
+abbrev pub decreases-loop-v : goal.decreases-loop-v
+decreases-loop-v l = bound_of l.v
