@@ -1,5 +1,5 @@
 -- The least assignment is what it is said to be. From the laws on the least number and on assignments that agree.
-use mathlib.Core.Path.{◌≡◌, refl, sym, ap, ◌∙◌}
+use mathlib.Core.Path.{◌≡◌, refl, sym, ◌∙◌}
 use mathlib.Core.List.{List, [], ◌∷◌}
 use mathlib.Core.Logic.{⊎_elim, ◌≢◌}
 use Prim.Native.Nat.{ℕ, ◌%◌, ◌^◌, ◌≤◌, ◌<◌}
@@ -13,7 +13,7 @@ use Rattle.graph.proofs.Tests.{equal, unequal, is, all_none, each_none}
 use Rattle.graph.specs.Literals.{bit}
 use Rattle.evaluation.specs.Word.{gather}
 use Rattle.evaluation.proofs.Gather.{bit_gather, gather_lt}
-use Rattle.assignment.specs.Assignment.{numbered, misses, missed, least, by_number, least_assignment}
+use Rattle.assignment.specs.Assignment.{numbered, misses, missed, by_number, least_assignment}
 use Rattle.assignment.specs.Promises.{Gives, number_from, IsLeast, LeastOf}
 use Rattle.assignment.proofs.Least.{least_at, least_none, FirstZero, zero_or_none}
 use Rattle.assignment.proofs.Same.{missed_same}

@@ -1,13 +1,13 @@
 -- What a graph computes looks only at its inputs' bits; so a pattern is missed alike under assignments that agree there. From the laws on
 -- bits.
-use mathlib.Core.Path.{◌≡◌, refl, sym, ap, ap₂, ◌∙◌}
+use mathlib.Core.Path.{◌≡◌, refl, ap, ap₂}
 use mathlib.Core.List.{List, ◌∷◌}
 use Prim.Native.Nat.{ℕ, zero, suc, ◌+◌, ◌*◌, ◌%◌, ◌^◌, ◌≤◌, ◌<◌}
 use native.Mathlib.Omega.{arith}
 use lib.ListN.{get_or}
 use Rattle.graph.specs.Finite.{tab, first, first_of, if_equal}
-use Rattle.graph.specs.Graph.{Graph, output}
-use Rattle.graph.specs.Value.{Assignment, literal_value, values, output_value}
+use Rattle.graph.specs.Graph.{Graph}
+use Rattle.graph.specs.Value.{Assignment, values, output_value}
 use Rattle.graph.proofs.Finite.{tab_same}
 use Rattle.graph.specs.Literals.{bit}
 use Rattle.evaluation.specs.Evaluation.{assignment_at}

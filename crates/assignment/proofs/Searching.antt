@@ -2,7 +2,7 @@
 use mathlib.Core.Path.{◌≡◌, refl, sym, ap, ◌∙◌}
 use mathlib.Core.List.{List, [], ◌∷◌}
 use mathlib.Core.Logic.{⊎_elim, ◌≢◌}
-use Prim.Native.Nat.{ℕ, zero, suc, ◌+◌, ◌-◌, ◌*◌, ◌%◌, ◌^◌, ◌≤◌, ◌<◌}
+use Prim.Native.Nat.{ℕ, ◌+◌, ◌-◌, ◌*◌, ◌%◌, ◌^◌, ◌≤◌, ◌<◌}
 use native.Mathlib.Nat.{mod-lt}
 use native.Mathlib.Omega.{arith}
 use lib.Pow.{pow_pos, pow_mono}
@@ -12,7 +12,7 @@ use Rattle.graph.proofs.Tests.{less, no_less}
 use Rattle.graph.specs.Literals.{bit}
 use Rattle.evaluation.proofs.Bits.{bit_zero}
 use Rattle.assignment.specs.Assignment.{by_number, least_assignment}
-use Rattle.assignment.specs.Inner.{clean, Places, FirstPlace, found_by}
+use Rattle.assignment.specs.Inner.{Places, FirstPlace, found_by}
 use Rattle.assignment.proofs.Least.{least_none, least_at}
 use Rattle.assignment.proofs.Same.{by_lowest}
 use Rattle.assignment.proofs.Blocks.{clean_off, clean_on}

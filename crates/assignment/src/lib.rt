@@ -1,8 +1,9 @@
 // An assignment for a wanted output: the least that gives the pattern, or none exactly if none does.
 #![tactic(auto)]
+
 ghost use Rattle.std.specs.Prelude.{◌≡◌, length};
 ghost use Rattle.graph.specs.Answer.{accepted, ScratchKept};
-ghost use Rattle.graph.specs.Literals.{before, after, graph_before};
+ghost use Rattle.graph.specs.Literals.{before, graph_before};
 ghost use Rattle.assignment.specs.Assignment.{found_values, assignment_call, assigned_answer};
 ghost use Rattle.assignment.specs.Inner.{found_by};
 
@@ -45,8 +46,8 @@ pub fn find_assignment(
     scratch: &mut [u64],
 ) -> Assigned
     ensures call { let g = graph_before inputs nodes outputs node_table node_bits output_table output_bits in
-        assigned_answer result ≡ assignment_call g (before locks) (before wanted) (length (before scratch)) }
-    ensures scratch { ScratchKept (assigned_answer result) (before scratch) (after scratch) }
+        assigned_answer result ≡ assignment_call g (before locks) (before wanted) (length scratch.old) }
+    ensures scratch { ScratchKept (assigned_answer result) scratch.old scratch.new }
 {
     let number = faults::assignment_number(
         inputs,

@@ -1,0 +1,47 @@
+-- `block::block_places` meets its contract: the places at which nothing wanted is missed are those that give the pattern. From the laws on blocks.
+use Prim.Native.Nat.{◌+◌, ◌≤◌}
+use native.Mathlib.Omega.{arith}
+use lib.ListN.{length}
+use Rattle.graph.specs.Graph.{Graph, graph_of}
+use Rattle.graph.specs.Literals.{literals}
+use Rattle.assignment.proofs.Numbers.{words_long}
+use Rattle.assignment.proofs.Blocks.{left_none, places_of}
+use Rattle.assignment.proofs.block.block_places.Goals as goal
+use Rattle.assignment.proofs.block.block_places.Goals.{After-input_words-input_words}
+
+-- sixteen input words are enough
+
+enough : (w : After-input_words-input_words) → w.args.inputs ≤ length w.input_words-input_words.result
+enough w =
+    let n = words_long w.input_words-input_words.result w.args.b w.input_words-input_words.ensures in
+    omega (arith, w.requires.0.few)
+
+pub first_places-left-requires : goal.first_places-left-requires
+first_places-left-requires c =
+    (c.requires.0, enough (goal.at.first_places-left-requires c).After-input_words-input_words, c.front_count-many.ensures.1)
+
+pub returns-then-left-eq0 : goal.returns-then-left-eq0
+returns-then-left-eq0 c =
+    let a = c.args in
+    let g : Graph = graph_of a.inputs a.nodes a.outputs (literals a.node_table.now a.node_bits.now) (literals a.output_table.now a.output_bits.now) in
+    let words = c.input_words-input_words.result in
+    let l : a.inputs + 1 + c.front_count-many.result ≤ a.inputs + 1 + a.top = omega (arith, c.front_count-many.ensures.0) in
+    places_of g a.wanted.now words a.b 0 a.top c.input_words-input_words.ensures c.requires.0.few c.requires.1
+    (left_none g a.wanted.now words (a.inputs + 1 + c.front_count-many.result) (a.inputs + 1 + a.top) c.first_places-left.result l c.if-left-eq0.true c.first_places-left.ensures.0)
+
+pub last_places-requires : goal.last_places-requires
+last_places-requires c =
+    let p = c.requires.0 in (
+      record { admitted = p.admitted; few = p.few; long = p.long; small = p.small; scratch = omega (arith, p.scratch, c.first_places-left.auto.scratch) },
+      enough (goal.at.last_places-requires c).After-input_words-input_words,
+      c.front_count-many.ensures.0,
+      c.requires.1.few,
+      c.first_places-left.ensures.0,
+      c.first_places-left.ensures.1 c.if-left-eq0.false,
+    )
+
+pub returns : goal.returns
+returns c =
+    let a = c.args in
+    let g : Graph = graph_of a.inputs a.nodes a.outputs (literals a.node_table.now a.node_bits.now) (literals a.output_table.now a.output_bits.now) in
+    places_of g a.wanted.now c.input_words-input_words.result a.b c.last_places.result a.top c.input_words-input_words.ensures c.requires.0.few c.requires.1 c.last_places.ensures

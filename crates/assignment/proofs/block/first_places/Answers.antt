@@ -1,0 +1,42 @@
+-- `block::first_places` meets its contract: the constant and the inputs, then the nodes that have room. From the laws on blocks.
+use mathlib.Core.Path.{refl, sym, subst}
+use mathlib.Core.List.{[]}
+use Prim.Native.Nat.{ℕ, ◌+◌}
+use native.Mathlib.Omega.{arith}
+use lib.ListN.{take}
+use Rattle.graph.specs.Graph.{Graph, graph_of}
+use Rattle.graph.specs.Literals.{literals}
+use Rattle.evaluation.specs.Inner.{nodes_of, NodeWords}
+use Rattle.evaluation.proofs.Rows.{row_none}
+use Rattle.assignment.specs.Inner.{Left}
+use Rattle.assignment.proofs.Blocks.{left_first, pattern_of}
+use Rattle.assignment.proofs.block.first_places.Goals as goal
+use Rattle.assignment.proofs.block.first_places.Goals.{After-left_from-left, Start}
+
+none-known : (s : Start) → let a = s.args in NodeWords (nodes_of a.inputs a.nodes (literals a.node_table.now a.node_bits.now)) a.input_words.now [] 0
+none-known s = let a = s.args in λ j h. row_none (nodes_of a.inputs a.nodes (literals a.node_table.now a.node_bits.now)) a.input_words.now j s.requires.1
+
+-- what the constant and the inputs leave
+
+low-left : (n : After-left_from-left) → let a = n.args in Left (graph_of a.inputs a.nodes a.outputs (literals a.node_table.now a.node_bits.now) (literals a.output_table.now a.output_bits.now)) a.wanted.now a.input_words.now (a.inputs + 1 + 0) n.left_from-left.result
+low-left n =
+    let a = n.args in
+    let g : Graph = graph_of a.inputs a.nodes a.outputs (literals a.node_table.now a.node_bits.now) (literals a.output_table.now a.output_bits.now) in
+    left_first g a.wanted.now a.input_words.now [] n.left_from-left.result refl (λ j h. row_none (nodes_of a.inputs a.nodes (literals a.node_table.now a.node_bits.now)) a.input_words.now j n.requires.1) n.left_from-left.ensures
+
+pub left_from-left-requires : goal.left_from-left-requires
+left_from-left-requires c =
+    (c.requires.0.few, c.requires.1, omega arith, pattern_of _ _ _ c.requires.0)
+
+pub returns-then-many-eq0 : goal.returns-then-many-eq0
+returns-then-many-eq0 c =
+    let a = c.args in
+    let g : Graph = graph_of a.inputs a.nodes a.outputs (literals a.node_table.now a.node_bits.now) (literals a.output_table.now a.output_bits.now) in
+    let e = sym c.if-many-eq0.true in (
+      subst (λ (m : ℕ). Left g a.wanted.now a.input_words.now (a.inputs + 1 + m) c.left_from-left.result) e (low-left (goal.at.returns-then-many-eq0 c).After-left_from-left),
+      λ d. subst (λ (m : ℕ). NodeWords (nodes_of a.inputs a.nodes (literals a.node_table.now a.node_bits.now)) a.input_words.now (take m a.scratch.now) m) e (none-known (goal.at.returns-then-many-eq0 c).Start),
+    )
+
+pub front_places-requires : goal.front_places-requires
+front_places-requires c =
+    (c.requires.0, c.requires.1, c.requires.2 c.if-many-eq0.false, low-left (goal.at.front_places-requires c).After-left_from-left)

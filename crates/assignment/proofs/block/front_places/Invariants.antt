@@ -1,0 +1,19 @@
+-- `block::front_places` meets its contract. The invariant: the words of the nodes known stand at their indices, and the places left are those at
+-- which no output that names an index so far is missed. From the laws on blocks.
+use mathlib.Core.Path.{◌≡◌}
+use Prim.Native.Nat.{◌+◌, ◌-◌, ◌≤◌}
+use lib.ListN.{length}
+use Rattle.graph.specs.Graph.{graph_of}
+use Rattle.graph.specs.Literals.{literals}
+use Rattle.evaluation.specs.Inner.{nodes_of, Front}
+use Rattle.assignment.specs.Inner.{Left}
+use Rattle.assignment.proofs.block.front_places.Given as goal
+
+abbrev pub invariant-loop-known : goal.invariant-loop-known
+invariant-loop-known l =
+    (l.known ≤ l.many) × (length l.scratch ≡ length l.initial.scratch)
+    × Front (nodes_of l.inputs l.nodes (literals l.node_table l.node_bits)) l.input_words l.scratch l.known
+    × Left (graph_of l.inputs l.nodes l.outputs (literals l.node_table l.node_bits) (literals l.output_table l.output_bits)) l.wanted l.input_words (l.inputs + 1 + l.known) l.rest
+
+abbrev pub decreases-loop-known : goal.decreases-loop-known
+decreases-loop-known l = l.many - l.known

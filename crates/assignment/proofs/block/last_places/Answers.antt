@@ -1,0 +1,42 @@
+-- `block::last_places` meets its contract: the rest of the nodes, then the outputs that name them. From the laws on blocks.
+use mathlib.Core.Path.{◌≡◌, sym}
+use native.Mathlib.Omega.{arith}
+use lib.ListN.{length, take}
+use lib.Seq.{length-take-le}
+use Rattle.graph.specs.Graph.{Graph, graph_of}
+use Rattle.graph.specs.Literals.{literals}
+use Rattle.evaluation.proofs.Outputs.{node_below}
+use Rattle.assignment.proofs.Blocks.{left_more, pattern_of}
+use Rattle.assignment.proofs.block.last_places.Goals as goal
+use Rattle.assignment.proofs.block.last_places.Goals.{After-fill_rest}
+
+-- the words filled in are as many as are asked for
+
+long : (c : After-fill_rest) → let top = c.args.top in length (take top c.fill_rest.new.scratch) ≡ top
+long c =
+    length-take-le c.args.top c.fill_rest.new.scratch (omega (arith, c.requires.3, c.requires.0.scratch, c.fill_rest.auto.scratch))
+
+pub fill_rest-requires : goal.fill_rest-requires
+fill_rest-requires c =
+    let a = c.args in
+    let p = c.requires.0 in (
+      c.requires.1,
+      omega (arith, c.requires.3, p.scratch),
+      omega (arith, c.requires.3, p.admitted.few_nodes),
+      (λ v h. node_below (graph_of a.inputs a.nodes a.outputs (literals a.node_table.now a.node_bits.now) (literals a.output_table.now a.output_bits.now)) p.admitted v (omega (arith, c.requires.3))),
+      c.requires.2,
+    )
+
+pub slice_bounds-left_from-end-2 : goal.slice_bounds-left_from-end-2
+slice_bounds-left_from-end-2 c = sym (long (goal.at.slice_bounds-left_from-end-2 c).After-fill_rest)
+
+pub left_from-requires : goal.left_from-requires
+left_from-requires c =
+    (c.requires.0.few, c.requires.1, omega (arith, long (goal.at.left_from-requires c).After-fill_rest, c.requires.3, c.requires.0.admitted.few_nodes), pattern_of _ _ _ c.requires.0)
+
+pub returns : goal.returns
+returns c =
+    let a = c.args in
+    let g : Graph = graph_of a.inputs a.nodes a.outputs (literals a.node_table.now a.node_bits.now) (literals a.output_table.now a.output_bits.now) in
+    left_more g a.wanted.now a.input_words.now (take a.top c.fill_rest.new.scratch) a.many a.top a.left c.left_from.result
+    (long (goal.at.returns c).After-fill_rest) c.requires.2 c.requires.3 (c.fill_rest.ensures a.nodes c.requires.5) c.requires.4 c.left_from.ensures
