@@ -1,7 +1,8 @@
 #![tactic(auto)]
+
 ghost use Rattle.std.specs.Prelude.{◌≡◌};
 ghost use Rattle.graph.specs.Answer.{outcome};
-ghost use Rattle.graph.specs.Literals.{before, graph_before, graph_after};
+ghost use Rattle.graph.specs.Literals.{graph_in};
 ghost use Rattle.moves.specs.Call.{saving_answer, node_call, pair_call, gain_answer, trial_call};
 
 mod faults;
@@ -23,9 +24,9 @@ pub fn node_call(
     locks: &[u8],
     node: u32,
 ) -> Saving
-    ensures { let g = graph_before inputs nodes outputs node_table node_bits output_table output_bits in
-        let h = graph_after inputs nodes outputs node_table node_bits output_table output_bits in
-        outcome (saving_answer result) h ≡ node_call g (before locks) node }
+    ensures { let g = graph_in inputs nodes outputs node_table.now node_bits.old output_table.now output_bits.old in
+        let h = graph_in inputs nodes outputs node_table.now node_bits.new output_table.now output_bits.new in
+        outcome (saving_answer result) h ≡ node_call g locks.now node }
 {
     let number = faults::node_number(
         inputs,
@@ -69,9 +70,9 @@ pub fn pair_call(
     node: u32,
     word: u32,
 ) -> Saving
-    ensures { let g = graph_before inputs nodes outputs node_table node_bits output_table output_bits in
-        let h = graph_after inputs nodes outputs node_table node_bits output_table output_bits in
-        outcome (saving_answer result) h ≡ pair_call g (before locks) node word }
+    ensures { let g = graph_in inputs nodes outputs node_table.now node_bits.old output_table.now output_bits.old in
+        let h = graph_in inputs nodes outputs node_table.now node_bits.new output_table.now output_bits.new in
+        outcome (saving_answer result) h ≡ pair_call g locks.now node word }
 {
     let number = faults::pair_number(
         inputs,
@@ -118,8 +119,8 @@ pub fn trial(
     named_move: u32,
     node_move: u32,
 ) -> Gain
-    ensures { let g = graph_before inputs nodes outputs node_table node_bits output_table output_bits in
-        gain_answer result ≡ trial_call g (before locks) node word named_move node_move }
+    ensures { let g = graph_in inputs nodes outputs node_table.now node_bits.now output_table.now output_bits.now in
+        gain_answer result ≡ trial_call g locks.now node word named_move node_move }
 {
     let number = faults::trial_number(
         inputs,
