@@ -1,8 +1,9 @@
 // Many moves together: a list of nodes with a move each, made all or none.
 #![tactic(auto)]
+
 ghost use Rattle.std.specs.Prelude.{◌≡◌};
 ghost use Rattle.graph.specs.Answer.{outcome};
-ghost use Rattle.graph.specs.Literals.{before, graph_before, graph_after};
+ghost use Rattle.graph.specs.Literals.{graph_in};
 ghost use Rattle.moves.specs.Call.{gain_answer};
 ghost use Rattle.many.specs.Many.{many_call};
 
@@ -26,9 +27,9 @@ pub fn many(
     list: &[u32],
     bytes: &[u8],
 ) -> Gain
-    ensures { let g = graph_before inputs nodes outputs node_table node_bits output_table output_bits in
-        let h = graph_after inputs nodes outputs node_table node_bits output_table output_bits in
-        outcome (gain_answer result) h ≡ many_call g (before locks) (before list) (before bytes) }
+    ensures { let g = graph_in inputs nodes outputs node_table.now node_bits.old output_table.now output_bits.old in
+        let h = graph_in inputs nodes outputs node_table.now node_bits.new output_table.now output_bits.new in
+        outcome (gain_answer result) h ≡ many_call g locks.now list.now bytes.now }
 {
     let number = faults::many_number(
         inputs,
