@@ -3,7 +3,7 @@ use mathlib.Core.Path.{◌≡◌, refl, sym, ap, ◌∙◌}
 use mathlib.Core.Bool.{true, false}
 use mathlib.Core.List.{List, map}
 use mathlib.Core.Logic.{◌⊎◌, ⊎_elim, ◌≢◌}
-use Prim.Native.Nat.{ℕ, ◌+◌, ◌-◌, ◌*◌, ◌/◌, ◌≤◌, ◌<◌}
+use Prim.Native.Nat.{ℕ, ◌+◌, ◌*◌, ◌/◌, ◌≤◌, ◌<◌}
 use native.Mathlib.Omega.{arith}
 use native.Mathlib.Nat.{eq-or-lt_of_le}
 use borrow.Author.Tests.{ne_eqb, lt-ltb}
@@ -12,7 +12,7 @@ use Rattle.graph.specs.Graph.{Graph, node, word}
 use Rattle.moves.specs.Apply.{Choice, at}
 use Rattle.moves.specs.Cost.{inner}
 use Rattle.resistive.specs.Resistive.{still_at, best_still}
-use Rattle.resistive.specs.Family.{below, KeyCosts, earlier, seen_in, reader_family, KeyDecided, key_cost, key_turns}
+use Rattle.resistive.specs.Family.{KeyCosts, earlier, seen_in, reader_family, KeyDecided, key_cost, key_turns}
 use Rattle.moves.specs.Rows.{moves_at}
 use Rattle.moves.specs.Tree.{is_root, place, root_of, tree}
 use Rattle.graph.proofs.Cases.{true_or_false, eq_or_ne, lt_or_le}
