@@ -1,11 +1,11 @@
 -- What an accepted join rests on, and what it leaves: an admitted graph with its locks, and M-113's values. From the tests that refuse it,
 -- and from the laws of the joined graph.
-use mathlib.Core.Path.{◌≡◌, refl, sym, ◌∙◌}
+use mathlib.Core.Path.{◌≡◌, refl, sym}
 use mathlib.Core.List.{List, [], ◌∷◌, ◌++◌}
 use mathlib.Core.Logic.{⊎_elim, ◌≢◌}
 use Prim.Native.Nat.{ℕ, zero, suc, ◌+◌, ◌-◌, ◌≤◌, ◌<◌}
 use native.Mathlib.Omega.{arith}
-use lib.ListN.{length, get_or, take, drop, length-append, length-drop, get_or-append}
+use lib.ListN.{length, get_or, take, drop, length-append, get_or-append}
 use lib.Seq.{get_or-take, get_or-append-add, length-take-le}
 use Rattle.graph.specs.Admission.{Admitted, LockBytes, admission_number, room_number}
 use Rattle.graph.specs.Answer.{accepted, LockedOutcome, locked_outcome, guarded_locks}

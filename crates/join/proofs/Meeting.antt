@@ -18,7 +18,6 @@ use Rattle.graph.proofs.Cases.{lt_or_le, eq_or_ne, true_or_false}
 use Rattle.graph.proofs.Edge.{edge_none, third_majority, third_xor}
 use Rattle.graph.proofs.Filled.{length_filled, filled_in, strays_filled, held_filled}
 use Rattle.graph.proofs.Finite.{length_tab, get_d_tab}
-use Rattle.graph.proofs.Literals.{held_le}
 use Rattle.graph.proofs.Tests.{less, no_less, equal, unequal}
 use Rattle.graph.proofs.Turn.{turn_half}
 use Rattle.join.specs.Join.{met, met_word, joined_graph}

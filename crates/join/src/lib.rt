@@ -1,8 +1,9 @@
 // Two graphs joined.
 #![tactic(auto)]
+
 ghost use Rattle.std.specs.Prelude.{◌≡◌};
 ghost use Rattle.graph.specs.Answer.{locked_outcome};
-ghost use Rattle.graph.specs.Literals.{before, after, table_before, table_after, graph_before};
+ghost use Rattle.graph.specs.Literals.{before, literals, graph_before};
 ghost use Rattle.tagged_file.specs.Load.{loaded_answer, loaded_graph};
 ghost use Rattle.join.specs.Join.{join_call};
 
@@ -39,11 +40,11 @@ pub fn join(
 ) -> Loaded
     ensures { let g = graph_before inputs nodes outputs node_table node_bits output_table output_bits in
         let h = graph_before second_inputs second_nodes second_outputs second_node_table second_node_bits second_output_table second_output_bits in
-        let ns = table_before joined_node_table joined_node_bits in
-        let os = table_before joined_output_table joined_output_bits in
-        let k = loaded_graph result (table_after joined_node_table joined_node_bits) (table_after joined_output_table joined_output_bits) in
-        locked_outcome (loaded_answer result) k (after joined_locks)
-        ≡ join_call g (before locks) h (before second_locks) ns os (before joined_locks) }
+        let ns = literals joined_node_table.old joined_node_bits.old in
+        let os = literals joined_output_table.old joined_output_bits.old in
+        let k = loaded_graph result (literals joined_node_table.new joined_node_bits.new) (literals joined_output_table.new joined_output_bits.new) in
+        locked_outcome (loaded_answer result) k joined_locks.new
+        ≡ join_call g (before locks) h (before second_locks) ns os joined_locks.old }
 {
     let number = faults::join_number(
         inputs,
