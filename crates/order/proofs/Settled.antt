@@ -8,7 +8,7 @@ use Prim.Native.Nat.{ℕ, zero, suc, ◌+◌, ◌-◌, ◌*◌, ◌≤◌, ◌<�
 use native.Mathlib.Omega.{arith}
 use borrow.Author.Tests.{eqb-true}
 use lib.Dec.{eqb}
-use lib.IntN.{pos, ◌+ℤ◌, +ℤ_idr}
+use lib.IntN.{pos, +ℤ_idr}
 use lib.ListN.{get_or}
 use Rattle.graph.specs.Finite.{if_less}
 use Rattle.graph.specs.Graph.{Graph, node}
