@@ -1,7 +1,8 @@
 #![tactic(auto)]
+
 ghost use Rattle.std.specs.Prelude.{◌≡◌, length};
 ghost use Rattle.graph.specs.Answer.{outcome, ScratchKept};
-ghost use Rattle.graph.specs.Literals.{before, after, graph_before, graph_after};
+ghost use Rattle.graph.specs.Literals.{graph_in};
 ghost use Rattle.rounds.specs.Settle.{settle_call};
 ghost use Rattle.settling.specs.Settle.{settled_answer};
 ghost use Rattle.settling.specs.Phase.{Fair, figured};
@@ -57,10 +58,10 @@ pub fn settle(
     locks: &[u8],
     scratch: &mut [u32],
 ) -> Settled
-    ensures call { let g = graph_before inputs nodes outputs node_table node_bits output_table output_bits in
-        let k = graph_after inputs nodes outputs node_table node_bits output_table output_bits in
-        outcome (settled_answer result) k ≡ settle_call g (before locks) (length (before scratch)) }
-    ensures scratch { ScratchKept (settled_answer result) (before scratch) (after scratch) }
+    ensures call { let g = graph_in inputs nodes outputs node_table.now node_bits.old output_table.now output_bits.old in
+        let k = graph_in inputs nodes outputs node_table.now node_bits.new output_table.now output_bits.new in
+        outcome (settled_answer result) k ≡ settle_call g locks.now (length scratch.old) }
+    ensures scratch { ScratchKept (settled_answer result) scratch.old scratch.new }
 {
     let refusal = faults::settle_number(
         inputs,
