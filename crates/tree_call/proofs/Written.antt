@@ -9,7 +9,7 @@ use native.Mathlib.Omega.{arith}
 use Rattle.graph.specs.Admission.{Admitted}
 use Rattle.graph.specs.Graph.{Graph, mark, node}
 use Rattle.moves.specs.Apply.{Choice, none, at, apply}
-use Rattle.moves.specs.Rows.{kind_moves, moves_at}
+use Rattle.moves.specs.Rows.{kind_moves}
 use Rattle.moves.specs.Tree.{is_root, place, root_of}
 use Rattle.moves.proofs.Apply.{admitted, apply_alike, same_xor}
 use Rattle.moves.proofs.Kept.{apply_idle}
