@@ -1,8 +1,9 @@
 // Importing a graph from ASCII AIGER.
 #![tactic(auto)]
+
 ghost use Rattle.std.specs.Prelude.{◌≡◌};
 ghost use Rattle.graph.specs.Answer.{locked_outcome};
-ghost use Rattle.graph.specs.Literals.{before, after, table_before, table_after};
+ghost use Rattle.graph.specs.Literals.{before, literals};
 ghost use Rattle.tagged_file.specs.Load.{loaded_answer, loaded_graph};
 ghost use Rattle.aiger.specs.Import.{import_call};
 
@@ -25,10 +26,10 @@ pub fn import(
     output_bits: &mut [u64],
     locks: &mut [u8],
 ) -> Loaded
-    ensures { let ns = table_before node_table node_bits in
-        let os = table_before output_table output_bits in
-        locked_outcome (loaded_answer result) (loaded_graph result (table_after node_table node_bits) (table_after output_table output_bits)) (after locks)
-        ≡ import_call (before text) ns os (before locks) }
+    ensures { let ns = literals node_table.old node_bits.old in
+        let os = literals output_table.old output_bits.old in
+        locked_outcome (loaded_answer result) (loaded_graph result (literals node_table.new node_bits.new) (literals output_table.new output_bits.new)) locks.new
+        ≡ import_call (before text) ns os locks.old }
 {
     let header = header::read_header(
         text,
