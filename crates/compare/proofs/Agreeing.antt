@@ -1,22 +1,20 @@
 -- Two graphs of one wiring: the first's word, turned by a choice, is the second's just where the choice fits there. So is an output. From what a word
 -- is once a choice is made, and from wiring.
 use mathlib.Core.Path.{◌≡◌, refl, sym, ap, ◌∙◌}
-use mathlib.Core.Bool.{Bool, true, false, cond}
+use mathlib.Core.Bool.{Bool, true, false}
 use mathlib.Core.List.{List}
 use mathlib.Core.Logic.{⊎_elim}
 use Prim.Native.Nat.{ℕ, ◌+◌, ◌-◌, ◌*◌, ◌/◌, ◌%◌, ◌≤◌, ◌<◌}
 use native.Mathlib.Omega.{arith}
 use borrow.Author.Tests.{eq-eqb, eqb-true}
 use lib.Dec.{eqb}
-use lib.ListN.{get_or}
 use Rattle.graph.specs.Admission.{Admitted}
-use Rattle.graph.specs.Finite.{if_less}
 use Rattle.graph.specs.Graph.{Graph, graph_of, node, word, output, index, is_xor, is_edge, wire, output_wire, mark, turn}
 use Rattle.graph.proofs.Cases.{true_or_false}
 use Rattle.graph.proofs.Edge.{edge_none}
 use Rattle.graph.proofs.Tests.{less, no_less}
 use Rattle.graph.proofs.Turn.{turn_zero}
-use Rattle.moves.specs.Apply.{Choice, apply, own, seen, turns, output_turns}
+use Rattle.moves.specs.Apply.{Choice, apply, own, seen}
 use Rattle.moves.proofs.Apply.{node_at_lem, out_at, turns_edge, turns_mark, output_turns_at, apply_alike}
 use Rattle.moves.proofs.Count.{clash}
 use Rattle.moves.proofs.Flags.{flag_bit}

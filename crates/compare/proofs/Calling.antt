@@ -1,21 +1,20 @@
 -- Refusals and sizes of a comparison: which numbers there are, what is known of graphs that are not refused, and what each test leaves of the call. From
 -- the laws on tests and faults.
-use mathlib.Core.Path.{◌≡◌, refl, sym, ap, ◌∙◌}
+use mathlib.Core.Path.{◌≡◌, refl, ap, ◌∙◌}
 use mathlib.Core.List.{List, [], ◌∷◌}
 use mathlib.Core.Logic.{⊎_elim, ◌≢◌}
 use Prim.Native.Nat.{ℕ, ◌≤◌, ◌<◌}
 use native.Mathlib.Omega.{arith}
 use lib.ListN.{length}
-use Rattle.graph.specs.Admission.{Admitted, tables_number, content_number}
+use Rattle.graph.specs.Admission.{Admitted, content_number}
 use Rattle.graph.specs.Answer.{accepted, refused}
-use Rattle.graph.specs.Finite.{if_less, if_equal}
 use Rattle.graph.specs.Graph.{Graph}
 use Rattle.graph.specs.Inner.{IsRefusal}
 use Rattle.graph.proofs.Admit.{admitted_by}
 use Rattle.graph.proofs.Answers.{tables_le, content_le, first_le, if_less_le}
 use Rattle.graph.proofs.Cases.{eq_or_ne}
 use Rattle.graph.proofs.Tests.{both, off, less, no_less, equal, unequal}
-use Rattle.compare.specs.Compare.{Compared, compared, size_apart, words_compared, graphs_compared, rooms_number, contents_number, compare_number, compare_call}
+use Rattle.compare.specs.Compare.{compared, size_apart, words_compared, graphs_compared, rooms_number, contents_number, compare_number, compare_call}
 
 module _ (g : Graph) (ls : List ℕ) (h : Graph) (ks : List ℕ) where
   compare_le : (b : ℕ) → compare_number g ls h ks b ≤ 13

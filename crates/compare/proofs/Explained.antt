@@ -1,21 +1,18 @@
 -- What two graphs of one wiring come to, by the moves that are told: the definition's answer and bytes. From the law that no choice leads farther.
 use mathlib.Core.Path.{◌≡◌, refl, sym, ap, ◌∙◌}
-use mathlib.Core.Bool.{Bool, true}
 use mathlib.Core.List.{List, [], ◌∷◌}
 use mathlib.Core.Logic.{⊎_elim}
-use Prim.Native.Nat.{ℕ, suc, ◌+◌, ◌-◌, ◌*◌, ◌%◌, ◌≤◌, ◌<◌}
+use Prim.Native.Nat.{ℕ, ◌+◌, ◌-◌, ◌*◌, ◌%◌, ◌≤◌, ◌<◌}
 use native.Mathlib.Omega.{arith}
 use lib.ListN.{length, get_or}
-use Rattle.graph.specs.Admission.{Admitted}
 use Rattle.graph.specs.Answer.{Answer, accepted}
 use Rattle.graph.specs.Finite.{tab, if_less}
-use Rattle.graph.specs.Graph.{Graph, node, word, output, is_edge}
+use Rattle.graph.specs.Graph.{Graph, node, word, output}
 use Rattle.graph.specs.Literals.{bit_at, index_at, literals, graph_in}
 use Rattle.graph.proofs.Cases.{lt_or_le}
 use Rattle.graph.proofs.Finite.{tab_same}
 use Rattle.graph.proofs.Tests.{less, no_less}
 use Rattle.graph.proofs.Words.{edge_low, out_low}
-use Rattle.moves.specs.Apply.{Choice}
 use Rattle.compare.specs.Compare.{passing, places, wired_to, led_to, leading, Compared, compared, place_told, words_compared}
 use Rattle.compare.specs.Telling.{apart, told, fits, out_fits, explained}
 use Rattle.compare.proofs.Agreeing.{second, Alike, Sums, edge_same}

@@ -1,7 +1,7 @@
 -- No choice of the kinds' moves leads farther than the one that is told, and one that leads as far has its moves. So the best of all lists of moves
 -- is told. From the laws of what is told and of `best`.
 use mathlib.Core.Path.{◌≡◌, refl, sym, ap, ap₂, ◌∙◌}
-use mathlib.Core.Bool.{Bool, true, false, cond}
+use mathlib.Core.Bool.{Bool, true, false}
 use mathlib.Core.List.{List, [], ◌∷◌, map}
 use mathlib.Core.Logic.{⊎_elim, ◌≢◌}
 use Prim.Native.Nat.{ℕ, zero, suc, ◌+◌, ◌-◌, ◌*◌, ◌/◌, ◌%◌, ◌≤◌, ◌<◌}
@@ -10,13 +10,11 @@ use borrow.Author.Tests.{eqb-true}
 use lib.Dec.{eqb}
 use lib.ListN.{length, get_or}
 use Rattle.graph.specs.Admission.{Admitted}
-use Rattle.graph.specs.Answer.{accepted}
-use Rattle.graph.specs.Finite.{tab, if_less}
+use Rattle.graph.specs.Finite.{tab}
 use Rattle.graph.specs.Graph.{Graph, node, word, output, index, is_xor, is_edge}
 use Rattle.graph.proofs.Cases.{lt_or_le, eq_or_ne, true_or_false}
-use Rattle.graph.proofs.Finite.{length_tab, get_d_tab, tab_same}
-use Rattle.graph.proofs.Tests.{less, no_less}
-use Rattle.choice.specs.Choice.{best, Fits}
+use Rattle.graph.proofs.Finite.{length_tab, get_d_tab}
+use Rattle.choice.specs.Choice.{Fits}
 use Rattle.choice.proofs.Best.{best_is}
 use Rattle.moves.specs.Apply.{Choice, none, put, apply, own, seen}
 use Rattle.moves.specs.Call.{moved}
@@ -29,10 +27,10 @@ use Rattle.order.specs.Inner.{tells}
 use Rattle.order.specs.Sheets.{every_node}
 use Rattle.order.proofs.Short.{every_length, every_at, node_put}
 use Rattle.order.proofs.Telling.{move_told, seen_same}
-use Rattle.compare.specs.Compare.{passing, places, word_in, wired_to, led_to, leading, Compared, compared, place_told, words_compared}
-use Rattle.compare.specs.Telling.{wanted, wanted_out, told, fits, out_fits, explained}
+use Rattle.compare.specs.Compare.{passing, places, word_in, led_to, leading}
+use Rattle.compare.specs.Telling.{wanted, wanted_out, told, fits, out_fits}
 use Rattle.compare.proofs.Agreeing.{second, Alike, Sums, agree_low, agree_high}
-use Rattle.compare.proofs.Passing.{passing_le, passing_each, passing_most, passing_same, first_stops, both_pass}
+use Rattle.compare.proofs.Passing.{passing_le, passing_each, passing_most, passing_same}
 use Rattle.compare.proofs.Told.{wanted_same, fits_edge, fits_mark, edge_below, early, told_is, first_fits, told_permitted}
 
 -- lists of moves that fit

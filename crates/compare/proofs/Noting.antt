@@ -10,13 +10,13 @@ use borrow.Author.Tests.{eq-eqb, ne_eqb}
 use lib.Dec.{eqb}
 use lib.ListN.{length, get_or}
 use Rattle.graph.specs.Admission.{Admitted}
-use Rattle.graph.specs.Graph.{Graph, graph_of, node, word, output, index, is_xor, is_edge}
+use Rattle.graph.specs.Graph.{Graph, graph_of, node, word, index, is_xor, is_edge}
 use Rattle.graph.specs.Literals.{bit_at}
 use Rattle.graph.specs.Turned.{only}
-use Rattle.graph.proofs.Cases.{eq_or_ne, true_or_false}
+use Rattle.graph.proofs.Cases.{eq_or_ne}
 use Rattle.graph.proofs.Edge.{third_majority}
 use Rattle.graph.proofs.Tests.{equal, unequal}
-use Rattle.moves.specs.Apply.{Choice, none, at, own, seen}
+use Rattle.moves.specs.Apply.{Choice, own, seen}
 use Rattle.moves.specs.Rows.{flag}
 use Rattle.moves.proofs.Compose.{seen_node}
 use Rattle.moves.proofs.Count.{last_or_below}

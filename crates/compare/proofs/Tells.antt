@@ -1,7 +1,6 @@
 -- A comparison tells the moves that lead from one graph to another, the only ones, or the first place that no moves explain. From the law that no choice
 -- leads farther than the one that is told.
 use mathlib.Core.Path.{◌≡◌, refl, sym, ap, ◌∙◌}
-use mathlib.Core.Bool.{Bool, true}
 use mathlib.Core.List.{List, [], ◌∷◌}
 use mathlib.Core.Logic.{⊎_elim}
 use Prim.Native.Nat.{ℕ, suc, ◌+◌, ◌-◌, ◌*◌, ◌≤◌, ◌<◌}
@@ -11,22 +10,21 @@ use lib.Dec.{eqb}
 use lib.ListN.{length, get_or}
 use Rattle.graph.specs.Admission.{Admitted}
 use Rattle.graph.specs.Answer.{Answer, accepted}
-use Rattle.graph.specs.Finite.{tab, if_less, if_equal}
-use Rattle.graph.specs.Graph.{Graph, graph_of, node, word, output, is_edge, wire, output_wire}
+use Rattle.graph.specs.Finite.{if_equal}
+use Rattle.graph.specs.Graph.{Graph, node, word, output, is_edge, wire, output_wire}
 use Rattle.graph.proofs.Alike.{alike_edge}
 use Rattle.graph.proofs.Cases.{lt_or_le}
 use Rattle.graph.proofs.Finite.{get_d_tab}
 use Rattle.graph.proofs.Tests.{less, no_less, equal, unequal}
 use Rattle.moves.specs.Apply.{Choice, apply}
-use Rattle.moves.specs.Compose.{Permitted}
 use Rattle.moves.proofs.Apply.{apply_alike}
-use Rattle.compare.specs.Compare.{passing, places, word_in, wire_in, wired_to, led_to, leading, Compared, compared, place_told, size_apart, words_compared, graphs_compared}
-use Rattle.compare.specs.Promises.{LeadsTo, Leads, Unexplained, Tells}
+use Rattle.compare.specs.Compare.{places, wire_in, wired_to, led_to, leading, Compared, compared, place_told, size_apart, words_compared, graphs_compared}
+use Rattle.compare.specs.Promises.{LeadsTo, Unexplained, Tells}
 use Rattle.compare.specs.Telling.{told}
 use Rattle.compare.proofs.Agreeing.{second, Alike, Sums, low_word, high_word, low_wire, high_wire}
 use Rattle.compare.proofs.Calling.{sizes_same, sizes_told}
 use Rattle.compare.proofs.Explained.{left, reached, past_wires}
-use Rattle.compare.proofs.Leading.{agrees, far, low, farthest, chosen, list_at, list_permitted, same_agrees, led_is, best_fits, led_far, led_told, told_below}
+use Rattle.compare.proofs.Leading.{agrees, low, farthest, chosen, list_at, list_permitted, same_agrees, led_is, best_fits, led_far, led_told, told_below}
 use Rattle.compare.proofs.Passing.{passing_le, passing_each, passing_is, passing_most}
 
 -- what an answer begins with, and the place of the row that it tells

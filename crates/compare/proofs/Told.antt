@@ -7,15 +7,14 @@ use Prim.Native.Nat.{ℕ, zero, suc, ◌+◌, ◌*◌, ◌/◌, ◌%◌, ◌≤�
 use native.Mathlib.Omega.{arith}
 use borrow.Author.Tests.{eq-eqb}
 use lib.Dec.{eqb}
-use lib.ListN.{get_or}
 use Rattle.graph.specs.Admission.{Admitted}
 use Rattle.graph.specs.Finite.{if_less}
 use Rattle.graph.specs.Graph.{Graph, node, word, index, is_xor, is_edge}
 use Rattle.graph.proofs.Cases.{true_or_false}
 use Rattle.graph.proofs.Edge.{edge_early, third_majority, third_xor}
-use Rattle.moves.specs.Apply.{Choice, at, own, seen}
+use Rattle.moves.specs.Apply.{Choice, own, seen}
 use Rattle.moves.specs.Compose.{Permitted}
-use Rattle.moves.specs.Rows.{rows, first_row, arity, flag, kind_moves}
+use Rattle.moves.specs.Rows.{rows, first_row, arity, flag}
 use Rattle.moves.proofs.Changed.{at_same, at_other, own_at}
 use Rattle.moves.proofs.Count.{last_or_below}
 use Rattle.moves.proofs.Moves.{kind_moves_lem}

@@ -3,18 +3,18 @@ use mathlib.Core.Path.{◌≡◌, sym, ap, ap₂, ◌∙◌}
 use mathlib.Core.Bool.{Bool, true, false}
 use mathlib.Core.List.{List}
 use mathlib.Core.Logic.{⊎_elim, ◌≢◌}
-use Prim.Native.Nat.{ℕ, ◌+◌, ◌-◌, ◌*◌, ◌/◌, ◌≤◌, ◌<◌}
+use Prim.Native.Nat.{ℕ, ◌+◌, ◌-◌, ◌*◌, ◌<◌}
 use native.Mathlib.Omega.{arith}
 use lib.Dec.{eqb}
 use lib.ListN.{get_or}
 use Rattle.graph.specs.Admission.{Admitted}
-use Rattle.graph.specs.Graph.{Graph, graph_of, word, output, index, is_edge, wire, output_wire, mark}
-use Rattle.graph.specs.Literals.{index_at, bit_at, literal_of, literals, held, graph_in}
+use Rattle.graph.specs.Graph.{Graph, index, is_edge, wire, output_wire, mark}
+use Rattle.graph.specs.Literals.{index_at, bit_at, literals, held, graph_in}
 use Rattle.graph.proofs.Cases.{eq_or_ne, true_or_false}
 use Rattle.graph.proofs.Edge.{edge_none}
 use Rattle.graph.proofs.Literals.{bit_at_le, index_at_le, edge_parts, held_at, literal_no_mark}
 use Rattle.graph.proofs.Words.{edge_low, out_low}
-use Rattle.compare.specs.Compare.{passing, places, wire_in, wired_to}
+use Rattle.compare.specs.Compare.{passing, wire_in, wired_to}
 use Rattle.compare.proofs.Agreeing.{low_wire, high_wire}
 use Rattle.compare.proofs.Passing.{passing_same, first_stops, both_pass}
 

@@ -1,7 +1,8 @@
 // Two graphs compared: the moves that lead from the first to the second, or the first place where they differ otherwise.
 #![tactic(auto)]
+
 ghost use Rattle.std.specs.Prelude.{◌≡◌};
-ghost use Rattle.graph.specs.Literals.{before, after, graph_before};
+ghost use Rattle.graph.specs.Literals.{graph_in};
 ghost use Rattle.compare.specs.Compare.{compared, comparison_answer, compare_call};
 
 mod explaining;
@@ -39,9 +40,9 @@ pub fn compare(
     second_locks: &[u8],
     moves: &mut [u8],
 ) -> Comparison
-    ensures { let g = graph_before inputs nodes outputs node_table node_bits output_table output_bits in
-        let h = graph_before second_inputs second_nodes second_outputs second_node_table second_node_bits second_output_table second_output_bits in
-        compared (comparison_answer result) (after moves) ≡ compare_call g (before locks) h (before second_locks) (before moves) }
+    ensures { let g = graph_in inputs nodes outputs node_table.now node_bits.now output_table.now output_bits.now in
+        let h = graph_in second_inputs second_nodes second_outputs second_node_table.now second_node_bits.now second_output_table.now second_output_bits.now in
+        compared (comparison_answer result) moves.new ≡ compare_call g locks.now h second_locks.now moves.old }
 {
     let number = faults::compare_number(
         inputs,

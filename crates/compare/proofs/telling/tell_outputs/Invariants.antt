@@ -1,0 +1,18 @@
+-- `tell_outputs` meets its contract: the outputs passed are turned as they are to be. From what is said of the first that does not pass.
+use mathlib.Core.Path.{◌≡◌}
+use mathlib.Core.Bool.{true}
+use mathlib.Core.List.{List}
+use Prim.Native.Nat.{ℕ, ◌-◌, ◌≤◌, ◌<◌}
+use lib.Dec.{eqb}
+use Rattle.graph.specs.Literals.{literals}
+use Rattle.compare.specs.Telling.{own_turn}
+use Rattle.compare.proofs.telling.tell_outputs.Given as goal
+
+abbrev pub None : List ℕ → List ℕ → List ℕ → ℕ → Type 0
+None sn l es j = (i : ℕ) → i < j → eqb (own_turn sn l es i) 0 ≡ true
+
+abbrev pub invariant-loop-j : goal.invariant-loop-j
+invariant-loop-j l = (l.j ≤ l.outputs) × None l.seen (literals l.output_table l.output_bits) l.second_output_bits l.j
+
+abbrev pub decreases-loop-j : goal.decreases-loop-j
+decreases-loop-j l = l.outputs - l.j
