@@ -1,7 +1,8 @@
 #![tactic(auto)]
+
 ghost use Rattle.std.specs.Prelude.{◌≡◌, length};
 ghost use Rattle.graph.specs.Answer.{outcome, ScratchKept};
-ghost use Rattle.graph.specs.Literals.{before, after, graph_before, graph_after};
+ghost use Rattle.graph.specs.Literals.{graph_in};
 ghost use Rattle.hidden.specs.Truth.{triple};
 ghost use Rattle.hidden.specs.Call.{majority_answer, majority_call};
 
@@ -31,10 +32,10 @@ pub fn majority_call(
     three: u32,
     scratch: &mut [u32],
 ) -> Majority
-    ensures outcome { let g = graph_before inputs nodes outputs node_table node_bits output_table output_bits in
-        let h = graph_after inputs nodes outputs node_table node_bits output_table output_bits in
-        outcome (majority_answer result) h ≡ majority_call g (before locks) (length (before scratch)) (triple one two three) node }
-    ensures scratch { ScratchKept (majority_answer result) (before scratch) (after scratch) }
+    ensures outcome { let g = graph_in inputs nodes outputs node_table.old node_bits.old output_table.now output_bits.now in
+        let h = graph_in inputs nodes outputs node_table.new node_bits.new output_table.now output_bits.now in
+        outcome (majority_answer result) h ≡ majority_call g locks.now (length scratch.old) (triple one two three) node }
+    ensures scratch { ScratchKept (majority_answer result) scratch.old scratch.new }
 {
     let number = faults::majority_number(
         inputs,
