@@ -1,8 +1,9 @@
 // A graph as ASCII AIGER text.
 #![tactic(auto)]
+
 ghost use Rattle.std.specs.Prelude.{◌≡◌};
 ghost use Rattle.graph.specs.Answer.{ScratchKept};
-ghost use Rattle.graph.specs.Literals.{before, after, graph_before};
+ghost use Rattle.graph.specs.Literals.{before, graph_before};
 ghost use Rattle.tagged_file.specs.Write.{written_answer, write_outcome};
 ghost use Rattle.aiger.specs.Export.{export_call};
 
@@ -29,8 +30,8 @@ pub fn export(
     buffer: &mut [u8],
 ) -> Written
     ensures outcome { let g = graph_before inputs nodes outputs node_table node_bits output_table output_bits in
-        write_outcome (written_answer result) (after buffer) ≡ export_call g (before locks) (before scratch) (before buffer) }
-    ensures scratch { ScratchKept (written_answer result) (before scratch) (after scratch) }
+        write_outcome (written_answer result) buffer.new ≡ export_call g (before locks) scratch.old buffer.old }
+    ensures scratch { ScratchKept (written_answer result) scratch.old scratch.new }
 {
     let number = faults::export_number(
         inputs,

@@ -1,0 +1,13 @@
+-- `put_outputs` meets its contract: the lines that are left come to the whole. From the laws on parts in a row.
+use Rattle.graph.specs.Graph.{graph_of}
+use Rattle.tagged_file.proofs.Emitted.{Left}
+use Rattle.aiger_export.specs.Inner.{output_line}
+use Rattle.graph.specs.Literals.{literals}
+use Rattle.aiger_export.proofs.text.put_outputs.Given as goal
+
+abbrev pub invariant-loop-left : goal.invariant-loop-left
+invariant-loop-left l =
+    Left (output_line (graph_of l.inputs l.nodes l.outputs (literals l.node_table l.node_bits) (literals l.output_table l.output_bits))) l.outputs l.start l.initial.buffer l.buffer l.at l.j l.left
+
+abbrev pub decreases-loop-left : goal.decreases-loop-left
+decreases-loop-left l = l.left
