@@ -11,7 +11,6 @@ use Rattle.graph.specs.Graph.{Graph}
 use Rattle.graph.proofs.Cases.{lt_or_le, eq_or_ne}
 use Rattle.graph.proofs.Tests.{less, no_less, equal, unequal, fault, none, all_none}
 use Rattle.rounds.specs.Settle.{settle_call}
-use Rattle.class_figures.specs.Figures.{afresh}
 use Rattle.class_figures.specs.Call.{record_length, figure_number, record_number, length_number, class_number, entered, ClassOutcome, guarded_class, settled_in, class_call, figures_number}
 use Rattle.class_figures.specs.Promises.{Handed, number_for, row_for, record_after, one_more, rows_after, Empty, AlwaysAfresh, TakesAThousand}
 use Rattle.class_figures.proofs.Refusing.{low_figure}

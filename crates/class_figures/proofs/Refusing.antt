@@ -14,7 +14,7 @@ use Rattle.graph.specs.Admission.{tables_number}
 use Rattle.graph.specs.Graph.{Graph}
 use Rattle.graph.proofs.Answers.{if_less_le, first_le, first_of_le, tables_le}
 use Rattle.graph.proofs.Cases.{lt_or_le}
-use Rattle.graph.proofs.Tests.{less, no_less, both, on, off, all_none, each_none, none}
+use Rattle.graph.proofs.Tests.{less, no_less, both, on, off, all_none, each_none}
 use Rattle.class_figures.specs.Call.{record_length, figure_number, record_number, length_number, figures_number}
 use Rattle.class_figures.specs.Inner.{Roomy}
 

@@ -1,6 +1,6 @@
 // Cells of nodes: 12 an XOR, 5 a majority.
 ghost use Rattle.std.specs.Prelude.{◌≡◌, cond, ◌≤◌};
-ghost use Rattle.graph.specs.Literals.{literals, table_before};
+ghost use Rattle.graph.specs.Literals.{literals};
 ghost use Rattle.class_figures.specs.Inner.{Countable, node_cells};
 
 use moves::rows;
@@ -16,7 +16,7 @@ fn kind_cells(xor: bool) -> u32
 
 pub fn node_cells(nodes: u32, node_table: &[u32], node_bits: &[u64]) -> u32
     requires { Countable nodes (literals node_table.now node_bits.now) }
-    ensures { result ≡ node_cells nodes (table_before node_table node_bits) }
+    ensures { result ≡ node_cells nodes (literals node_table.now node_bits.now) }
 {
     let mut cells: u32 = 0;
     let mut v: u32 = 0;

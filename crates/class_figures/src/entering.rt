@@ -1,6 +1,6 @@
 // A row entered into the record.
 ghost use Rattle.std.specs.Prelude.{◌≡◌, ℕ, ◌≤◌, ◌<◌, length, get_or};
-ghost use Rattle.graph.specs.Literals.{before, after, literals, table_before};
+ghost use Rattle.graph.specs.Literals.{literals};
 ghost use Rattle.settling.specs.Settle.{settled_answer};
 ghost use Rattle.class_figures.specs.Call.{entered_at, entered};
 ghost use Rattle.class_figures.specs.Inner.{Roomy, Countable, node_cells, entered_by};
@@ -11,7 +11,7 @@ use settling::Settled;
 // The word at place j after one more row.
 fn word_after(book: &[u64], row: &[u64; 5], j: usize) -> u64
     requires { (86 ≤ length book.now) × (j < 86) × (get_or book.now j 0 < 1099511627776) × ((k : ℕ) → k < 5 → get_or row.now k 0 < 1099511627776) }
-    ensures { result ≡ entered_at (before row) (before book) j }
+    ensures { result ≡ entered_at row.now book.now j }
 {
     if j == 0 {
         return book[0] + 1;
@@ -28,7 +28,7 @@ fn word_after(book: &[u64], row: &[u64; 5], j: usize) -> u64
 // From the last word down, so that a row is moved before another is put in its place.
 fn enter_row(book: &mut [u64], row: &[u64; 5])
     requires { Roomy book.old × ((k : ℕ) → k < 5 → get_or row.now k 0 < 1099511627776) }
-    ensures { after book ≡ entered (before row) (before book) }
+    ensures { book.new ≡ entered row.now book.old }
 {
     let mut j: usize = 86;
     while 0 < j {
@@ -47,7 +47,7 @@ pub fn enter_settled(
     book: &mut [u64],
 )
     requires { Roomy book.old × ((settled_answer settled).number ≡ 0 → Countable nodes (literals node_table.now node_bits.now)) }
-    ensures { after book ≡ entered_by (settled_answer settled) (node_cells nodes (table_before node_table node_bits)) (before book) }
+    ensures { book.new ≡ entered_by (settled_answer settled) (node_cells nodes (literals node_table.now node_bits.now)) book.old }
 {
     match settled {
         Settled::Rounds {

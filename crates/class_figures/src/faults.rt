@@ -2,7 +2,7 @@
 ghost use Rattle.std.specs.Prelude.{◌≡◌, min, get_or};
 ghost use Rattle.graph.specs.Finite.{first};
 ghost use Rattle.graph.specs.Admission.{tables_number};
-ghost use Rattle.graph.specs.Literals.{before, graph_before};
+ghost use Rattle.graph.specs.Literals.{graph_in};
 ghost use Rattle.class_figures.specs.Call.{record_number, length_number, figures_number};
 
 use graph::faults::first_fault;
@@ -18,7 +18,7 @@ fn lesser(a: usize, b: usize) -> usize
 
 // How many graphs a record counts.
 fn counted(book: &[u64]) -> u64
-    ensures { result ≡ get_or (before book) 0 0 }
+    ensures { result ≡ get_or book.now 0 0 }
 {
     if book.len() == 0 {
         return 0;
@@ -28,7 +28,7 @@ fn counted(book: &[u64]) -> u64
 
 // 3 where a record counts too many, or holds a figure of 2 to the 40th or above.
 fn record_number(limit: u64, book: &[u64]) -> u32
-    ensures { result ≡ record_number limit (before book) }
+    ensures { result ≡ record_number limit book.now }
 {
     if limit <= counted(book) {
         return 3;
@@ -45,7 +45,7 @@ fn record_number(limit: u64, book: &[u64]) -> u32
 }
 
 fn length_number(book: &[u64]) -> u32
-    ensures { result ≡ length_number (before book) }
+    ensures { result ≡ length_number book.now }
 {
     if book.len() < 86 {
         return 4;
@@ -65,8 +65,8 @@ pub fn early_number(
     locks: &[u8],
     book: &[u64],
 ) -> u32
-    ensures { let g = graph_before inputs nodes outputs node_table node_bits output_table output_bits in
-        result ≡ first (record_number 1000 (before book)) (first (tables_number g (before locks)) (length_number (before book))) }
+    ensures { let g = graph_in inputs nodes outputs node_table.now node_bits.now output_table.now output_bits.now in
+        result ≡ first (record_number 1000 book.now) (first (tables_number g locks.now) (length_number book.now)) }
 {
     let full = record_number(1000, book);
     let room = graph::faults::tables_number(
@@ -83,7 +83,7 @@ pub fn early_number(
 }
 
 pub fn figures_number(book: &[u64]) -> u32
-    ensures { result ≡ figures_number (before book) }
+    ensures { result ≡ figures_number book.now }
 {
     first_fault(record_number(1001, book), length_number(book))
 }

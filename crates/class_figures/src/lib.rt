@@ -1,8 +1,9 @@
 // Figures for a class: graphs settled one after another, with the sums over all of them and over the latest sixteen in a lent record.
 #![tactic(auto)]
+
 ghost use Rattle.std.specs.Prelude.{◌≡◌, length};
 ghost use Rattle.graph.specs.Answer.{ScratchKept};
-ghost use Rattle.graph.specs.Literals.{before, after, graph_before, graph_after};
+ghost use Rattle.graph.specs.Literals.{graph_in};
 ghost use Rattle.settling.specs.Settle.{settled_answer};
 ghost use Rattle.class_figures.specs.Call.{class_outcome, class_call, figures_answer, figures_call};
 
@@ -43,10 +44,10 @@ pub fn enter(
     scratch: &mut [u32],
     book: &mut [u64],
 ) -> Settled
-    ensures call { let g = graph_before inputs nodes outputs node_table node_bits output_table output_bits in
-        let k = graph_after inputs nodes outputs node_table node_bits output_table output_bits in
-        class_outcome (settled_answer result) k (after book) ≡ class_call (before book) g (before locks) (length (before scratch)) }
-    ensures scratch { ScratchKept (settled_answer result) (before scratch) (after scratch) }
+    ensures call { let g = graph_in inputs nodes outputs node_table.now node_bits.old output_table.now output_bits.old in
+        let k = graph_in inputs nodes outputs node_table.now node_bits.new output_table.now output_bits.new in
+        class_outcome (settled_answer result) k book.new ≡ class_call book.old g locks.now (length scratch.old) }
+    ensures scratch { ScratchKept (settled_answer result) scratch.old scratch.new }
 {
     let number = faults::early_number(
         inputs,
@@ -79,7 +80,7 @@ pub fn enter(
 
 // The figures of all graphs entered where `latest` is 0, and else those of the latest sixteen.
 pub fn figures(book: &[u64], latest: u32) -> ClassFigures
-    ensures { figures_answer result ≡ figures_call (before book) latest }
+    ensures { figures_answer result ≡ figures_call book.now latest }
 {
     let number = faults::figures_number(book);
     if number != 0 {

@@ -1,6 +1,5 @@
 // The figures read from a record.
 ghost use Rattle.std.specs.Prelude.{◌≡◌, ◌≤◌, ◌<◌, min};
-ghost use Rattle.graph.specs.Literals.{before};
 ghost use Rattle.class_figures.specs.Call.{figures_answer, latest_total, all_of, latest_of};
 ghost use Rattle.class_figures.specs.Inner.{Roomy};
 
@@ -18,7 +17,7 @@ fn at_most(n: u64) -> u64
 
 pub fn all(book: &[u64]) -> ClassFigures
     requires { Roomy book.now }
-    ensures { figures_answer result ≡ all_of (before book) }
+    ensures { figures_answer result ≡ all_of book.now }
 {
     let before = book[1];
     let after = book[2];
@@ -39,7 +38,7 @@ pub fn all(book: &[u64]) -> ClassFigures
 // The sum of figure k over the sixteen rows.
 fn latest_total(book: &[u64], k: usize) -> u64
     requires { Roomy book.now × (k < 5) }
-    ensures { (result ≡ latest_total (before book) k) × (result ≤ 17592186044416) }
+    ensures { (result ≡ latest_total book.now k) × (result ≤ 17592186044416) }
 {
     let mut sum: u64 = 0;
     let mut i: usize = 0;
@@ -52,7 +51,7 @@ fn latest_total(book: &[u64], k: usize) -> u64
 
 pub fn latest(book: &[u64]) -> ClassFigures
     requires { Roomy book.now }
-    ensures { figures_answer result ≡ latest_of (before book) }
+    ensures { figures_answer result ≡ latest_of book.now }
 {
     let before = latest_total(book, 0);
     let after = latest_total(book, 1);
