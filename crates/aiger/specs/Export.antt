@@ -1,5 +1,6 @@
 -- The ASCII AIGER text of a graph, and what exporting answers and leaves in the buffer.
-use Rattle.graph.specs.All.{ℕ, zero, suc, ◌+◌, ◌-◌, ◌*◌, ◌%◌, cond, List, [], ◌∷◌, ◌++◌, length, if_less, first, sum, tab, Graph, index, turn, word, output, is_xor, admission_number, decimal}
+use Rattle.std.specs.Prelude.{◌+◌, ◌-◌, ◌*◌, ◌%◌, ◌∷◌, ◌++◌}
+use Rattle.graph.specs.All.{ℕ, zero, suc, cond, List, [], length, if_less, first, sum, tab, Graph, index, turn, word, output, is_xor, admission_number, decimal}
 use Rattle.tagged_file.specs.All.{WriteOutcome, write_by}
 
 -- how many ANDs a node takes, and all nodes below v

@@ -1,5 +1,6 @@
 -- Importing ASCII AIGER: the first fault from front to back, and the graph, whose nodes are all free.
-use Rattle.graph.specs.All.{ℕ, ◌+◌, ◌*◌, ◌%◌, List, [], ◌∷◌, length, get_or, drop, if_less, if_equal, first, first_of, tab, Graph, graph_of, index, held, filled, room_number, accepted, LockedOutcome, locked_outcome, guarded_locks}
+use Rattle.std.specs.Prelude.{◌+◌, ◌*◌, ◌%◌, ◌∷◌}
+use Rattle.graph.specs.All.{ℕ, List, [], length, get_or, drop, if_less, if_equal, first, first_of, tab, Graph, graph_of, index, held, filled, room_number, accepted, LockedOutcome, locked_outcome, guarded_locks}
 use Rattle.tagged_file.specs.All.{blank, free_locks}
 use Rattle.aiger.specs.Lines.{number, skip, number_at, line_number}
 

@@ -1,5 +1,6 @@
 -- What importing ASCII AIGER promises beside its definition (M-100).
-use Rattle.graph.specs.All.{ℕ, ◌<◌, ◌≡◌, List, ◌++◌, ◌⊎◌, Graph, Assignment, output_value, Admitted, LockedOutcome}
+use Rattle.std.specs.Prelude.{◌<◌, ◌≡◌, ◌++◌, ◌⊎◌}
+use Rattle.graph.specs.All.{ℕ, List, Graph, Assignment, output_value, Admitted, LockedOutcome}
 use Rattle.aiger.specs.{Import.import_call, Export.export_text}
 
 -- the outcome o of importing the export of g: it is refused by 3 or 4 only, and otherwise both graphs have as many inputs and outputs, and

@@ -1,5 +1,6 @@
 -- What an answer leaves at a place that its caller lends.
-use Rattle.graph.specs.All.{ℕ, List, [], ◌∷◌, get_or, ℤ, Answer}
+use Rattle.std.specs.Prelude.{◌∷◌}
+use Rattle.graph.specs.All.{ℕ, List, [], get_or, ℤ, Answer}
 
 -- numbers at that place afterwards: the values answered, or what was there where none are, as by a refused call
 abbrev pub told_by : {A : Type 0} → List A → List A → List A

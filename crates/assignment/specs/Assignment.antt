@@ -1,5 +1,6 @@
 -- An assignment for a wanted output (document 02): the least one that gives the pattern, or none.
-use Rattle.graph.specs.All.{ℕ, zero, suc, ◌^◌, List, [], ◌∷◌, length, get_or, if_less, if_equal, first, first_of, Graph, Assignment, output_value, bit, tables_number, content_number, Answer, accepted, refused, number_of, unless}
+use Rattle.std.specs.Prelude.{◌^◌, ◌∷◌}
+use Rattle.graph.specs.All.{ℕ, zero, suc, List, [], length, get_or, if_less, if_equal, first, first_of, Graph, Assignment, output_value, bit, tables_number, content_number, Answer, accepted, refused, number_of, unless}
 use Rattle.evaluation.specs.All.{scratch_number}
 use Rattle.assignment.specs.declared.Assigned.{Assigned}
 use Rattle.assignment.specs.declared.Assigned.TheVariants as assigned

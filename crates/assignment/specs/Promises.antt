@@ -1,6 +1,7 @@
 -- What the least assignment is, without a search: it gives the pattern, no assignment with a lower number does, and nothing is found just
 -- where no assignment at all gives it.
-use Rattle.graph.specs.All.{ℕ, ◌%◌, ◌^◌, ◌≤◌, ◌<◌, ◌≡◌, List, [], ◌∷◌, get_or, Graph, Assignment, output_value}
+use Rattle.std.specs.Prelude.{◌%◌, ◌^◌, ◌≤◌, ◌<◌, ◌≡◌, ◌∷◌}
+use Rattle.graph.specs.All.{ℕ, List, [], get_or, Graph, Assignment, output_value}
 use Rattle.evaluation.specs.All.{gather}
 use Rattle.assignment.specs.Assignment.{numbered, least_assignment}
 use Rattle.assignment.specs.Worked.{Worked}

@@ -1,5 +1,6 @@
 -- Worked assignments: a full adder, an output that no assignment gives, and the order of the faults.
-use Rattle.graph.specs.All.{◌≡◌, List, [], ◌∷◌, map, ℕ, graph_of, mark}
+use Rattle.std.specs.Prelude.{◌≡◌, ◌∷◌}
+use Rattle.graph.specs.All.{List, [], map, ℕ, graph_of, mark}
 use Rattle.assignment.specs.Assignment.{least_assignment, assignment_number}
 
 -- a full adder of inputs 1 to 3: the carry, and the sum by two XORs; wanted are the carry and the sum

@@ -1,5 +1,6 @@
 -- The record of a class in a lent slice, the call that settles a graph and enters it, and the figures that are read from it.
-use Rattle.graph.specs.All.{ℕ, zero, suc, ◌+◌, ◌-◌, ◌*◌, min, List, [], ◌∷◌, length, get_or, tab, sum, if_less, if_equal, first, first_of, Graph, tables_number, content_number, Answer, refused, number_of, unless, Outcome}
+use Rattle.std.specs.Prelude.{◌+◌, ◌-◌, ◌*◌, ◌∷◌}
+use Rattle.graph.specs.All.{ℕ, zero, suc, min, List, [], length, get_or, tab, sum, if_less, if_equal, first, first_of, Graph, tables_number, content_number, Answer, refused, number_of, unless, Outcome}
 use Rattle.moves.specs.All.{scratch_fault}
 use Rattle.rounds.specs.All.{settle_call}
 use Rattle.class_figures.specs.Figures.{row_of, figures}

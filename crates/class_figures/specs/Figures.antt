@@ -1,5 +1,6 @@
 -- The figures of a class, worked out from its graphs (document 02).
-use Rattle.graph.specs.All.{ℕ, ◌+◌, ◌*◌, cond, List, [], ◌∷◌, length, get_or, sum, pos, difference, Graph, is_xor, C, Answer, Outcome}
+use Rattle.std.specs.Prelude.{◌+◌, ◌*◌, ◌∷◌}
+use Rattle.graph.specs.All.{ℕ, cond, List, [], length, get_or, sum, pos, difference, Graph, is_xor, C, Answer, Outcome}
 
 -- cells: 13 an inverter, 12 an XOR, 5 a majority
 unfoldable pub kind_cells : Graph → ℕ → ℕ

@@ -1,6 +1,7 @@
 -- What a class promises beside its definition: from an empty record, which only the call writes, both figures always are those worked out
 -- afresh.
-use Rattle.graph.specs.All.{ℕ, ◌≤◌, ◌<◌, ◌≡◌, List, [], ◌∷◌, length, get_or, take, tab, pos, if_less, if_equal, Graph, graph_of, mark, Answer}
+use Rattle.std.specs.Prelude.{◌≤◌, ◌<◌, ◌≡◌, ◌∷◌}
+use Rattle.graph.specs.All.{ℕ, List, [], length, get_or, take, tab, pos, if_less, if_equal, Graph, graph_of, mark, Answer}
 use Rattle.rounds.specs.All.{settle_number, settle_call}
 use Rattle.class_figures.specs.Figures.{row_of, afresh}
 use Rattle.class_figures.specs.Call.{record_length, class_number, class_call, all_of, latest_of, figures_number}

@@ -1,6 +1,7 @@
 -- Two graphs compared, which is M-111 the other way round: the moves that lead from the first to the second, or the first place where they
 -- differ otherwise.
-use Rattle.graph.specs.All.{ℕ, zero, suc, ◌+◌, ◌-◌, ◌*◌, Bool, cond, List, [], ◌∷◌, map, eqb, length, get_or, tab, if_less, if_equal, first, Graph, word, output, wire, output_wire, tables_number, content_number, Answer, accepted, refused, number_of}
+use Rattle.std.specs.Prelude.{◌+◌, ◌-◌, ◌*◌, ◌∷◌}
+use Rattle.graph.specs.All.{ℕ, zero, suc, Bool, cond, List, [], map, eqb, length, get_or, tab, if_less, if_equal, first, Graph, word, output, wire, output_wire, tables_number, content_number, Answer, accepted, refused, number_of}
 use Rattle.choice.specs.All.{best}
 use Rattle.moves.specs.All.{kind_moves, moved}
 use Rattle.order.specs.All.{every_node}

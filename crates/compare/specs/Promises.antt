@@ -1,6 +1,7 @@
 -- What a comparison promises beside its definition (M-111): the moves told lead from the first graph to the second, no other moves do, and a place told is
 -- the first that no moves explain together with all before it.
-use Rattle.graph.specs.All.{ℕ, suc, ◌≤◌, ◌<◌, ◌≡◌, List, [], ◌∷◌, length, get_or, Graph, node, Admitted, accepted}
+use Rattle.std.specs.Prelude.{◌≤◌, ◌<◌, ◌≡◌, ◌∷◌}
+use Rattle.graph.specs.All.{ℕ, suc, List, [], length, get_or, Graph, node, Admitted, accepted}
 use Rattle.moves.specs.All.{Choice, apply}
 use Rattle.moves.specs.Compose.{Permitted}
 use Rattle.compare.specs.Compare.{places, word_in, place_told, graphs_compared}

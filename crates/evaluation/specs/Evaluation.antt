@@ -1,5 +1,6 @@
 -- What evaluation answers, and the result words that it leaves.
-use Rattle.graph.specs.All.{ℕ, List, [], ◌++◌, length, get_or, drop, tab, if_less, if_equal, first, Graph, Assignment, output_value, bit, tables_number, content_number, Answer, accepted, refused, number_of}
+use Rattle.std.specs.Prelude.{◌++◌}
+use Rattle.graph.specs.All.{ℕ, List, [], length, get_or, drop, tab, if_less, if_equal, first, Graph, Assignment, output_value, bit, tables_number, content_number, Answer, accepted, refused, number_of}
 use Rattle.evaluation.specs.{Word.gather, declared.Evaluated.Evaluated}
 use Rattle.evaluation.specs.declared.Evaluated.TheVariants.{Done, Refused}
 

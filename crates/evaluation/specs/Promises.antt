@@ -1,5 +1,6 @@
 -- What an evaluation promises beside its definition.
-use Rattle.graph.specs.All.{ℕ, ◌<◌, ◌≡◌, List, length, get_or, Graph, bit, output_value}
+use Rattle.std.specs.Prelude.{◌<◌, ◌≡◌}
+use Rattle.graph.specs.All.{ℕ, List, length, get_or, Graph, bit, output_value}
 use Rattle.evaluation.specs.Evaluation.{assignment_at, evaluate_number, results_after}
 
 -- where nothing is refused, bit j of result o is the output's value under the assignment of place j

@@ -1,5 +1,6 @@
 -- A word of so many bits, from its bits.
-use Rattle.graph.specs.All.{ℕ, zero, suc, ◌+◌, ◌*◌, ◌^◌}
+use Rattle.std.specs.Prelude.{◌+◌, ◌*◌, ◌^◌}
+use Rattle.graph.specs.All.{ℕ, zero, suc}
 
 -- the word of k bits whose bit j is f j
 unfoldable pub gather : (ℕ → ℕ) → ℕ → ℕ

@@ -1,6 +1,7 @@
 -- The tagged file of document 01, with document 02's locks: what a field is, the number that refuses it, and the walk of the
 -- loader.
-use Rattle.graph.specs.All.{ℕ, zero, suc, ◌+◌, ◌*◌, List, [], ◌∷◌, length, get_or, take, drop, if_less, if_equal, first, mark, index, room_number}
+use Rattle.std.specs.Prelude.{◌+◌, ◌*◌, ◌∷◌}
+use Rattle.graph.specs.All.{ℕ, zero, suc, List, [], length, get_or, take, drop, if_less, if_equal, first, mark, index, room_number}
 
 -- big-endian numbers of two and of four bytes, from this place on
 unfoldable pub be2 : List ℕ → ℕ → ℕ

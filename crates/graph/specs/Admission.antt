@@ -1,6 +1,7 @@
 -- Which graphs and locks are admitted, and which of the numbers 3, 4, 5 and 13 comes first. Locks are a byte a node beside the graph, 1
 -- for locked and 0 for free; only the first N belong to it.
-use Rattle.graph.specs.Words.{ℕ, ◌*◌, ◌/◌, ◌≤◌, ◌<◌, true, cond, ◌≡◌, List, length, get_or}
+use Rattle.std.specs.Prelude.{◌*◌, ◌/◌, ◌≤◌, ◌<◌, ◌≡◌}
+use Rattle.graph.specs.Words.{ℕ, true, cond, List, length, get_or}
 use Rattle.graph.specs.{Finite.if_less, Finite.first, Finite.first_of, Graph.Graph, Graph.node, Graph.word, Graph.output, Graph.index, Graph.is_edge, Literals.held, Literals.strays}
 
 -- 3: I, N or O above its limit; then 4: a lent table that holds so many literals, or a slice of so many lock bytes, too short

@@ -1,6 +1,6 @@
 -- What calls answer: document 01's number, and the values returned.
-use Rattle.std.specs.Prelude.{◌≢◌}
-use Rattle.graph.specs.Words.{ℕ, zero, suc, ◌≡◌, List, [], ◌∷◌, get_or, ℤ, pos, ◌+ℤ◌}
+use Rattle.std.specs.Prelude.{◌≢◌, ◌≡◌, ◌∷◌, ◌+ℤ◌}
+use Rattle.graph.specs.Words.{ℕ, zero, suc, List, [], get_or, ℤ, pos}
 use Rattle.graph.specs.{Graph.Graph, declared.Refusal.Refusal, declared.Admission.Admission, declared.Count.Count}
 use Rattle.graph.specs.declared.Refusal.TheVariants.{MissingBytes, WrongField, OverLimit, ShortSlice, BadLiteral, ExtraBytes, NoSuchNode, ShortScratch, ShortBuffer, BadText, HasLatches, WrongNumbering, BadLock, NotRising, NoSuchMove, LockedNode, ManyInputs, BadWanted, StagesDiffer}
 use Rattle.graph.specs.declared.Admission.TheVariants as admission

@@ -1,5 +1,6 @@
 -- Complemented edges, and readers.
-use Rattle.graph.specs.Words.{ℕ, ◌+◌, ◌*◌, ◌%◌, Bool, cond, ◌&&◌, eqb}
+use Rattle.std.specs.Prelude.{◌+◌, ◌*◌, ◌%◌, ◌&&◌}
+use Rattle.graph.specs.Words.{ℕ, Bool, cond, eqb}
 use Rattle.graph.specs.{Finite.sum, Finite.count, Graph.Graph, Graph.mark, Graph.word, Graph.output, Graph.index, Graph.complement, Graph.is_edge}
 
 -- what a literal adds to C: an edge from the constant is one like any other

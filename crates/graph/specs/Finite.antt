@@ -1,5 +1,6 @@
 -- Finite tables and sums, the first fault of several, differences and decimal text.
-use Rattle.graph.specs.Words.{ℕ, zero, suc, ◌+◌, ◌/◌, ◌%◌, Bool, cond, List, [], ◌∷◌, ◌++◌, eqb, ltb, ℤ, sub_ℕ}
+use Rattle.std.specs.Prelude.{◌+◌, ◌/◌, ◌%◌, ◌∷◌, ◌++◌}
+use Rattle.graph.specs.Words.{ℕ, zero, suc, Bool, cond, List, [], eqb, ltb, ℤ, sub_ℕ}
 
 -- the list f 0, f 1, .., f (n - 1)
 unfoldable pub tab : ℕ → (ℕ → ℕ) → List ℕ

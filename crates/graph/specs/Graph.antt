@@ -1,5 +1,6 @@
 -- The graph as document 01 holds it: numbers of inputs, nodes and outputs, and two tables of words.
-use Rattle.graph.specs.Words.{ℕ, ◌+◌, ◌*◌, ◌/◌, ◌%◌, Bool, not, cond, ◌&&◌, List, eqb, length, get_or}
+use Rattle.std.specs.Prelude.{◌+◌, ◌*◌, ◌/◌, ◌%◌, ◌&&◌}
+use Rattle.graph.specs.Words.{ℕ, Bool, not, cond, List, eqb, length, get_or}
 use Rattle.graph.specs.Finite.{tab}
 
 -- I inputs, N nodes and O outputs, with both whole tables. Only the first 3 × N words of `nodes` and the first O of

@@ -1,7 +1,8 @@
 -- How a table is lent: the indices of its literals in one slice, and in words of 64 bits beside it their complement bits, place j at
 -- bit j % 64 of word j / 64. Both slices together are one list of what stands at each place, and every definition of a graph is over such
 -- lists. No two contents of the slices make the same list, so that an equation between two graphs speaks of every lent word.
-use Rattle.graph.specs.Words.{ℕ, ◌+◌, ◌-◌, ◌*◌, ◌/◌, ◌%◌, ◌^◌, min, max, List, ◌++◌, ltb, length, get_or, drop, ones}
+use Rattle.std.specs.Prelude.{◌+◌, ◌-◌, ◌*◌, ◌/◌, ◌%◌, ◌^◌, ◌++◌}
+use Rattle.graph.specs.Words.{ℕ, min, max, List, ltb, length, get_or, drop, ones}
 use Rattle.std.specs.Borrow.{Bor}
 use denote.Triple.Both.{Both}
 use Rattle.graph.specs.{Finite.tab, Finite.sum, Finite.count, Finite.if_less, Finite.if_equal, Graph.Graph, Graph.graph_of, Graph.mark}

@@ -1,5 +1,6 @@
 -- What admission promises beside its definition.
-use Rattle.graph.specs.Words.{ℕ, ◌≡◌, List}
+use Rattle.std.specs.Prelude.{◌≡◌}
+use Rattle.graph.specs.Words.{ℕ, List}
 use Rattle.graph.specs.{Graph.Graph, Admission.admission_number, Admission.Admitted, Admission.LockBytes}
 
 -- the number is 0 just where the graph and its locks are admitted

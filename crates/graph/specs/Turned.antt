@@ -1,5 +1,6 @@
 -- Which words of a table are turned, by their places: what proofs and inner functions say, and no promise to a caller.
-use Rattle.graph.specs.Words.{ℕ, ◌<◌, List, get_or}
+use Rattle.std.specs.Prelude.{◌<◌}
+use Rattle.graph.specs.Words.{ℕ, List, get_or}
 use Rattle.graph.specs.Finite.{if_less, if_equal}
 use Rattle.graph.specs.Graph.{index}
 unfoldable pub use Rattle.graph.specs.Graph.{turned_table, turned_by}

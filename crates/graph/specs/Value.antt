@@ -1,5 +1,6 @@
 -- What a graph computes. Bits are 0 and 1; an assignment a gives input k + 1 the bit a k % 2.
-use Rattle.graph.specs.Words.{ℕ, zero, suc, ◌+◌, ◌*◌, ◌%◌, min, max, cond, List, [], ◌∷◌, ◌++◌, get_or}
+use Rattle.std.specs.Prelude.{◌+◌, ◌*◌, ◌%◌, ◌∷◌, ◌++◌}
+use Rattle.graph.specs.Words.{ℕ, zero, suc, min, max, cond, List, [], get_or}
 use Rattle.graph.specs.{Finite.tab, Graph.Graph, Graph.word, Graph.output, Graph.index, Graph.complement, Graph.is_xor}
 
 abbrev pub Assignment : Type 0

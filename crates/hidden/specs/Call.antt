@@ -1,5 +1,6 @@
 -- The majority call and the finder's call, on a graph g with the locks ls.
-use Rattle.graph.specs.All.{cond, List, [], ◌∷◌, ℕ, get_or, if_less, if_equal, first, Graph, admission_number, Answer, accepted, refused, number_of, Outcome, outcome, guarded, LockedOutcome, locked_outcome, guarded_locks}
+use Rattle.std.specs.Prelude.{◌∷◌}
+use Rattle.graph.specs.All.{cond, List, [], ℕ, get_or, if_less, if_equal, first, Graph, admission_number, Answer, accepted, refused, number_of, Outcome, outcome, guarded, LockedOutcome, locked_outcome, guarded_locks}
 use Rattle.moves.specs.All.{lock_at, node_fault, scratch_fault}
 use Rattle.hidden.specs.Truth.{Triple, leak, truth}
 use Rattle.hidden.specs.Majority.{is_majority, made}

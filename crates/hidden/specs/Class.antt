@@ -1,5 +1,6 @@
 -- The classes of the 256 functions of three variables, under input order, input complement and output complement.
-use Rattle.graph.specs.All.{List, [], ◌∷◌, flat_map, ℕ, ◌+◌, ◌*◌, ◌%◌, ◌^◌, get_or, sum, bit}
+use Rattle.std.specs.Prelude.{◌∷◌, ◌+◌, ◌*◌, ◌%◌, ◌^◌}
+use Rattle.graph.specs.All.{List, [], flat_map, ℕ, get_or, sum, bit}
 use Rattle.choice.specs.All.{from, least}
 use Rattle.evaluation.specs.All.{gather}
 

@@ -1,6 +1,6 @@
 -- Which nodes live, and the graph with the others dropped.
-use Rattle.std.specs.Prelude.{◌||◌}
-use Rattle.graph.specs.All.{Bool, false, cond, ◌&&◌, List, [], ◌∷◌, ◌++◌, ℕ, zero, suc, ◌+◌, ◌-◌, ◌*◌, ◌/◌, ◌%◌, eqb, length, get_or, tab, if_less, Graph, graph_of, node, word, output, index, complement, is_edge, named, output_named}
+use Rattle.std.specs.Prelude.{◌||◌, ◌&&◌, ◌∷◌, ◌++◌, ◌+◌, ◌-◌, ◌*◌, ◌/◌, ◌%◌}
+use Rattle.graph.specs.All.{Bool, false, cond, List, [], ℕ, zero, suc, eqb, length, get_or, tab, if_less, Graph, graph_of, node, word, output, index, complement, is_edge, named, output_named}
 use Rattle.hidden.specs.Find.{is_locked}
 
 -- one of the first n numbers passes the test

@@ -1,6 +1,6 @@
 -- The finder's pass: each free node by rising index, with every triple near it.
-use Rattle.std.specs.Prelude.{◌||◌}
-use Rattle.graph.specs.All.{Bool, false, not, cond, ◌&&◌, List, [], ◌∷◌, ◌++◌, map, ℕ, zero, suc, ◌+◌, ◌-◌, ◌*◌, ltb, eqb, get_or, Graph, node, word, index, is_edge, is_xor}
+use Rattle.std.specs.Prelude.{◌||◌, ◌&&◌, ◌∷◌, ◌++◌, ◌+◌, ◌-◌, ◌*◌}
+use Rattle.graph.specs.All.{Bool, false, not, cond, List, [], map, ℕ, zero, suc, ltb, eqb, get_or, Graph, node, word, index, is_edge, is_xor}
 use Rattle.hidden.specs.Truth.{Triple, triple, truth}
 use Rattle.hidden.specs.Majority.{is_majority, made}
 

@@ -1,6 +1,6 @@
 -- What proofs and inner functions say of triples and of what is near. No promise to a caller.
-use Rattle.std.specs.Prelude.{◌||◌}
-use Rattle.graph.specs.All.{Bool, false, List, [], ◌∷◌, ◌++◌, map, ℕ, suc, ◌<◌, eqb, get_or, drop}
+use Rattle.std.specs.Prelude.{◌||◌, ◌∷◌, ◌++◌, ◌<◌}
+use Rattle.graph.specs.All.{Bool, false, List, [], map, ℕ, suc, eqb, get_or, drop}
 use Rattle.hidden.specs.Truth.{Triple, triple}
 use Rattle.hidden.specs.Find.{pairs, triples}
 

@@ -1,5 +1,6 @@
 -- What the calls that rewire a graph keep.
-use Rattle.graph.specs.All.{◌≡◌, false, List, [], ◌∷◌, ℕ, ◌≤◌, ◌<◌, Graph, node, readers, Assignment, value, output_value, Admitted, LockBytes, LockedOutcome, accepted}
+use Rattle.std.specs.Prelude.{◌≡◌, ◌∷◌, ◌≤◌, ◌<◌}
+use Rattle.graph.specs.All.{false, List, [], ℕ, Graph, node, readers, Assignment, value, output_value, Admitted, LockBytes, LockedOutcome, accepted}
 use Rattle.hidden.specs.Find.{is_locked}
 
 -- either call: the inputs, the outputs and their values under every assignment, no more nodes, and that the graph is admitted

@@ -1,6 +1,6 @@
 -- The eight functions of majority's class, and the node that is made a majority.
-use Rattle.std.specs.Prelude.{set}
-use Rattle.graph.specs.All.{Bool, ℕ, ◌+◌, ◌-◌, ◌*◌, ◌%◌, eqb, get_or, Graph, graph_of, majority, bit}
+use Rattle.std.specs.Prelude.{set, ◌+◌, ◌-◌, ◌*◌, ◌%◌}
+use Rattle.graph.specs.All.{Bool, ℕ, eqb, get_or, Graph, graph_of, majority, bit}
 use Rattle.moves.specs.All.{last}
 use Rattle.evaluation.specs.All.{gather}
 use Rattle.hidden.specs.Truth.{Triple, truth}

@@ -1,5 +1,6 @@
 -- What the majority call and the finder promise beside their definitions (M-107).
-use Rattle.graph.specs.All.{◌≡◌, Bool, true, List, ℕ, ◌+◌, ◌*◌, ◌/◌, ◌<◌, eqb, get_or, count, Graph, node, word, bit, Assignment, value, Admitted}
+use Rattle.std.specs.Prelude.{◌≡◌, ◌+◌, ◌*◌, ◌/◌, ◌<◌}
+use Rattle.graph.specs.All.{Bool, true, List, ℕ, eqb, get_or, count, Graph, node, word, bit, Assignment, value, Admitted}
 use Rattle.hidden.specs.Truth.{Triple, leak, truth}
 use Rattle.hidden.specs.Class.{class_of, classes}
 use Rattle.hidden.specs.Majority.{majority_class, majority_byte, is_majority}

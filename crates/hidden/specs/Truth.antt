@@ -1,7 +1,7 @@
 -- What an index is over three indices taken as free variables: a byte, whose bit k is the value under the assignment k. The
 -- first of the three is the lowest bit of k.
-use Rattle.std.specs.Prelude.{◌||◌}
-use Rattle.graph.specs.All.{Bool, cond, ◌&&◌, List, [], ◌∷◌, ◌++◌, map, ℕ, zero, suc, ◌+◌, ◌*◌, eqb, get_or, tab, if_equal, Graph, node, word, index, is_edge, node_value, bit}
+use Rattle.std.specs.Prelude.{◌||◌, ◌&&◌, ◌∷◌, ◌++◌, ◌+◌, ◌*◌}
+use Rattle.graph.specs.All.{Bool, cond, List, [], map, ℕ, zero, suc, eqb, get_or, tab, if_equal, Graph, node, word, index, is_edge, node_value, bit}
 use Rattle.evaluation.specs.All.{gather}
 
 -- three indices

@@ -1,6 +1,6 @@
 -- A way down from an index to an input, word by word, and whether it misses a triple.
-use Rattle.std.specs.Prelude.{◌≢◌}
-use Rattle.graph.specs.All.{◌≡◌, true, List, [], ◌∷◌, ℕ, ◌+◌, ◌*◌, ◌≤◌, ◌<◌, Graph, node, word, index, is_edge}
+use Rattle.std.specs.Prelude.{◌≢◌, ◌≡◌, ◌∷◌, ◌+◌, ◌*◌, ◌≤◌, ◌<◌}
+use Rattle.graph.specs.All.{true, List, [], ℕ, Graph, node, word, index, is_edge}
 use Rattle.hidden.specs.Truth.{Triple}
 
 -- index i is none of the three

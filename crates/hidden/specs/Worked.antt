@@ -1,5 +1,6 @@
 -- Worked values and calls: the request's own row, the order of triples, which majority is the first, and graphs with locks.
-use Rattle.graph.specs.All.{◌≡◌, List, [], ◌∷◌, map, ℕ, ◌+◌, ◌*◌, Graph, graph_of, mark, accepted, locked_outcome}
+use Rattle.std.specs.Prelude.{◌≡◌, ◌∷◌, ◌+◌, ◌*◌}
+use Rattle.graph.specs.All.{List, [], map, ℕ, Graph, graph_of, mark, accepted, locked_outcome}
 use Rattle.hidden.specs.Truth.{triple, truth}
 use Rattle.hidden.specs.Find.{near, triples}
 use Rattle.hidden.specs.Call.{find_call}

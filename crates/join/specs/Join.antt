@@ -1,6 +1,7 @@
 -- Two graphs joined (document 02's M-113): output k of the first drives input k of the second. The joined graph has the first's inputs,
 -- the nodes of the first and then of the second, each with its lock, and the second's outputs.
-use Rattle.graph.specs.All.{ℕ, ◌+◌, ◌-◌, ◌*◌, cond, List, [], ◌∷◌, ◌++◌, length, take, drop, tab, if_less, if_equal, first, Graph, graph_of, mark, index, complement, turn, word, output, is_edge, held, filled, room_number, admission_number, accepted, LockedOutcome, locked_outcome, guarded_locks}
+use Rattle.std.specs.Prelude.{◌+◌, ◌-◌, ◌*◌, ◌∷◌, ◌++◌}
+use Rattle.graph.specs.All.{ℕ, cond, List, [], length, take, drop, tab, if_less, if_equal, first, Graph, graph_of, mark, index, complement, turn, word, output, is_edge, held, filled, room_number, admission_number, accepted, LockedOutcome, locked_outcome, guarded_locks}
 use Rattle.tagged_file.specs.All.{blank}
 
 -- The literal x of the second graph h, met by the first graph g: from the constant it stays; from input k it is the literal of g's output

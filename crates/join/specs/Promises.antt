@@ -1,5 +1,6 @@
 -- What a join promises beside its definition (M-113).
-use Rattle.graph.specs.All.{ℕ, ◌+◌, ◌<◌, ◌≡◌, List, Graph, Assignment, output_value, Admitted, LockBytes, LockedOutcome}
+use Rattle.std.specs.Prelude.{◌+◌, ◌<◌, ◌≡◌}
+use Rattle.graph.specs.All.{ℕ, List, Graph, Assignment, output_value, Admitted, LockBytes, LockedOutcome}
 use Rattle.join.specs.Join.{join_call}
 use Rattle.join.specs.Worked.{Inverters, Adder, Refusals}
 

@@ -1,5 +1,6 @@
 -- Joins worked out by hand.
-use Rattle.graph.specs.All.{ℕ, zero, suc, ◌+◌, ◌*◌, ◌/◌, ◌%◌, Bool, true, ◌&&◌, ◌≡◌, List, [], ◌∷◌, eqb, length, tab, Graph, graph_of, mark, Assignment, output_value, accepted, refused, locked_outcome}
+use Rattle.std.specs.Prelude.{◌+◌, ◌*◌, ◌/◌, ◌%◌, ◌&&◌, ◌≡◌, ◌∷◌}
+use Rattle.graph.specs.All.{ℕ, zero, suc, Bool, true, List, [], eqb, length, tab, Graph, graph_of, mark, Assignment, output_value, accepted, refused, locked_outcome}
 use Rattle.join.specs.Join.{join_call}
 
 -- outputs of i inputs, with no nodes

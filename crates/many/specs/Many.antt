@@ -1,5 +1,6 @@
 -- Many moves together: a list of nodes with a move each, made all or none.
-use Rattle.graph.specs.All.{ℕ, zero, suc, ◌≡◌, List, [], ◌∷◌, Perm, length, get_or, if_less, first, first_of, Graph, C, difference, tables_number, content_number, whole, Outcome, outcome, guarded}
+use Rattle.std.specs.Prelude.{◌≡◌, ◌∷◌}
+use Rattle.graph.specs.All.{ℕ, zero, suc, List, [], Perm, length, get_or, if_less, first, first_of, Graph, C, difference, tables_number, content_number, whole, Outcome, outcome, guarded}
 use Rattle.moves.specs.All.{moved, node_fault, move_number}
 
 -- 14: the index of entry j of the nodes us is not above that of the entry before

@@ -1,5 +1,6 @@
 -- A choice of moves, applied in one step.
-use Rattle.graph.specs.All.{ℕ, ◌+◌, ◌-◌, ◌*◌, ◌/◌, ◌%◌, cond, ◌&&◌, List, [], ◌∷◌, eqb, ltb, Graph, node, word, output, index, is_xor, is_edge, turned_by}
+use Rattle.std.specs.Prelude.{◌+◌, ◌-◌, ◌*◌, ◌/◌, ◌%◌, ◌&&◌, ◌∷◌}
+use Rattle.graph.specs.All.{ℕ, cond, List, [], eqb, ltb, Graph, node, word, output, index, is_xor, is_edge, turned_by}
 use Rattle.moves.specs.Rows.{flag}
 
 -- a choice gives each node, by index, a move number; a node that is not concerned has move 0

@@ -1,6 +1,7 @@
 -- The node, pair and tree calls on a graph g with the locks ls, which no call changes: one notion of best, at three lists of nodes, with its saving
 -- in two parts, over the words of the nodes that the call names and over all other edges. And the trial: what two moves on a pair would save.
-use Rattle.graph.specs.All.{ℕ, ◌+◌, ◌-◌, ◌*◌, ◌/◌, Bool, true, false, cond, ◌&&◌, List, [], ◌∷◌, map, eqb, ltb, leb, ℤ, pos, if_less, if_equal, first, Graph, node, word, index, is_xor, C, admission_number, Answer, refused, gained, number_of, Outcome, outcome, guarded, sum, node_adds, output_adds, difference, whole, unless}
+use Rattle.std.specs.Prelude.{◌+◌, ◌-◌, ◌*◌, ◌/◌, ◌&&◌, ◌∷◌}
+use Rattle.graph.specs.All.{ℕ, Bool, true, false, cond, List, [], map, eqb, ltb, leb, ℤ, pos, if_less, if_equal, first, Graph, node, word, index, is_xor, C, admission_number, Answer, refused, gained, number_of, Outcome, outcome, guarded, sum, node_adds, output_adds, difference, whole, unless}
 use Rattle.choice.specs.All.{best}
 use Rattle.moves.specs.{Rows.kind_moves, Rows.lock_at, Rows.moves_at, Apply.none, Apply.put, Apply.apply, Tree.is_root, Tree.tree, declared.Saving.Saving, declared.Gain.Gain}
 use Rattle.moves.specs.declared.Saving.TheVariants as saving

@@ -1,5 +1,6 @@
 -- Choices one after the other, and the index of a root: what proofs and inner functions say, and no promise to a caller.
-use Rattle.graph.specs.All.{ℕ, ◌+◌, ◌-◌, ◌*◌, ◌/◌, ◌%◌, ◌<◌, Bool, true, cond, ◌≡◌, Graph, node, is_xor}
+use Rattle.std.specs.Prelude.{◌+◌, ◌-◌, ◌*◌, ◌/◌, ◌%◌, ◌<◌, ◌≡◌}
+use Rattle.graph.specs.All.{ℕ, Bool, true, cond, Graph, node, is_xor}
 use Rattle.moves.specs.{Rows.kind_moves, Apply.Choice, Tree.is_root}
 
 -- two moves of one kind, made one after the other, are one move

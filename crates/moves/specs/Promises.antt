@@ -1,5 +1,6 @@
 -- What calls at the nodes us promise beside their definitions: what locks mean, and what the parts of a saving come to.
-use Rattle.graph.specs.All.{ℕ, ◌/◌, ◌≤◌, ◌<◌, true, ◌≡◌, List, [], ◌∷◌, map, get_or, ◌+ℤ◌, Graph, node, word, index, is_edge, C, Assignment, value, difference, Admitted}
+use Rattle.std.specs.Prelude.{◌/◌, ◌≤◌, ◌<◌, ◌≡◌, ◌∷◌, ◌+ℤ◌}
+use Rattle.graph.specs.All.{ℕ, true, List, [], map, get_or, Graph, node, word, index, is_edge, C, Assignment, value, difference, Admitted}
 use Rattle.choice.specs.All.{Fits, best}
 use Rattle.moves.specs.{Rows.kind_moves, Rows.lock_at, Apply.Choice, Apply.none, Apply.put, Apply.seen, Apply.turns, Call.split, Call.moved, Call.moved_c, Call.best_at, Call.rewrite, Decide.pair_cost, Decide.FirstPair, Decide.numbers_of, Decide.naming, Pair.pair_saving, Pair.FirstGreatest, declared.decide.NodeNumbers.NodeNumbers}
 

@@ -1,5 +1,6 @@
 -- Document 01's table of moves, and the moves of a node.
-use Rattle.graph.specs.All.{ℕ, ◌+◌, ◌-◌, Bool, cond, List, [], ◌∷◌, get_or, if_less, if_equal, Graph, node, is_xor}
+use Rattle.std.specs.Prelude.{◌+◌, ◌-◌, ◌∷◌}
+use Rattle.graph.specs.All.{ℕ, Bool, cond, List, [], get_or, if_less, if_equal, Graph, node, is_xor}
 
 -- the six rows: whether words 1 to 3, and every reader, are turned. A majority's two, then an XOR's four
 unfoldable pub rows : List (List ℕ)

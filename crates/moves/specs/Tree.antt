@@ -1,5 +1,6 @@
 -- Roots, and the fanout-free tree of a root.
-use Rattle.graph.specs.All.{ℕ, zero, suc, ◌*◌, ◌/◌, Bool, not, cond, ◌&&◌, List, [], ◌∷◌, eqb, Graph, node, named, node_readers, readers}
+use Rattle.std.specs.Prelude.{◌*◌, ◌/◌, ◌&&◌, ◌∷◌}
+use Rattle.graph.specs.All.{ℕ, zero, suc, Bool, not, cond, List, [], eqb, Graph, node, named, node_readers, readers}
 
 -- a node is a root unless it has just one reader and that reader is in the node table
 unfoldable pub is_root : Graph → ℕ → Bool

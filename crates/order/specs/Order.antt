@@ -1,7 +1,7 @@
 -- The order of moves (document 02's M-111). A list of moves is a list of entries, each a node with its move, made one by one from the
 -- front (`one_by_one`, crate many); a node may stand in it as often as one likes.
-use Rattle.std.specs.Prelude.{◌↔◌, ◌≢◌}
-use Rattle.graph.specs.All.{ℕ, ◌+◌, ◌-◌, ◌≤◌, ◌<◌, true, false, ◌≡◌, List, [], ◌∷◌, ◌++◌, Perm, if_equal, Graph, node, is_xor}
+use Rattle.std.specs.Prelude.{◌↔◌, ◌≢◌, ◌+◌, ◌-◌, ◌≤◌, ◌<◌, ◌≡◌, ◌∷◌, ◌++◌}
+use Rattle.graph.specs.All.{ℕ, true, false, List, [], Perm, if_equal, Graph, node, is_xor}
 use Rattle.moves.specs.All.{kind_moves, moves_at, is_node}
 use Rattle.moves.specs.Compose.{combined}
 use Rattle.many.specs.All.{Entry, one_by_one}

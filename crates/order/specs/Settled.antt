@@ -1,6 +1,6 @@
 -- Settling a settled graph (document 02's M-111).
-use Rattle.std.specs.Prelude.{◌↔◌}
-use Rattle.graph.specs.All.{ℕ, ◌*◌, ◌≤◌, ◌<◌, ◌≡◌, List, [], ◌∷◌, get_or, pos, Graph, C, Admitted, LockBytes, gained, outcome}
+use Rattle.std.specs.Prelude.{◌↔◌, ◌*◌, ◌≤◌, ◌<◌, ◌≡◌, ◌∷◌}
+use Rattle.graph.specs.All.{ℕ, List, [], get_or, pos, Graph, C, Admitted, LockBytes, gained, outcome}
 use Rattle.rounds.specs.All.{settle_number, settle_call, NothingLowers}
 
 -- a settled graph, under the locks ls: what an accepted settling under them has left

@@ -1,7 +1,7 @@
 -- Sheets of moves made by calls: lists of nodes with a move each, every one given to the many call (M-106) on the graph that the one
 -- before left. A sheet of single moves is one whose lists have one node each.
-use Rattle.std.specs.Prelude.{◌↔◌}
-use Rattle.graph.specs.All.{ℕ, ◌≡◌, List, [], ◌∷◌, ◌++◌, tab, Graph, node}
+use Rattle.std.specs.Prelude.{◌↔◌, ◌≡◌, ◌∷◌, ◌++◌}
+use Rattle.graph.specs.All.{ℕ, List, [], tab, Graph, node}
 use Rattle.many.specs.All.{Entry, entries, one_by_one, many_number, many_call}
 use Rattle.order.specs.Order.{MovesUnder, combination, CombineAlike}
 

@@ -1,5 +1,6 @@
 -- Lists of moves worked out by hand, on a graph with an XOR and a majority that reads it twice.
-use Rattle.graph.specs.All.{◌≡◌, List, [], ◌∷◌, Graph, graph_of, mark}
+use Rattle.std.specs.Prelude.{◌≡◌, ◌∷◌}
+use Rattle.graph.specs.All.{List, [], Graph, graph_of, mark}
 use Rattle.many.specs.All.{Entry, one_by_one}
 use Rattle.order.specs.Order.{entry, combination}
 

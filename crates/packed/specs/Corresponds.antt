@@ -1,5 +1,6 @@
 -- M-108: every call answers on an admitted packed graph as on its old one, and the two graphs afterwards correspond.
-use Rattle.graph.specs.All.{ℕ, false, ◌≡◌, List, [], ◌∷◌, length, ℤ, Graph, admission_number, Answer, accepted, unless, C, LockedOutcome, literals, graph_in, held}
+use Rattle.std.specs.Prelude.{◌≡◌, ◌∷◌}
+use Rattle.graph.specs.All.{ℕ, false, List, [], length, ℤ, Graph, admission_number, Answer, accepted, unless, C, LockedOutcome, literals, graph_in, held}
 use Rattle.tagged_file.specs.All.{write_call, load_call}
 use Rattle.aiger.specs.All.{export_call, import_call}
 use Rattle.join.specs.All.{join_call}

@@ -1,6 +1,7 @@
 -- M-108: the file keeps its bytes. Every admitted packed graph has the file that its old one had, and two that have one file are the same in
 -- every word that they need.
-use Rattle.graph.specs.All.{ℕ, ◌*◌, ◌<◌, ◌≡◌, List, get_or, Admitted, LockBytes, Graph, graph_in, words_for}
+use Rattle.std.specs.Prelude.{◌*◌, ◌<◌, ◌≡◌}
+use Rattle.graph.specs.All.{ℕ, List, get_or, Admitted, LockBytes, Graph, graph_in, words_for}
 use Rattle.tagged_file.specs.All.{file_of}
 use Rattle.packed.specs.Old.{Indices, BitWords, old_graph}
 

@@ -1,7 +1,8 @@
 -- M-108. What a list of literals tells of the two slices that it was read from: every word of both, and C by the words of bits. Then the graph that a
 -- packed one was before, the old one, in two tables of literals, 3 × N and O of them: which numbers refuse both, and what it means that a call
 -- answers on both alike and leaves graphs that correspond.
-use Rattle.graph.specs.All.{ℕ, ◌+◌, ◌*◌, ◌≤◌, ◌<◌, ◌≡◌, List, ◌⊎◌, length, get_or, take, tab, if_equal, first, first_of, Graph, graph_of, mark, index, word, output, bit_at, index_at, literals, graph_in, held, bit_of, words_for, strays, room_number, tables_number, word_number, output_number, locks_number, content_number, admission_number, Admitted, C, ones_in}
+use Rattle.std.specs.Prelude.{◌+◌, ◌*◌, ◌≤◌, ◌<◌, ◌≡◌, ◌⊎◌}
+use Rattle.graph.specs.All.{ℕ, List, length, get_or, take, tab, if_equal, first, first_of, Graph, graph_of, mark, index, word, output, bit_at, index_at, literals, graph_in, held, bit_of, words_for, strays, room_number, tables_number, word_number, output_number, locks_number, content_number, admission_number, Admitted, C, ones_in}
 use Rattle.evaluation.specs.All.{gather}
 
 -- a slice of indices has words of 32 bits, and one of complement bits words of 64

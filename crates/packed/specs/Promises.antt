@@ -1,5 +1,6 @@
 -- What crate packed promises (M-108), together.
-use Rattle.graph.specs.All.{ℕ, ◌≡◌, List, [], ◌∷◌, get_or, ℤ, tab, Graph, graph_of, mark}
+use Rattle.std.specs.Prelude.{◌≡◌, ◌∷◌}
+use Rattle.graph.specs.All.{ℕ, List, [], get_or, ℤ, tab, Graph, graph_of, mark}
 use Rattle.replay.specs.All.{Lent}
 use Rattle.packed.specs.{Old.TellsAll, Old.OnesAreC, Old.SameRule, Old.RefusedAlike, Old.EveryOld, Old.old_table, Old.old_graph, Old.indices_of, Old.bits_of, Corresponds.Corresponds, Corresponds.FillsCorrespond, Corresponds.JoinsCorrespond, File.PackedGraph, File.OneFile, File.FileKept}
 

@@ -1,5 +1,6 @@
 -- The tree call seen first: its saving, and its moves a byte a node.
-use Rattle.graph.specs.All.{ℕ, ◌+◌, ◌-◌, ◌≤◌, cond, ◌≡◌, List, length, get_or, tab, if_less, if_equal, first, Graph, node, tables_number, Answer, unless}
+use Rattle.std.specs.Prelude.{◌+◌, ◌-◌, ◌≤◌, ◌≡◌}
+use Rattle.graph.specs.All.{ℕ, cond, List, length, get_or, tab, if_less, if_equal, first, Graph, node, tables_number, Answer, unless}
 use Rattle.moves.specs.All.{Choice, none, put, apply, tree, best_at, rewrite, is_node, tree_number, tree_call}
 use Rattle.many.specs.All.{many_number, many_call}
 

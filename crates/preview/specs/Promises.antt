@@ -1,5 +1,6 @@
 -- What a preview promises beside its definition.
-use Rattle.graph.specs.All.{ℕ, ◌≡◌, List, length, Graph}
+use Rattle.std.specs.Prelude.{◌≡◌}
+use Rattle.graph.specs.All.{ℕ, List, length, Graph}
 use Rattle.preview.specs.Preview.{preview_number, AsTreeCall, AsList}
 
 pub record Promises : Type 0 where

@@ -1,5 +1,6 @@
 -- Demand 3, over every list of node, pair, tree, settling, many, majority and finder calls, and calls on a tree for resistive memory.
-use Rattle.graph.specs.All.{ℕ, ◌+◌, ◌-◌, ◌≤◌, ◌<◌, Bool, true, false, ◌≡◌, List, [], ◌∷◌, ◌++◌, map, Perm, length, ℤ, pos, ◌+ℤ◌, if_less, first, Graph, node, wiring, Assignment, value, output_value, C, Admitted, LockBytes, Outcome, LockedOutcome, locked_outcome, saving_of}
+use Rattle.std.specs.Prelude.{◌+◌, ◌-◌, ◌≤◌, ◌<◌, ◌≡◌, ◌∷◌, ◌++◌, ◌+ℤ◌}
+use Rattle.graph.specs.All.{ℕ, Bool, true, false, List, [], map, Perm, length, ℤ, pos, if_less, first, Graph, node, wiring, Assignment, value, output_value, C, Admitted, LockBytes, Outcome, LockedOutcome, locked_outcome, saving_of}
 use Rattle.choice.specs.All.{Fits}
 use Rattle.moves.specs.All.{moves_at, tree, moved, is_node, named_by, node_fault, word_fault, root_fault, scratch_fault, node_call, pair_call, tree_call}
 use Rattle.many.specs.All.{Entry, entries, one_by_one, list_number, many_call}

@@ -1,5 +1,6 @@
 -- Demand 3, and what it is worked out on.
-use Rattle.graph.specs.All.{ℕ, ◌≡◌, List, Graph, Admitted, LockBytes}
+use Rattle.std.specs.Prelude.{◌≡◌}
+use Rattle.graph.specs.All.{ℕ, List, Graph, Admitted, LockBytes}
 use Rattle.tagged_file.specs.All.{load_call}
 use Rattle.aiger.specs.All.{import_call}
 use Rattle.join.specs.All.{join_call}

@@ -1,5 +1,6 @@
 -- Stages settled apart, joined and settled whole (document 02's M-113).
-use Rattle.graph.specs.All.{ℕ, ◌≤◌, ◌<◌, ◌≡◌, List, Graph, C, Assignment, output_value, LockedOutcome}
+use Rattle.std.specs.Prelude.{◌≤◌, ◌<◌, ◌≡◌}
+use Rattle.graph.specs.All.{ℕ, List, Graph, C, Assignment, output_value, LockedOutcome}
 use Rattle.rounds.specs.All.{settle_call}
 use Rattle.join.specs.All.{join_call}
 

@@ -1,6 +1,7 @@
 -- Document 01's worked graphs P1 to P10, with P7 as request M-101 has it and two rows of that request, and P2 and P3 with locks (M-105); two
 -- lists of calls (M-106, M-109); and trials worked out by hand (M-103).
-use Rattle.graph.specs.All.{ℕ, ◌≡◌, List, [], ◌∷◌, map, get_or, ℤ, pos, negsuc, tab, Graph, graph_of, mark, C, Answer, refused, gained, whole, LockedOutcome, locked_outcome}
+use Rattle.std.specs.Prelude.{◌≡◌, ◌∷◌}
+use Rattle.graph.specs.All.{ℕ, List, [], map, get_or, ℤ, pos, negsuc, tab, Graph, graph_of, mark, C, Answer, refused, gained, whole, LockedOutcome, locked_outcome}
 use Rattle.choice.specs.All.{choices}
 use Rattle.moves.specs.All.{kind_moves, best_at, named_by, trial_call}
 use Rattle.promises.specs.Demand.{Call, node_at, pair_at, tree_at, settling, many_at, resistive_at, Locked, with_locks, step, left, savings}

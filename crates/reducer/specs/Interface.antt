@@ -1,6 +1,7 @@
 -- What an entry for C returns and leaves, by the shape of its answer: r is the number that it returns; what it tells beside stands at a place that is
 -- lent for it, and is what stood there where nothing is told.
-use Rattle.graph.specs.All.{ℕ, ◌≡◌, List, [], ◌∷◌, length, ℤ, Graph, Answer, Outcome, LockedOutcome, accepted, unless, before, after, Slice, table_after}
+use Rattle.std.specs.Prelude.{◌≡◌, ◌∷◌}
+use Rattle.graph.specs.All.{ℕ, List, [], length, ℤ, Graph, Answer, Outcome, LockedOutcome, accepted, unless, before, after, Slice, table_after}
 use Rattle.file_checks.specs.All.{field_number, field_payload}
 use Rattle.tagged_file.specs.All.{WriteOutcome}
 use Rattle.class_figures.specs.All.{ClassOutcome}

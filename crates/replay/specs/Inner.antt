@@ -1,5 +1,6 @@
 -- What one call of a replay answers and leaves: what inner functions ask of each other, and no promise to a caller.
-use Rattle.graph.specs.All.{ℕ, ◌≡◌, ℤ, Answer, others_of}
+use Rattle.std.specs.Prelude.{◌≡◌}
+use Rattle.graph.specs.All.{ℕ, ℤ, Answer, others_of}
 use Rattle.promises.specs.All.{Call, Locked, step, left}
 use Rattle.replay.specs.Replay.{second_of}
 use Rattle.replay.specs.declared.calls.CallAnswer.{CallAnswer}

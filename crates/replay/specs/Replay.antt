@@ -4,7 +4,8 @@
 -- word where its three indices begin among the lent nodes. A call's answer is three signed words: the number, and what it saved over the words of the nodes that
 -- it names and over all other edges. Settling's are the sums over its calls, and many moves' the whole saving and 0; the majority call and
 -- the finder have what they answer, and 0.
-use Rattle.graph.specs.All.{ℕ, ◌+◌, ◌*◌, ◌/◌, ◌%◌, ◌≤◌, ◌<◌, cond, ◌≡◌, List, [], ◌∷◌, ◌++◌, length, get_or, take, drop, ℤ, pos, ◌+ℤ◌, if_less, if_equal, first, Graph, graph_of, wiring, Assignment, output_value, C, Answer, accepted, refused, number_of, own_of, others_of, LockedOutcome, locked_outcome, guarded_locks}
+use Rattle.std.specs.Prelude.{◌+◌, ◌*◌, ◌/◌, ◌%◌, ◌≤◌, ◌<◌, ◌≡◌, ◌∷◌, ◌++◌, ◌+ℤ◌}
+use Rattle.graph.specs.All.{ℕ, cond, List, [], length, get_or, take, drop, ℤ, pos, if_less, if_equal, first, Graph, graph_of, wiring, Assignment, output_value, C, Answer, accepted, refused, number_of, own_of, others_of, LockedOutcome, locked_outcome, guarded_locks}
 use Rattle.tagged_file.specs.All.{blank, load_call}
 use Rattle.hidden.specs.All.{Triple, triple}
 use Rattle.promises.specs.All.{Call, node_at, pair_at, tree_at, settling, many_at, majority_at, finding, resistive_at, Locked, step, left, run, rewires, Quiet, Demand}

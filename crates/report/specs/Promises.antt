@@ -1,5 +1,6 @@
 -- What a report promises beside its contract: document 01's report of P1, letter for letter, and that a loaded file is always settled.
-use Rattle.graph.specs.All.{ℕ, ◌≡◌, List, [], ◌∷◌, held}
+use Rattle.std.specs.Prelude.{◌≡◌, ◌∷◌}
+use Rattle.graph.specs.All.{ℕ, List, [], held}
 use Rattle.tagged_file.specs.All.{load_call}
 use Rattle.report.specs.Report.{text_of, settled_file, report_number}
 

@@ -1,5 +1,6 @@
 -- The report of document 01: its lines, and what the call that makes it answers and leaves.
-use Rattle.graph.specs.All.{ℕ, ◌+◌, ◌*◌, ◌/◌, List, [], ◌∷◌, ◌++◌, length, get_or, drop, if_less, if_equal, Graph, mark, held, Answer, accepted, refused, LockedOutcome, locked_outcome, decimal}
+use Rattle.std.specs.Prelude.{◌+◌, ◌*◌, ◌/◌, ◌∷◌, ◌++◌}
+use Rattle.graph.specs.All.{ℕ, List, [], length, get_or, drop, if_less, if_equal, Graph, mark, held, Answer, accepted, refused, LockedOutcome, locked_outcome, decimal}
 use Rattle.tagged_file.specs.All.{in_order, load_call}
 use Rattle.rounds.specs.All.{settle_call}
 use Rattle.report.specs.{declared.RoomFault.RoomFault, declared.Reported.Reported}

@@ -1,5 +1,6 @@
 -- What the call for resistive memory promises beside its definition (M-109).
-use Rattle.graph.specs.All.{ℕ, ◌<◌, Bool, true, ◌≡◌, List, pos, Graph, node, others_of, Admitted}
+use Rattle.std.specs.Prelude.{◌<◌, ◌≡◌}
+use Rattle.graph.specs.All.{ℕ, Bool, true, List, pos, Graph, node, others_of, Admitted}
 use Rattle.moves.specs.All.{arity, flag, is_root, tree, moved, rewrite_by}
 use Rattle.resistive.specs.Resistive.{still_moves, best_still, MostSingle}
 use Rattle.resistive.specs.Worked.{Worked}

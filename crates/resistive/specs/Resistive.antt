@@ -1,5 +1,6 @@
 -- The call on a tree for resistive memory (M-109). It wants majorities with just one complemented input; edges from the constant are inputs.
-use Rattle.graph.specs.All.{ℕ, ◌+◌, ◌-◌, ◌*◌, ◌≤◌, ◌<◌, min, Bool, not, cond, ◌&&◌, ◌≡◌, ◌⊎◌, List, map, eqb, count, if_equal, Graph, node, is_xor, node_adds, C, Outcome, guarded}
+use Rattle.std.specs.Prelude.{◌+◌, ◌-◌, ◌*◌, ◌≤◌, ◌<◌, ◌&&◌, ◌≡◌, ◌⊎◌}
+use Rattle.graph.specs.All.{ℕ, min, Bool, not, cond, List, map, eqb, count, if_equal, Graph, node, is_xor, node_adds, C, Outcome, guarded}
 use Rattle.choice.specs.All.{best, Fits}
 use Rattle.moves.specs.All.{moves_at, root_of, tree, moved, rewrite_by, tree_number}
 

@@ -1,5 +1,6 @@
 -- Trees for resistive memory worked out by hand.
-use Rattle.graph.specs.All.{ℕ, ◌*◌, ◌≡◌, List, [], ◌∷◌, ℤ, pos, negsuc, Graph, graph_of, mark, gained, outcome}
+use Rattle.std.specs.Prelude.{◌*◌, ◌≡◌, ◌∷◌}
+use Rattle.graph.specs.All.{ℕ, List, [], ℤ, pos, negsuc, Graph, graph_of, mark, gained, outcome}
 use Rattle.resistive.specs.Resistive.{singles, best_still, resistive_call}
 
 -- a majority below another, no edge complemented: its turn gives the upper one a complemented input, and loses 4

@@ -1,5 +1,6 @@
 -- What settling promises beside its definition.
-use Rattle.graph.specs.All.{ℕ, ◌*◌, ◌≤◌, ◌<◌, true, ◌≡◌, List, [], ◌∷◌, get_or, pos, Graph, graph_of, mark, node, Admitted, LockBytes, gained, outcome, guarded}
+use Rattle.std.specs.Prelude.{◌*◌, ◌≤◌, ◌<◌, ◌≡◌, ◌∷◌}
+use Rattle.graph.specs.All.{ℕ, true, List, [], get_or, pos, Graph, graph_of, mark, node, Admitted, LockBytes, gained, outcome, guarded}
 use Rattle.moves.specs.All.{is_root, tree, rewrite, word_fault, node_call, pair_rewrite, pair_call, tree_call}
 use Rattle.rounds.specs.Settle.{settle, settled, settle_number, settle_call}
 

@@ -1,7 +1,8 @@
 -- A round (document 01's term): the tree call at each root by rising index, the node call at each node by rising index, then
 -- the pair call at each node by rising index with its words in order. The locks ls are the same for all calls. None of these calls is refused,
 -- so that each is here the rewriting that it makes.
-use Rattle.graph.specs.All.{ℕ, zero, suc, cond, List, [], ◌∷◌, eqb, ℤ, pos, ◌+ℤ◌, Graph, node, Outcome, own_of, others_of}
+use Rattle.std.specs.Prelude.{◌∷◌, ◌+ℤ◌}
+use Rattle.graph.specs.All.{ℕ, zero, suc, cond, List, [], eqb, ℤ, pos, Graph, node, Outcome, own_of, others_of}
 use Rattle.moves.specs.All.{is_root, tree, rewrite, pair_rewrite, word_fault}
 
 -- calls made one after the other: what they have saved so far, over the words of the nodes that each names and over all other edges,

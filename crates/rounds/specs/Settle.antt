@@ -1,5 +1,6 @@
 -- Settling (document 01's term): rounds until one does not lower C.
-use Rattle.graph.specs.All.{ℕ, zero, suc, ◌≤◌, ◌<◌, true, ◌≡◌, List, [], ◌∷◌, map, if_less, first, Graph, node, C, admission_number, gained, Outcome, outcome, guarded}
+use Rattle.std.specs.Prelude.{◌≤◌, ◌<◌, ◌≡◌, ◌∷◌}
+use Rattle.graph.specs.All.{ℕ, zero, suc, true, List, [], map, if_less, first, Graph, node, C, admission_number, gained, Outcome, outcome, guarded}
 use Rattle.choice.specs.All.{Fits}
 use Rattle.moves.specs.All.{moves_at, is_root, tree, moved, scratch_fault, is_node, word_fault, named_by}
 use Rattle.rounds.specs.Round.{Progress, start, round}

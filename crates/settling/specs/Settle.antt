@@ -1,5 +1,6 @@
 -- What settling answers, as document 01's number and values.
-use Rattle.graph.specs.All.{[], ◌∷◌, Answer, refused, gained, number_of}
+use Rattle.std.specs.Prelude.{◌∷◌}
+use Rattle.graph.specs.All.{[], Answer, refused, gained, number_of}
 use Rattle.settling.specs.declared.Settled.{Settled}
 use Rattle.settling.specs.declared.Settled.TheVariants as answer
 

@@ -1,5 +1,6 @@
 -- What loading answers, and what it leaves in the tables and the lock bytes.
-use Rattle.graph.specs.All.{ℕ, ◌+◌, List, [], ◌∷◌, ◌++◌, length, drop, if_equal, tab, Graph, graph_of, held, filled, Answer, accepted, refused, number_of, LockedOutcome, locked_outcome, guarded_locks}
+use Rattle.std.specs.Prelude.{◌+◌, ◌∷◌, ◌++◌}
+use Rattle.graph.specs.All.{ℕ, List, [], length, drop, if_equal, tab, Graph, graph_of, held, filled, Answer, accepted, refused, number_of, LockedOutcome, locked_outcome, guarded_locks}
 use Rattle.file_checks.specs.All.{be4, file_number, node_words, single_words, after_nodes, locks_from, lock_indices}
 use Rattle.tagged_file.specs.declared.Loaded.{Loaded}
 use Rattle.tagged_file.specs.declared.Loaded.TheVariants as loaded

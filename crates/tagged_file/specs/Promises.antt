@@ -1,5 +1,6 @@
 -- What files promise beside their definitions: loading and writing a graph with its locks are opposite to each other.
-use Rattle.graph.specs.All.{ℕ, ◌*◌, ◌≤◌, ◌<◌, ◌≡◌, List, [], ◌∷◌, ◌++◌, length, get_or, take, drop, Graph, graph_of, word, output, held, filled, Admitted, LockBytes, accepted, LockedOutcome, locked_outcome}
+use Rattle.std.specs.Prelude.{◌*◌, ◌≤◌, ◌<◌, ◌≡◌, ◌∷◌, ◌++◌}
+use Rattle.graph.specs.All.{ℕ, List, [], length, get_or, take, drop, Graph, graph_of, word, output, held, filled, Admitted, LockBytes, accepted, LockedOutcome, locked_outcome}
 use Rattle.tagged_file.specs.{Load.free_locks, Load.load_call, Write.head_field, Write.node_field_at, Write.output_field_at, Write.end_field, Write.in_order, Write.file_of}
 
 -- a list of bytes

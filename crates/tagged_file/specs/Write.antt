@@ -1,5 +1,6 @@
 -- The file of a graph with its locks, and what writing answers and leaves in the buffer.
-use Rattle.graph.specs.All.{ℕ, zero, suc, ◌+◌, ◌*◌, ◌/◌, ◌%◌, List, [], ◌∷◌, ◌++◌, length, get_or, drop, if_less, if_equal, first, Graph, mark, admission_number, Answer, accepted, refused, number_of}
+use Rattle.std.specs.Prelude.{◌+◌, ◌*◌, ◌/◌, ◌%◌, ◌∷◌, ◌++◌}
+use Rattle.graph.specs.All.{ℕ, zero, suc, List, [], length, get_or, drop, if_less, if_equal, first, Graph, mark, admission_number, Answer, accepted, refused, number_of}
 use Rattle.tagged_file.specs.declared.Written.{Written}
 use Rattle.tagged_file.specs.declared.Written.TheVariants as written
 
