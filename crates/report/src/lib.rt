@@ -1,8 +1,9 @@
 // The report: a file's bytes in, the text of the settled graph out.
 #![tactic(auto)]
+
 ghost use Rattle.std.specs.Prelude.{◌≡◌, length};
 ghost use Rattle.graph.specs.Answer.{ScratchKept};
-ghost use Rattle.graph.specs.Literals.{before, after, table_before, table_after};
+ghost use Rattle.graph.specs.Literals.{literals};
 ghost use Rattle.tagged_file.specs.Load.{load_call};
 ghost use Rattle.report.specs.Report.{reported_answer, report_outcome, report_call};
 
@@ -39,13 +40,13 @@ pub fn report(
     scratch: &mut [u32],
     buffer: &mut [u8],
 ) -> Reported
-    ensures buffer_value { let ns = table_before node_table node_bits in
-        let os = table_before output_table output_bits in
-        report_outcome (reported_answer result) (table_after node_table node_bits) (table_after output_table output_bits) (after locks) (after buffer) ≡ report_call (before file) ns os (before locks) (length (before scratch)) (before buffer) }
-    ensures scratch_kept { ScratchKept (reported_answer result) (before scratch) (after scratch) }
-    ensures fact { let ns = table_before node_table node_bits in
-        let os = table_before output_table output_bits in
-        ScratchKept (load_call (before file) ns os (before locks)).answer (before scratch) (after scratch) }
+    ensures buffer_value { let ns = literals node_table.old node_bits.old in
+        let os = literals output_table.old output_bits.old in
+        report_outcome (reported_answer result) (literals node_table.new node_bits.new) (literals output_table.new output_bits.new) locks.new buffer.new ≡ report_call file.now ns os locks.old (length scratch.old) buffer.old }
+    ensures scratch_kept { ScratchKept (reported_answer result) scratch.old scratch.new }
+    ensures fact { let ns = literals node_table.old node_bits.old in
+        let os = literals output_table.old output_bits.old in
+        ScratchKept (load_call file.now ns os locks.old).answer scratch.old scratch.new }
 {
     let nodes = room_of(node_table, node_bits);
     let outputs = room_of(output_table, output_bits);
