@@ -1,7 +1,7 @@
 -- Nodes moved together: one node more, and places cleared. From the laws on ranks.
 use mathlib.Core.Path.{◌≡◌, refl, sym, ap, ◌∙◌}
-use mathlib.Core.Bool.{Bool, true, false, true≢false, cond, ◌&&◌}
-use mathlib.Core.Logic.{⊎_elim, ◌≢◌, ◌⊎◌, inl, inr}
+use mathlib.Core.Bool.{Bool, true, false, true≢false, cond}
+use mathlib.Core.Logic.{⊎_elim, ◌≢◌, inl, inr}
 use mathlib.Core.List.{List}
 use Prim.Native.Nat.{ℕ, zero, suc, ◌+◌, ◌-◌, ◌*◌, ◌/◌, ◌%◌, ◌≤◌, ◌<◌}
 use native.Mathlib.Omega.{arith}
@@ -10,12 +10,12 @@ use borrow.Author.Tests.{ne_eqb, eqb-true}
 use lib.Dec.{eqb}
 use lib.ListN.{length, get_or, set, length-set}
 use lib.Seq.{get_or-set_same, get_or-set_other}
-use Rattle.graph.specs.Graph.{Graph, mark, word}
+use Rattle.graph.specs.Graph.{Graph, mark}
 use Rattle.graph.specs.Inner.{IsWord}
 use Rattle.graph.proofs.Cases.{true_or_false, lt_or_le}
 use Rattle.graph.proofs.Tests.{less, no_less}
 use Rattle.hidden.specs.Drop.{kept, new_word}
-use Rattle.finder.specs.Numbering.{rank_of, Numbers}
+use Rattle.finder.specs.Numbering.{rank_of}
 use Rattle.finder.specs.Compacting.{renumber_by, Holds, NodeHolds, moved_word, moved_node, Left, Taken, Shifted, Compacted, Moves, Cleared}
 use Rattle.finder.proofs.Ranks.{rank_kept, rank_passed, rank_low, rank_below}
 

@@ -1,25 +1,23 @@
 -- The drop as a whole: what is moved together is the definition's graph. From the laws on compaction, on moved words and on what is kept.
-use mathlib.Core.Path.{◌≡◌, refl, sym, ap, ◌∙◌}
+use mathlib.Core.Path.{◌≡◌, sym, ap, ◌∙◌}
 use mathlib.Core.Bool.{Bool, true, false, cond, not, ◌&&◌}
-use mathlib.Core.Logic.{⊎_elim, ◌≢◌}
+use mathlib.Core.Logic.{⊎_elim}
 use mathlib.Core.List.{List}
-use Prim.Native.Nat.{ℕ, zero, suc, ◌+◌, ◌-◌, ◌*◌, ◌/◌, ◌%◌, ◌≤◌, ◌<◌}
+use Prim.Native.Nat.{ℕ, ◌+◌, ◌-◌, ◌*◌, ◌/◌, ◌%◌, ◌≤◌, ◌<◌}
 use native.Mathlib.Omega.{arith}
 use lib.Dec.{eqb}
 use lib.ListN.{length, get_or}
 use lib.Seq.{ext_get_or}
 use Rattle.graph.specs.Admission.{Admitted}
-use Rattle.graph.specs.Finite.{tab, if_less}
 use Rattle.graph.specs.Graph.{Graph, graph_of, mark, node, word, output, is_edge}
 use Rattle.graph.proofs.Cases.{true_or_false, lt_or_le}
 use Rattle.graph.proofs.Finite.{length_tab, get_d_tab}
 use Rattle.graph.proofs.Tests.{less, no_less}
-use Rattle.hidden.specs.Drop.{live, kept, new_literal, new_word, new_nodes, new_outputs, new_locks, keeping, dropped, dropped_locks}
+use Rattle.hidden.specs.Drop.{live, kept, new_word, new_nodes, new_outputs, new_locks, keeping, dropped, dropped_locks}
 use Rattle.hidden.proofs.Kept.{rank, Stands, stands}
 use Rattle.hidden.proofs.Keeping.{Closed}
-use Rattle.hidden.proofs.Live.{live_closed}
 use Rattle.finder.specs.Numbering.{rank_of, Numbers}
-use Rattle.finder.specs.Compacting.{renumber_by, Holds, NodeHolds, OutputsMoved, Compacted, Moves, Cleared, Cut}
+use Rattle.finder.specs.Compacting.{Holds, NodeHolds, OutputsMoved, Compacted, Moves, Cleared}
 use Rattle.finder.proofs.Ranks.{rank_low}
 use Rattle.finder.proofs.Moved.{word_moved, output_moved}
 

@@ -1,18 +1,17 @@
 -- An index put into a rising list, and a list grown by what a node reaches. From the definitions.
 use mathlib.Core.Path.{◌≡◌, refl, sym, ap, ap₂, ◌∙◌}
-use mathlib.Core.Bool.{Bool, true, false, cond, not, ◌&&◌, ◌||◌, or-false}
-use mathlib.Core.Logic.{⊎_elim, ◌≢◌, ◌⊎◌, inl, inr}
+use mathlib.Core.Bool.{Bool, true, false, ◌||◌, or-false}
+use mathlib.Core.Logic.{⊎_elim, ◌≢◌}
 use mathlib.Core.List.{List, [], ◌∷◌, ◌++◌}
-use Prim.Native.Nat.{ℕ, zero, suc, ◌+◌, ◌-◌, ◌*◌, ◌/◌, ◌%◌, ◌≤◌, ◌<◌}
+use Prim.Native.Nat.{ℕ, suc, ◌+◌, ◌-◌, ◌*◌, ◌/◌, ◌%◌, ◌≤◌, ◌<◌}
 use native.Mathlib.Omega.{arith}
 use native.Mathlib.Nat.{eq-or-lt_of_le}
-use borrow.Author.Tests.{eqb-true, eq-eqb, ne_eqb, lt-ltb, le-ltb}
-use lib.Dec.{eqb, ltb}
-use lib.ListN.{length, get_or, set, take, drop, length-set, take-append-drop}
+use borrow.Author.Tests.{eq-eqb, ne_eqb, lt-ltb, le-ltb}
+use lib.Dec.{eqb}
+use lib.ListN.{length, get_or, set, take, drop, take-append-drop}
 use lib.Seq.{slice, slice-cons, slice_empty, take-suc, take-suc-set, take-set-lt, drop-set-lt, append_snoc, take-take}
-use Rattle.graph.specs.Finite.{if_less, if_equal}
-use Rattle.graph.specs.Graph.{Graph, node, word, index, mark, is_edge}
-use Rattle.graph.proofs.Cases.{true_or_false, lt_or_le, eq_or_ne}
+use Rattle.graph.specs.Graph.{Graph, word, index, mark, is_edge}
+use Rattle.graph.proofs.Cases.{lt_or_le, eq_or_ne}
 use Rattle.graph.proofs.Tests.{less, no_less, equal, unequal}
 use Rattle.hidden.specs.Find.{reaches}
 use Rattle.hidden.specs.Inner.{Between, has}

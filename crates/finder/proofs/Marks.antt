@@ -1,13 +1,13 @@
 -- Marking what lives: each visit keeps why a node is marked, and after the last the marks are those of the definition. From the law that no
 -- other set of nodes goes by its rule.
 use mathlib.Core.Path.{◌≡◌, refl, sym, ap, ◌∙◌}
-use mathlib.Core.Bool.{Bool, true, false, true≢false, cond, ◌&&◌, ◌||◌}
+use mathlib.Core.Bool.{Bool, true, false, true≢false, ◌&&◌, ◌||◌}
 use mathlib.Core.Logic.{◌⊎◌, inl, inr, ⊎_elim, ◌≢◌}
 use mathlib.Core.List.{List}
 use Prim.Native.Nat.{ℕ, zero, suc, ◌+◌, ◌-◌, ◌*◌, ◌/◌, ◌%◌, ◌≤◌, ◌<◌}
 use native.Mathlib.Omega.{arith}
 use native.Mathlib.Nat.{eq-or-lt_of_le}
-use borrow.Author.Tests.{eqb-true, eqb-false, eq-eqb, ne_eqb}
+use borrow.Author.Tests.{eqb-true, eqb-false, eq-eqb}
 use lib.Dec.{eqb}
 use lib.ListN.{length, get_or, set, length-set}
 use lib.Seq.{get_or-set_same, get_or-set_other}
@@ -15,12 +15,12 @@ use Rattle.graph.specs.Graph.{Graph, mark, node, word, output, is_edge, is_xor}
 use Rattle.graph.proofs.Edge.{edge_early, edge_third, third_xor}
 use Rattle.graph.specs.Count.{named, output_named}
 use Rattle.graph.specs.Admission.{Admitted}
-use Rattle.graph.proofs.Cases.{eq_or_ne, lt_or_le, true_or_false}
+use Rattle.graph.proofs.Cases.{eq_or_ne, true_or_false}
 use Rattle.hidden.specs.Find.{is_locked}
 use Rattle.hidden.specs.Drop.{some, lives_by, live}
 use Rattle.moves.proofs.Readers.{both_true}
 use Rattle.hidden.proofs.Bools.{true_both, either_true, true_left, true_right, same_test}
-use Rattle.hidden.proofs.Live.{some_true, Found, some_found, lives_by_rule}
+use Rattle.hidden.proofs.Live.{some_true, some_found, lives_by_rule}
 use Rattle.finder.specs.Living.{Marked, NodeNames, NodeMarked, ByOutput, ByNode, Why, Living, LockedMarked, Lives}
 
 xor_is : (g : Graph) (v : ℕ) → word g (3 * v + 2) ≡ mark → is_xor g v ≡ true

@@ -1,11 +1,11 @@
 -- The words of a living node by the numbers in scratch are those of the definition. From the law that what a living node names lives.
-use mathlib.Core.Path.{◌≡◌, refl, sym, ap, ◌∙◌}
+use mathlib.Core.Path.{◌≡◌, refl, ap, ◌∙◌}
 use mathlib.Core.Bool.{Bool, true, false, cond, not, ◌&&◌}
-use mathlib.Core.Logic.{⊎_elim, ◌≢◌}
+use mathlib.Core.Logic.{⊎_elim}
 use mathlib.Core.List.{List}
-use Prim.Native.Nat.{ℕ, zero, suc, ◌+◌, ◌-◌, ◌*◌, ◌/◌, ◌%◌, ◌≤◌, ◌<◌}
+use Prim.Native.Nat.{ℕ, ◌+◌, ◌-◌, ◌*◌, ◌/◌, ◌%◌, ◌≤◌, ◌<◌}
 use native.Mathlib.Omega.{arith}
-use borrow.Author.Tests.{not-true, not-false, lt-ltb, le-ltb}
+use borrow.Author.Tests.{lt-ltb, le-ltb}
 use lib.Dec.{eqb}
 use lib.ListN.{length, get_or, set, length-set}
 use lib.Seq.{get_or-set_same, get_or-set_other}
@@ -14,7 +14,7 @@ use Rattle.graph.specs.Finite.{if_less}
 use Rattle.graph.specs.Graph.{Graph, mark, node, word, is_edge}
 use Rattle.graph.specs.Admission.{Admitted}
 use Rattle.graph.proofs.Cases.{true_or_false, lt_or_le}
-use Rattle.hidden.specs.Drop.{kept, renumbered, new_literal, new_word}
+use Rattle.hidden.specs.Drop.{renumbered, new_literal, new_word}
 use Rattle.hidden.proofs.Keeping.{Closed}
 use Rattle.finder.specs.Numbering.{rank_of, Numbers}
 use Rattle.finder.specs.Compacting.{renumber_by, moved_word, Holds, OutputsMoved}

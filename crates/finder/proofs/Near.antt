@@ -1,16 +1,15 @@
 -- The list that a node's words fill is the definition's, and what rises in it. From the laws on what is near.
-use mathlib.Core.Path.{◌≡◌, refl, sym, ap, ◌∙◌}
-use mathlib.Core.Bool.{Bool, true, false, ◌||◌}
+use mathlib.Core.Path.{◌≡◌, refl, sym, ◌∙◌}
+use mathlib.Core.Bool.{false}
 use mathlib.Core.Logic.{⊎_elim}
-use mathlib.Core.List.{List, [], ◌∷◌, ◌++◌}
-use Prim.Native.Nat.{ℕ, zero, suc, ◌+◌, ◌-◌, ◌≤◌, ◌<◌}
+use mathlib.Core.List.{List, [], ◌∷◌}
+use Prim.Native.Nat.{ℕ, zero, suc, ◌-◌, ◌≤◌, ◌<◌}
 use native.Mathlib.Omega.{arith}
 use borrow.Author.Tests.{ne_eqb}
-use lib.Dec.{eqb}
 use lib.ListN.{length, get_or, take}
 use lib.Seq.{get_or-take, length-take-le}
 use Rattle.graph.specs.Graph.{Graph}
-use Rattle.graph.proofs.Cases.{true_or_false, lt_or_le}
+use Rattle.graph.proofs.Cases.{lt_or_le}
 use Rattle.hidden.specs.Find.{reaches, near_below, near}
 use Rattle.hidden.specs.Truth.{triple}
 use Rattle.hidden.specs.Inner.{Between, Rising, has}

@@ -1,24 +1,21 @@
 -- The index from which a way leads on, of one node: chosen word by word; and what is stored of it keeps what scratch tells true. From the
 -- laws on leaks.
-use mathlib.Core.Path.{◌≡◌, refl, sym, ap, ◌∙◌}
-use mathlib.Core.Bool.{Bool, true, false, ◌&&◌}
+use mathlib.Core.Path.{◌≡◌, refl, sym, ◌∙◌}
+use mathlib.Core.Bool.{true}
 use mathlib.Core.Logic.{⊎_elim, ◌≢◌, ◌⊎◌, inl, inr}
 use mathlib.Core.List.{List, []}
-use Prim.Native.Nat.{ℕ, zero, suc, ◌+◌, ◌-◌, ◌*◌, ◌/◌, ◌%◌, ◌≤◌, ◌<◌}
+use Prim.Native.Nat.{ℕ, ◌+◌, ◌-◌, ◌*◌, ◌/◌, ◌≤◌, ◌<◌}
 use native.Mathlib.Omega.{arith}
 use native.Mathlib.Nat.{eq-or-lt_of_le}
-use lib.Dec.{eqb}
-use lib.ListN.{length, get_or}
 use Rattle.graph.specs.Admission.{Admitted}
-use Rattle.graph.specs.Graph.{Graph, mark, node, word, is_edge}
+use Rattle.graph.specs.Graph.{Graph, node, word, is_edge}
 use Rattle.graph.specs.Inner.{Names}
 use Rattle.graph.proofs.Cases.{lt_or_le, eq_or_ne}
-use Rattle.graph.proofs.Edge.{edge_early, edge_third}
+use Rattle.graph.proofs.Edge.{edge_early}
 use Rattle.state.specs.State.{field}
 use Rattle.trees.specs.Filling.{Stored}
 use Rattle.hidden.specs.Truth.{Triple, leak, truth}
 use Rattle.hidden.proofs.Ways.{way_leaks, reader_leaks}
-use Rattle.hidden.specs.Ways.{Misses}
 use Rattle.hidden.specs.Ways.{Reads}
 use Rattle.majority_call.specs.Valuing.{is_valued, Facts}
 use Rattle.finder.specs.Living.{NodeNames}

@@ -1,14 +1,12 @@
 -- Which nodes are plain, by what is read. From the definition.
-use mathlib.Core.Path.{◌≡◌, refl, sym, ap, ◌∙◌}
-use mathlib.Core.Bool.{Bool, true, false, cond, not, ◌&&◌, ◌||◌}
-use mathlib.Core.List.{List, [], ◌∷◌, ◌++◌}
-use Prim.Native.Nat.{ℕ, zero, suc, ◌+◌, ◌*◌, ◌/◌, ◌≤◌, ◌<◌}
+use mathlib.Core.Path.{◌≡◌}
+use mathlib.Core.Bool.{Bool, true, false, not, ◌||◌}
+use mathlib.Core.List.{List}
+use Prim.Native.Nat.{ℕ, ◌+◌, ◌*◌}
 use native.Mathlib.Omega.{arith}
-use borrow.Author.Tests.{eq-eqb, ne_eqb}
 use lib.Dec.{eqb}
-use lib.ListN.{length, get_or}
-use Rattle.graph.specs.Graph.{Graph, mark, word, index, is_xor, is_edge}
-use Rattle.graph.specs.Value.{node_value}
+use lib.ListN.{get_or}
+use Rattle.graph.specs.Graph.{mark, index, is_xor}
 use Rattle.evaluation.specs.Inner.{nodes_of}
 use Rattle.hidden.specs.Find.{is_plain}
 

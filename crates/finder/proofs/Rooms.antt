@@ -1,7 +1,7 @@
 -- Both slices of a table are as long as they were, and so it holds as many literals. From the law on what a table holds.
-use mathlib.Core.Path.{◌≡◌, refl, sym, ap, ◌∙◌}
+use mathlib.Core.Path.{◌≡◌, refl, ◌∙◌}
 use mathlib.Core.List.{List}
-use Prim.Native.Nat.{ℕ, ◌*◌, min, max}
+use Prim.Native.Nat.{ℕ}
 use lib.ListN.{length}
 use Rattle.graph.specs.Literals.{literals, held}
 use Rattle.graph.proofs.Literals.{length_literals, held_literals}

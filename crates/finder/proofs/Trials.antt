@@ -1,9 +1,8 @@
 -- Trials one after the other: what is left gives the same, until one is a majority. From the laws on the finder's order.
 use mathlib.Core.Path.{◌≡◌, refl, sym, ap, ◌∙◌}
-use mathlib.Core.Bool.{Bool, true, false}
-use mathlib.Core.Logic.{◌≢◌}
+use mathlib.Core.Bool.{true, false}
 use mathlib.Core.List.{List, [], ◌∷◌}
-use Prim.Native.Nat.{ℕ, zero, suc, ◌+◌, ◌-◌, ◌*◌, ◌≤◌, ◌<◌}
+use Prim.Native.Nat.{ℕ, suc, ◌+◌, ◌-◌, ◌*◌, ◌≤◌, ◌<◌}
 use native.Mathlib.Omega.{arith}
 use lib.ListN.{length, get_or, take}
 use lib.Seq.{get_or-take, length-take-le}
@@ -11,14 +10,14 @@ use Rattle.graph.specs.Admission.{Admitted}
 use Rattle.graph.specs.Graph.{Graph, node}
 use Rattle.hidden.specs.Truth.{Triple, triple, leak, truth}
 use Rattle.hidden.specs.Class.{classes}
-use Rattle.hidden.specs.Majority.{is_majority, made}
+use Rattle.hidden.specs.Majority.{is_majority}
 use Rattle.hidden.specs.Find.{reaches, near, first_made, triples}
 use Rattle.hidden.specs.Inner.{Rising, left₁, left₂, left₃}
 use Rattle.hidden.proofs.Order.{left_none, left_lowest, left_second, left_seconds, left_third, left_thirds, passed_over, taken}
 use Rattle.majority_call.specs.Valuing.{Facts, Framed}
 use Rattle.finder.specs.Nearness.{Grown}
 use Rattle.finder.specs.Signs.{Signed}
-use Rattle.finder.specs.Trying.{Ready, SignsRead, Tried, Gives, Sought}
+use Rattle.finder.specs.Trying.{Ready, SignsRead, Tried, Sought}
 use Rattle.finder.proofs.Near.{near_is, place_low}
 use Rattle.finder.proofs.Signatures.{sign_framed, sign_room, signed_framed}
 

@@ -1,21 +1,19 @@
 -- The finder whole: scratch that is cleared says nothing, a refusal changes nothing, and what is accepted is the pass and the drop. From the
 -- definitions.
-use mathlib.Core.Path.{◌≡◌, refl, sym, ap, ◌∙◌}
+use mathlib.Core.Path.{◌≡◌, ◌∙◌}
 use mathlib.Core.Logic.{◌≢◌}
 use mathlib.Core.List.{List, [], ◌∷◌}
-use Prim.Native.Nat.{ℕ, ◌+◌, ◌*◌, ◌≤◌, ◌<◌}
+use Prim.Native.Nat.{ℕ, ◌+◌, ◌*◌, ◌≤◌}
 use native.Mathlib.Omega.{arith}
 use lib.ListN.{length}
-use Rattle.graph.specs.Finite.{first}
-use Rattle.graph.specs.Graph.{Graph, graph_of}
+use Rattle.graph.specs.Graph.{Graph}
 use Rattle.graph.specs.Admission.{Admitted, LockBytes, admission_number}
-use Rattle.graph.specs.Answer.{LockedOutcome, locked_outcome, accepted, refused}
+use Rattle.graph.specs.Answer.{locked_outcome, accepted, refused}
 use Rattle.graph.specs.Inner.{IsRefusal}
 use Rattle.graph.proofs.Admit.{admitted, locks_admitted}
 use Rattle.graph.proofs.Answers.{first_le, if_less_le, admission_le, refused_locked, accepted_locked}
 use Rattle.graph.proofs.Tests.{fault, none, both, off}
 use Rattle.moves.specs.Call.{scratch_fault}
-use Rattle.evaluation.specs.Inner.{nodes_of}
 use Rattle.trees.specs.Filling.{Cleared}
 use Rattle.hidden.specs.Find.{passed}
 use Rattle.hidden.specs.Drop.{dropped, dropped_locks}

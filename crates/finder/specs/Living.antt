@@ -1,6 +1,6 @@
 -- Marking the nodes that live: 1 for each in the first words of scratch, by falling index. What the inner functions ask of each other, and
 -- no promise to a caller.
-use Rattle.std.specs.Prelude.{◌≡◌, Bool, true, cond, ◌&&◌, ◌≢◌, ◌⊎◌, List, ℕ, ◌+◌, ◌-◌, ◌*◌, ◌/◌, ◌≤◌, ◌<◌, eqb, length, get_or}
+use Rattle.std.specs.Prelude.{◌≡◌, true, cond, ◌≢◌, ◌⊎◌, List, ℕ, ◌+◌, ◌-◌, ◌*◌, ◌/◌, ◌≤◌, ◌<◌, length, get_or}
 use Rattle.graph.specs.Graph.{Graph, node, word, output, is_edge}
 use Rattle.hidden.specs.Find.{is_locked}
 use Rattle.hidden.specs.Drop.{live}

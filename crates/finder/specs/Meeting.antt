@@ -1,6 +1,6 @@
 -- Ways down from a node, each as the places of a rising list that it meets, the bits of a word. A triple that some way misses is left out. What the
 -- inner functions ask of each other, and no promise to a caller.
-use Rattle.std.specs.Prelude.{◌≡◌, false, ◌⊎◌, List, ℕ, ◌+◌, ◌-◌, ◌*◌, ◌/◌, ◌≤◌, ◌<◌, length, get_or, take}
+use Rattle.std.specs.Prelude.{◌≡◌, false, ◌⊎◌, List, ℕ, ◌+◌, ◌*◌, ◌/◌, ◌≤◌, ◌<◌, length, get_or, take}
 use Rattle.graph.specs.Admission.{Admitted}
 use Rattle.graph.specs.Graph.{Graph, node}
 use Rattle.graph.specs.Literals.{bit}

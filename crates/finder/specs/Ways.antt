@@ -1,6 +1,6 @@
 -- Ways down to an input, as field 0 of each node tells: twice an index that a word of the node names and from which a way leads down, 0 where
 -- none is known. What the inner functions ask of each other, and no promise to a caller.
-use Rattle.std.specs.Prelude.{◌≡◌, ◌≢◌, ◌⊎◌, List, ℕ, ◌+◌, ◌-◌, ◌*◌, ◌/◌, ◌≤◌, ◌<◌, length}
+use Rattle.std.specs.Prelude.{◌≡◌, ◌≢◌, ◌⊎◌, List, ℕ, ◌+◌, ◌-◌, ◌*◌, ◌<◌}
 use Rattle.graph.specs.Graph.{Graph, node}
 use Rattle.state.specs.State.{field}
 use Rattle.trees.specs.Filling.{Stored}

@@ -1,8 +1,9 @@
 #![tactic(auto)]
+
 ghost use Rattle.std.specs.Prelude.{◌≡◌, ℕ, ◌*◌, ◌≤◌, length};
 ghost use Rattle.graph.specs.Admission.{Admitted, LockBytes};
 ghost use Rattle.graph.specs.Answer.{locked_outcome, ScratchKept};
-ghost use Rattle.graph.specs.Literals.{before, after, graph_in, graph_before, graph_after};
+ghost use Rattle.graph.specs.Literals.{graph_in};
 ghost use Rattle.hidden.specs.Find.{passed};
 ghost use Rattle.hidden.specs.Drop.{dropped, dropped_locks};
 ghost use Rattle.hidden.specs.Call.{found_answer, nodes_after_answer, find_call};
@@ -40,10 +41,10 @@ fn pass_and_drop(
 ) -> u32
     requires { let g = graph_in inputs nodes outputs node_table.old node_bits.old output_table.old output_bits.old in
         Admitted g × LockBytes nodes locks.old × (8 * nodes ≤ length scratch.old) }
-    ensures { let g = graph_before inputs nodes outputs node_table node_bits output_table output_bits in
-        let k = graph_after inputs result outputs node_table node_bits output_table output_bits in
-        let h = passed g (before locks) nodes in
-        (k ≡ dropped h (before locks)) × (after locks ≡ dropped_locks h (before locks)) }
+    ensures { let g = graph_in inputs nodes outputs node_table.old node_bits.old output_table.old output_bits.old in
+        let k = graph_in inputs result outputs node_table.new node_bits.new output_table.new output_bits.new in
+        let h = passed g locks.old nodes in
+        (k ≡ dropped h locks.old) × (locks.new ≡ dropped_locks h locks.old) }
 {
     clear(wide(nodes), scratch);
     passing::pass(inputs, nodes, node_table, node_bits, locks, scratch);
@@ -74,10 +75,10 @@ pub fn find(
     scratch: &mut [u32],
 ) -> Found
     ensures outcome { let n = nodes_after_answer nodes (found_answer result) in
-        let g = graph_before inputs nodes outputs node_table node_bits output_table output_bits in
-        let k = graph_after inputs n outputs node_table node_bits output_table output_bits in
-        locked_outcome (found_answer result) k (after locks) ≡ find_call g (before locks) (length (before scratch)) }
-    ensures scratch { ScratchKept (found_answer result) (before scratch) (after scratch) }
+        let g = graph_in inputs nodes outputs node_table.old node_bits.old output_table.old output_bits.old in
+        let k = graph_in inputs n outputs node_table.new node_bits.new output_table.new output_bits.new in
+        locked_outcome (found_answer result) k locks.new ≡ find_call g locks.old (length scratch.old) }
+    ensures scratch { ScratchKept (found_answer result) scratch.old scratch.new }
 {
     let number = faults::find_number(
         inputs,

@@ -1,0 +1,12 @@
+-- `follow` meets its contract: the way has come to an index by the places met so far. From the laws on ways.
+use Prim.Native.Nat.{◌-◌}
+use Rattle.graph.specs.Literals.{literals}
+use Rattle.evaluation.specs.Inner.{nodes_of}
+use Rattle.finder.specs.Meeting.{Comes}
+use Rattle.finder.proofs.following.follow.Given as goal
+
+abbrev pub invariant-loop-far : goal.invariant-loop-far
+invariant-loop-far l = Comes (nodes_of l.inputs l.nodes (literals l.node_table l.node_bits)) l.v l.m l.list l.x l.mask
+
+abbrev pub decreases-loop-far : goal.decreases-loop-far
+decreases-loop-far l = 40 - l.far

@@ -1,0 +1,23 @@
+-- `further` meets its contract: each way so far has come to its index by its places. From the laws on ways.
+use mathlib.Core.Path.{◌≡◌}
+use Prim.Native.Nat.{ℕ, ◌+◌, ◌-◌, ◌*◌, ◌≤◌}
+use lib.ListN.{length}
+use Rattle.graph.specs.Literals.{literals}
+use Rattle.evaluation.specs.Inner.{nodes_of}
+use Rattle.finder.specs.Meeting.{Come}
+use Rattle.finder.proofs.following.further.Given as goal
+
+pub record Inv (from n j t k k₀ l l₀ : ℕ) : Type 0 where
+  pub low : 3 * from ≤ j
+  pub high : j ≤ 3 * n
+  pub some : n ≤ t
+  pub few : t ≤ n + (j - 3 * from)
+  pub same : k ≡ k₀
+  pub same_words : l ≡ l₀
+
+abbrev pub invariant-loop-j : goal.invariant-loop-j
+invariant-loop-j l =
+    Inv l.from l.n l.j l.t (length l.heads) (length l.initial.heads) (length l.met) (length l.initial.met) × Come (nodes_of l.inputs l.nodes (literals l.node_table l.node_bits)) l.v l.m l.list l.t l.heads l.met
+
+abbrev pub decreases-loop-j : goal.decreases-loop-j
+decreases-loop-j l = 3 * l.n - l.j

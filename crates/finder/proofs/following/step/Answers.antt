@@ -1,0 +1,27 @@
+-- `step` meets its contract. From the laws on ways.
+use native.Mathlib.Omega.{arith}
+use Rattle.graph.specs.Graph.{Graph}
+use Rattle.graph.specs.Literals.{literals}
+use Rattle.evaluation.specs.Inner.{nodes_of}
+use Rattle.finder.proofs.Meets.{listed_rise, inside, comes_on}
+use Rattle.finder.proofs.following.step.Goals as goal
+use Rattle.finder.proofs.following.step.Goals.{Start}
+
+abbrev graph : Start → Graph
+graph s = nodes_of s.args.inputs s.args.nodes (literals s.args.node_table.now s.args.node_bits.now)
+
+pub named_at-x-requires : goal.named_at-x-requires
+named_at-x-requires c =
+    let a = c.args in
+    (c.requires.0.admitted, inside (graph (goal.at.named_at-x-requires c).Start) a.v a.m a.list.now c.requires.0 a.from a.by (omega (arith, c.if-from-inputs.false)) c.requires.1 _ c.wide.ensures, c.requires.2)
+
+pub place_of-requires : goal.place_of-requires
+place_of-requires c =
+    (c.requires.0.few, c.requires.0.listed, listed_rise (graph (goal.at.place_of-requires c).Start) c.args.v c.args.m c.args.list.now c.requires.0)
+
+pub returns : goal.returns
+returns c =
+    let x = c.named_at-x in
+    let w = c.wide in
+    let a = c.args in
+    λ z. comes_on (graph (goal.at.returns c).Start) a.v a.m a.list.now c.requires.0 a.from a.by (omega (arith, c.if-from-inputs.false)) c.requires.1 w.result w.ensures x.result x.ensures z c.place_of.result c.place_of.ensures.all

@@ -1,0 +1,14 @@
+-- `set_sign` meets its contract. From the laws on signatures.
+use Rattle.graph.specs.Graph.{Graph}
+use Rattle.graph.specs.Literals.{literals}
+use Rattle.evaluation.specs.Inner.{nodes_of}
+use Rattle.finder.proofs.Signatures.{sign_set}
+use Rattle.finder.proofs.signs.set_sign.Goals as goal
+use Rattle.finder.proofs.signs.set_sign.Goals.{Start}
+
+abbrev graph : Start → Graph
+graph s = nodes_of s.args.inputs s.args.nodes (literals s.args.node_table.now s.args.node_bits.now)
+
+pub returns : goal.returns
+returns c =
+    sign_set (graph (goal.at.returns c).Start) c.requires.0 c.args.v c.requires.2 c.args.scratch.now c.node_sign-w.result _ c.node_sign-w.ensures c.store.ensures

@@ -1,0 +1,47 @@
+-- `tried` meets its contract. From the laws on trials.
+use mathlib.Core.Path.{◌≡◌, sym, ◌∙◌}
+use Prim.Native.Nat.{ℕ, ◌≤◌, ◌<◌}
+use native.Mathlib.Omega.{arith}
+use Rattle.graph.specs.Graph.{Graph}
+use Rattle.graph.specs.Literals.{literals}
+use Rattle.evaluation.specs.Inner.{nodes_of}
+use Rattle.hidden.specs.Truth.{Triple, triple}
+use Rattle.hidden.proofs.Bytes.{truth_le}
+use Rattle.finder.proofs.Trials.{tried_leak, tried_other, tried_majority}
+use Rattle.finder.proofs.trying.tried.Goals as goal
+use Rattle.finder.proofs.trying.tried.Goals.{Start}
+
+abbrev graph : Start → Graph
+graph s = nodes_of s.args.inputs s.args.nodes (literals s.args.node_table.now s.args.node_bits.now)
+
+abbrev three : Start → Triple
+three s = triple s.args.one s.args.two s.args.three
+
+byte : (f t : ℕ) → f ≡ t → t ≤ 256 → (f ≡ 256 → ⊥) → f < 256
+byte f t e l n = omega arith
+
+pub truth-byte-requires : goal.truth-byte-requires
+truth-byte-requires c =
+    let r = c.requires.4 in
+    (c.requires.0, c.requires.1, c.requires.2, record { facts = c.requires.3; positive = r.positive; second = r.second; third = r.third }, r.below)
+
+pub returns-then-byte-eq-LEAK : goal.returns-then-byte-eq-LEAK
+returns-then-byte-eq-LEAK c =
+    let t = c.truth-byte in
+    tried_leak (graph (goal.at.returns-then-byte-eq-LEAK c).Start) (three (goal.at.returns-then-byte-eq-LEAK c).Start) c.args.v t.result c.args.scratch.now _ t.ensures.value t.ensures.framed t.ensures.facts c.if-byte-eq-LEAK.true
+
+pub is_majority-requires : goal.is_majority-requires
+is_majority-requires c =
+    byte _ _ c.truth-byte.ensures.value (truth_le (graph (goal.at.is_majority-requires c).Start) (three (goal.at.is_majority-requires c).Start) _ (omega (arith, c.requires.2))) c.if-byte-eq-LEAK.false
+
+pub returns-then-is_majority : goal.returns-then-is_majority
+returns-then-is_majority c =
+    let t = c.truth-byte in
+    tried_majority (graph (goal.at.returns-then-is_majority c).Start) (three (goal.at.returns-then-is_majority c).Start) c.args.v t.result c.args.scratch.now _ t.ensures.value t.ensures.framed t.ensures.facts
+    (byte _ _ t.ensures.value (truth_le (graph (goal.at.returns-then-is_majority c).Start) (three (goal.at.returns-then-is_majority c).Start) _ (omega (arith, c.requires.2))) c.if-byte-eq-LEAK.false)
+    (sym c.is_majority.ensures ∙ c.if-is_majority.true)
+
+pub returns : goal.returns
+returns c =
+    let t = c.truth-byte in
+    tried_other (graph (goal.at.returns c).Start) (three (goal.at.returns c).Start) c.args.v t.result c.args.scratch.now _ t.ensures.value t.ensures.framed t.ensures.facts (sym c.is_majority.ensures ∙ c.if-is_majority.false)

@@ -1,0 +1,60 @@
+-- `try_seconds` meets its contract: what is left to be tried gives the same. From the laws on trials.
+use mathlib.Core.Path.{◌∙◌}
+use mathlib.Core.List.{List}
+use Prim.Native.Nat.{ℕ, suc}
+use native.Mathlib.Omega.{arith}
+use lib.ListN.{take}
+use Rattle.graph.specs.Graph.{Graph}
+use Rattle.graph.specs.Literals.{literals}
+use Rattle.evaluation.specs.Inner.{nodes_of}
+use Rattle.hidden.specs.Inner.{left₁, left₂, left₃}
+use Rattle.finder.proofs.Trials.{going_none, going_ready, going_on, going_found, going_end, second_step, seconds_begin, seconds_next, seconds_end}
+use Rattle.finder.proofs.trying.try_seconds.Goals as goal
+use Rattle.finder.proofs.trying.try_seconds.Goals.{Start}
+
+abbrev graph : Start → Graph
+graph s = nodes_of s.args.inputs s.args.nodes (literals s.args.node_table.now s.args.node_bits.now)
+
+abbrev near : Start → List ℕ
+near s = take s.args.m s.args.list.now
+
+pub loop-b-init : goal.loop-b-init
+loop-b-init c =
+    let a = c.args in
+    (omega arith, omega (arith, c.requires.1), going_none (graph (goal.at.loop-b-init c).Start) a.v (left₁ (near (goal.at.loop-b-init c).Start) a.a) a.scratch.now _ (seconds_begin a.m a.list.now c.requires.0.listed a.a c.requires.1) c.requires.0.facts)
+
+pub try_pair-found-requires : goal.try_pair-found-requires
+try_pair-found-requires c =
+    let l = c.loop-b in
+    let a = c.args in
+    (going_ready (graph (goal.at.try_pair-found-requires c).Start) a.v (left₁ (near (goal.at.try_pair-found-requires c).Start) a.a) a.scratch.now (left₂ (near (goal.at.try_pair-found-requires c).Start) a.a l.b) l.scratch l.invariant.2 a.m a.list.now c.requires.0, l.invariant.0, c.loop-b-test.true, c.requires.2)
+
+pub shape_of-scratch-then-found-lt-NONE : goal.shape_of-scratch-then-found-lt-NONE
+shape_of-scratch-then-found-lt-NONE c = c.try_pair-found.ensures.framed.same ∙ c.loop-b.invariant.2.framed.same
+
+pub returns-then-found-lt-NONE : goal.returns-then-found-lt-NONE
+returns-then-found-lt-NONE c =
+    let o = c.try_pair-found in
+    let l = c.loop-b in
+    let a = c.args in
+    going_found (graph (goal.at.returns-then-found-lt-NONE c).Start) a.v (left₁ (near (goal.at.returns-then-found-lt-NONE c).Start) a.a) a.scratch.now (left₂ (near (goal.at.returns-then-found-lt-NONE c).Start) a.a l.b) l.scratch l.invariant.2 (left₃ (near (goal.at.returns-then-found-lt-NONE c).Start) a.a l.b (suc l.b)) (left₂ (near (goal.at.returns-then-found-lt-NONE c).Start) a.a (suc l.b)) o.result.byte _ _ (second_step a.m a.list.now c.requires.0.listed a.a l.b c.loop-b-test.true) o.ensures (left₁ (near (goal.at.returns-then-found-lt-NONE c).Start) (suc a.a)) c.if-found-lt-NONE.true
+
+pub loop-b-preserved : goal.loop-b-preserved
+loop-b-preserved c =
+    let o = c.try_pair-found in
+    let t = c.loop-b-test.true in
+    let l = c.loop-b in
+    let a = c.args in (
+      omega (arith, l.invariant.0),
+      omega (arith, t),
+      going_on (graph (goal.at.loop-b-preserved c).Start) a.v (left₁ (near (goal.at.loop-b-preserved c).Start) a.a) a.scratch.now (left₂ (near (goal.at.loop-b-preserved c).Start) a.a l.b) l.scratch l.invariant.2 (left₃ (near (goal.at.loop-b-preserved c).Start) a.a l.b (suc l.b)) (left₂ (near (goal.at.loop-b-preserved c).Start) a.a (suc l.b)) o.result.byte _ _ (second_step a.m a.list.now c.requires.0.listed a.a l.b c.loop-b-test.true) o.ensures _ (seconds_next a.m a.list.now c.requires.0.listed a.a l.b) c.if-found-lt-NONE.false,
+    )
+
+pub shape_of-scratch : goal.shape_of-scratch
+shape_of-scratch c = c.loop-b.invariant.2.framed.same
+
+pub returns : goal.returns
+returns c =
+    let l = c.loop-b in
+    let a = c.args in
+    going_end (graph (goal.at.returns c).Start) a.v (left₁ (near (goal.at.returns c).Start) a.a) a.scratch.now (left₂ (near (goal.at.returns c).Start) a.a l.b) l.scratch l.invariant.2 (left₁ (near (goal.at.returns c).Start) (suc a.a)) _ (seconds_end a.m a.list.now c.requires.0.listed a.a l.b (omega (arith, c.loop-b-test.false, l.invariant.1)))

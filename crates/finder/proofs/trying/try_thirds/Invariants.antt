@@ -1,0 +1,16 @@
+-- `try_thirds` meets its contract: what is left to be tried gives the same. From the laws on trials.
+use Prim.Native.Nat.{suc, ◌-◌, ◌≤◌, ◌<◌}
+use lib.ListN.{take}
+use Rattle.graph.specs.Literals.{literals}
+use Rattle.evaluation.specs.Inner.{nodes_of}
+use Rattle.hidden.specs.Inner.{left₃}
+use Rattle.finder.proofs.Trials.{Going}
+use Rattle.finder.proofs.trying.try_thirds.Given as goal
+
+abbrev pub invariant-loop-c : goal.invariant-loop-c
+invariant-loop-c l =
+    let near = take l.m l.list in
+    (l.b < l.c) × (l.c ≤ l.m) × Going (nodes_of l.inputs l.nodes (literals l.node_table l.node_bits)) l.v (left₃ near l.a l.b (suc l.b)) (left₃ near l.a l.b l.c) l.initial.scratch l.scratch
+
+abbrev pub decreases-loop-c : goal.decreases-loop-c
+decreases-loop-c l = l.m - l.c
