@@ -1,6 +1,6 @@
 -- M-107's worked row: one majority, exported as AIGER text, imported again and found.
 use Rattle.std.specs.Prelude.{◌≡◌, ◌∷◌}
-use Rattle.graph.specs.All.{List, [], ℕ, tab, Graph, graph_of, accepted, locked_outcome}
+use Rattle.graph.specs.All.{List, [], ℕ, tab, graph_of, accepted, locked_outcome}
 use Rattle.aiger.specs.All.{export_text, import_call}
 use Rattle.promises.specs.Demand.{Locked, node_at, finding, step, left, run}
 
