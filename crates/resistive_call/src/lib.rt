@@ -1,7 +1,8 @@
 #![tactic(auto)]
+
 ghost use Rattle.std.specs.Prelude.{◌≡◌, length};
 ghost use Rattle.graph.specs.Answer.{outcome, ScratchKept};
-ghost use Rattle.graph.specs.Literals.{before, after, graph_before, graph_after};
+ghost use Rattle.graph.specs.Literals.{graph_in};
 ghost use Rattle.moves.specs.Call.{saving_answer};
 ghost use Rattle.resistive.specs.Resistive.{resistive_call};
 
@@ -29,10 +30,10 @@ pub fn resistive_call(
     root: u32,
     scratch: &mut [u32],
 ) -> Saving
-    ensures outcome { let g = graph_before inputs nodes outputs node_table node_bits output_table output_bits in
-        let k = graph_after inputs nodes outputs node_table node_bits output_table output_bits in
-        outcome (saving_answer result) k ≡ resistive_call g (before locks) (length (before scratch)) root }
-    ensures scratch { ScratchKept (saving_answer result) (before scratch) (after scratch) }
+    ensures outcome { let g = graph_in inputs nodes outputs node_table.now node_bits.old output_table.now output_bits.old in
+        let k = graph_in inputs nodes outputs node_table.now node_bits.new output_table.now output_bits.new in
+        outcome (saving_answer result) k ≡ resistive_call g locks.now (length scratch.old) root }
+    ensures scratch { ScratchKept (saving_answer result) scratch.old scratch.new }
 {
     let number = tree_number(
         inputs,

@@ -1,0 +1,18 @@
+-- `fill_choices` meets its contract: the nodes of the tree passed are decided. From the laws on the pass.
+use mathlib.Core.List.{List}
+use Prim.Native.Nat.{ℕ}
+use Rattle.graph.specs.Graph.{Graph}
+use Rattle.trees.proofs.Falling.{bound_of}
+use Rattle.resistive_call.proofs.ChoicePass.{ChoiceRight}
+use Rattle.trees.proofs.Passes.{FallenTo}
+use Rattle.graph.specs.Literals.{graph_in}
+use Rattle.resistive_call.proofs.deciding.fill_choices.Given as goal
+
+abbrev pub Inv : Graph → List ℕ → List ℕ → ℕ → List ℕ → ℕ → Type 0
+Inv g ls sc₁ r sc v = FallenTo g (ChoiceRight g ls r) sc₁ r v sc
+
+abbrev pub invariant-loop-v : goal.invariant-loop-v
+invariant-loop-v l = Inv (graph_in l.inputs l.nodes l.outputs l.node_table l.node_bits l.output_table l.output_bits) l.locks l.initial.scratch l.root l.scratch l.v
+
+abbrev pub decreases-loop-v : goal.decreases-loop-v
+decreases-loop-v l = bound_of l.v
