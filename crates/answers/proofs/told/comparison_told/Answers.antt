@@ -1,0 +1,9 @@
+-- `comparison_told` meets its contract, case by case.
+use mathlib.Core.Path.{sym, ap}
+use Rattle.compare.specs.Compare.{comparison_answer}
+use Rattle.answers.specs.Told.{told}
+use Rattle.answers.proofs.told.comparison_told.Goals as goal
+
+pub returns-in-Told : goal.returns-in-Told
+returns-in-Told c =
+    sym (ap (λ a. told (comparison_answer a) c.args.before) c.in-Told.is)

@@ -1,0 +1,12 @@
+-- `improvement_told` meets its contract, case by case.
+use mathlib.Core.Path.{sym, ap, ◌∙◌}
+use borrow.Author.Rules.{rules}
+use Rattle.graph.proofs.Difference.{read_as_lem}
+use Rattle.class_figures.specs.Call.{figures_answer}
+use Rattle.answers.specs.Told.{told_signed}
+use Rattle.answers.proofs.Same.{two}
+use Rattle.answers.proofs.told.improvement_told.Goals as goal
+
+pub returns-in-Told : goal.returns-in-Told
+returns-in-Told c =
+    two (read_as_lem c.in-Told.fall (search rules)) (read_as_lem c.in-Told.total_before (search rules)) ∙ sym (ap (λ a. told_signed (figures_answer a) c.args.before) c.in-Told.is)

@@ -1,0 +1,12 @@
+-- `saving_told` meets its contract, case by case.
+use mathlib.Core.Path.{sym, ap, ◌∙◌}
+use borrow.Author.Rules.{rules}
+use Rattle.graph.proofs.Difference.{read_as_lem}
+use Rattle.moves.specs.Call.{saving_answer}
+use Rattle.answers.specs.Told.{told_signed}
+use Rattle.answers.proofs.Same.{two}
+use Rattle.answers.proofs.told.saving_told.Goals as goal
+
+pub returns-in-Saved : goal.returns-in-Saved
+returns-in-Saved c =
+    two (read_as_lem c.in-Saved.own (search rules)) (read_as_lem c.in-Saved.others (search rules)) ∙ sym (ap (λ a. told_signed (saving_answer a) c.args.before) c.in-Saved.is)
