@@ -1,7 +1,8 @@
 #![tactic(auto)]
+
 ghost use Rattle.std.specs.Prelude.{◌≡◌, length};
 ghost use Rattle.graph.specs.Answer.{ScratchKept};
-ghost use Rattle.graph.specs.Literals.{before, after, graph_before};
+ghost use Rattle.graph.specs.Literals.{graph_in};
 ghost use Rattle.moves.specs.Call.{saving_answer};
 ghost use Rattle.preview.specs.Preview.{preview_answer, preview_bytes};
 
@@ -26,11 +27,11 @@ pub fn preview(
     bytes: &mut [u8],
     scratch: &mut [u32],
 ) -> Saving
-    ensures answer { let g = graph_before inputs nodes outputs node_table node_bits output_table output_bits in
-        saving_answer result ≡ preview_answer g (before locks) (length (before bytes)) (length (before scratch)) root }
-    ensures bytes { let g = graph_before inputs nodes outputs node_table node_bits output_table output_bits in
-        after bytes ≡ preview_bytes g (before locks) (before bytes) (length (before scratch)) root }
-    ensures scratch { ScratchKept (saving_answer result) (before scratch) (after scratch) }
+    ensures answer { let g = graph_in inputs nodes outputs node_table.now node_bits.now output_table.now output_bits.now in
+        saving_answer result ≡ preview_answer g locks.now (length bytes.old) (length scratch.old) root }
+    ensures bytes { let g = graph_in inputs nodes outputs node_table.now node_bits.now output_table.now output_bits.now in
+        bytes.new ≡ preview_bytes g locks.now bytes.old (length scratch.old) root }
+    ensures scratch { ScratchKept (saving_answer result) scratch.old scratch.new }
 {
     let number = faults::preview_number(
         inputs,
