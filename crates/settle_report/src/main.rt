@@ -2,15 +2,29 @@
 // stops at 65,536 bytes, which are then the whole file; where it fails, what was read until then is.
 #![tactic(auto)]
 
-fn main() {
-    let mut file = io::large_buffer();
-    let n = io::read_full(libc::STDIN_FILENO, &mut file);
-    print_report(&file[..n]);
+ghost use Rattle.std.specs.Prelude.{◌≤◌, length};
+
+use std::io;
+use std::io::{Input, Read, Write};
+
+// Reads until the file is full, the input ends or a read fails, and answers how many bytes it read.
+fn read_file<R: Read>(input: &mut R, file: &mut [u8]) -> usize
+    ensures { result ≤ length file.new }
+{
+    let mut done = 0;
+    while done < file.len() {
+        let n = input.read(&mut file[done..]).unwrap_or(0);
+        if n == 0 {
+            return done;
+        }
+        done += n;
+    }
+    done
 }
 
 // Prints the report of a file. The tables and the locks have room for 2,000 nodes and 4,096 outputs, the scratch is what settling such a
 // graph needs, and the buffer has room for any report of it.
-fn print_report(file: &[u8]) {
+fn print_report(rt: &impl Print, file: &[u8]) -> io::Result<()> {
     let mut node_table = [0u32; 6000];
     let mut node_bits = [0u64; 94];
     let mut output_table = [0u32; 4096];
@@ -29,7 +43,13 @@ fn print_report(file: &[u8]) {
         &mut buffer,
     );
     let report::Reported::Text(n) = reported else {
-        return;
+        return Ok(());
     };
-    io::write_all(libc::STDOUT_FILENO, &buffer[..n]);
+    io::writer(rt).write_all(&buffer[..n])
+}
+
+fn main(rt: HostRuntime) -> io::Result<()> {
+    let mut file = [0u8; 65536];
+    let n = read_file(&mut rt.reader(), &mut file);
+    print_report(&rt, &file[..n])
 }
