@@ -69,8 +69,8 @@ module _ (d₀ : Locked) (sc₀ us ms ws : List ℕ) (l₀ : List ℤ) where
       }
 
   pub calls_none : (d : Locked) (sc : List ℕ) (l : List ℤ) (s : List ℕ) (at : ℕ) → length s < 3 → 3 * (length ws / 3) ≤ length l₀ → CallsLeft d₀ sc₀ us ms ws l₀ d sc l s at
-      → (d ≡ run d₀ (decode (lent sc₀ us ms) ws)) × (l ≡ answers_of d₀ (decode (lent sc₀ us ms) ws) ++ drop (3 * (length ws / 3)) l₀)
-  calls_none d sc l [] at m r i = (i.graph, i.answers ∙ front (answers_of d₀ (decode (lent sc₀ us ms) ws)) l₀ _ (length_answers d₀ (lent sc₀ us ms) ws) r)
-  calls_none d sc l (k ∷ []) at m r i = (i.graph, i.answers ∙ front (answers_of d₀ (decode (lent sc₀ us ms) ws)) l₀ _ (length_answers d₀ (lent sc₀ us ms) ws) r)
-  calls_none d sc l (k ∷ u ∷ []) at m r i = (i.graph, i.answers ∙ front (answers_of d₀ (decode (lent sc₀ us ms) ws)) l₀ _ (length_answers d₀ (lent sc₀ us ms) ws) r)
+      → record { graph : d ≡ run d₀ (decode (lent sc₀ us ms) ws); answers : l ≡ answers_of d₀ (decode (lent sc₀ us ms) ws) ++ drop (3 * (length ws / 3)) l₀ }
+  calls_none d sc l [] at m r i = record { graph = i.graph; answers = i.answers ∙ front (answers_of d₀ (decode (lent sc₀ us ms) ws)) l₀ _ (length_answers d₀ (lent sc₀ us ms) ws) r }
+  calls_none d sc l (k ∷ []) at m r i = record { graph = i.graph; answers = i.answers ∙ front (answers_of d₀ (decode (lent sc₀ us ms) ws)) l₀ _ (length_answers d₀ (lent sc₀ us ms) ws) r }
+  calls_none d sc l (k ∷ u ∷ []) at m r i = record { graph = i.graph; answers = i.answers ∙ front (answers_of d₀ (decode (lent sc₀ us ms) ws)) l₀ _ (length_answers d₀ (lent sc₀ us ms) ws) r }
   calls_none d sc l (k ∷ u ∷ w ∷ s) at m r i = absurd (omega arith)

@@ -88,16 +88,21 @@ module _ (file ws ns os ls : List ℕ) (t : Lent) (l : List ℤ) where
   -- the contract of a replay that answers a, leaves h and l' for answers
   abbrev pub Met : Answer → Locked → List ℤ → List ℕ → Type 0
   Met a h l' sc' =
-      (locked_outcome a h.graph h.locks ≡ replay_call file ws t ns os ls (length l))
-      × ((l' ≡ answers_after file ws t ns os ls l)
-      × (ScratchKept a t.scratch sc' × (a.number ≡ 0 → DemandMet (left loaded) (decode t ws) h l')))
+      record {
+        call : locked_outcome a h.graph h.locks ≡ replay_call file ws t ns os ls (length l);
+        answers : l' ≡ answers_after file ws t ns os ls l;
+        scratch : ScratchKept a t.scratch sc';
+        demand : a.number ≡ 0 → DemandMet (left loaded) (decode t ws) h l';
+      }
 
   refuses : (k : ℕ) → k ≡ replay_number file ws n₀ ns os ls (length l) → (k ≡ 0 → ⊥) → Met (refused k) (with_locks (blank ns os) ls) l t.scratch
   unfolding replay_call answers_after
-  refuses k e n = (
-    refused_locked k (replay_number file ws n₀ ns os ls (length l)) (blank ns os) ls _ e (λ z. n (e ∙ z)),
-    (unequal (replay_number file ws n₀ ns os ls (length l)) 0 _ l (λ z. n (e ∙ z)) refl, ((λ m. refl), (λ z. absurd (n z)))),
-  )
+  refuses k e n = record {
+    call = refused_locked k (replay_number file ws n₀ ns os ls (length l)) (blank ns os) ls _ e (λ z. n (e ∙ z));
+    answers = unequal (replay_number file ws n₀ ns os ls (length l)) 0 _ l (λ z. n (e ∙ z)) refl;
+    scratch = λ m. refl;
+    demand = λ z. absurd (n z);
+  }
 
   pub refused_words : (k : ℕ) → k ≡ code_number ws n₀ (length l) → (k ≡ 0 → ⊥) → Met (refused k) (with_locks (blank ns os) ls) l t.scratch
   unfolding replay_number
@@ -123,11 +128,10 @@ module _ (file ws ns os ls : List ℕ) (t : Lent) (l : List ℤ) where
       let u : h ≡ run (left loaded) (decode t ws) = q ∙ ap (λ (x : LockedOutcome). run (left x) (decode t ws)) e in
       let v : l' ≡ answers_of (left loaded) (decode t ws) ++ drop (3 * (length ws / 3)) l =
       f ∙ ap (λ (x : LockedOutcome). answers_of (left x) (decode t ws) ++ drop (3 * (length ws / 3)) l) e in
-      let m : first (code_number ws n₀ (length l)) loaded.answer.number ≡ 0 = sym (none (code_number ws n₀ (length l)) loaded.answer.number z (sym y)) in (
-        ap (λ (x : Locked). locked_outcome (accepted (x.graph.I ∷ x.graph.N ∷ x.graph.O ∷ [])) x.graph x.locks) u
-            ∙ accepted_locked (first (code_number ws n₀ (length l)) loaded.answer.number) (blank ns os) ls _ m,
-        (
-          equal (first (code_number ws n₀ (length l)) loaded.answer.number) 0 _ l m v,
-          ((λ b. absurd (b refl)), (λ b. demand_met _ h (decode t ws) l' _ (after_load file ns os ls y (decode t ws)) u v)),
-        ),
-      )
+      let m : first (code_number ws n₀ (length l)) loaded.answer.number ≡ 0 = sym (none (code_number ws n₀ (length l)) loaded.answer.number z (sym y)) in record {
+        call = ap (λ (x : Locked). locked_outcome (accepted (x.graph.I ∷ x.graph.N ∷ x.graph.O ∷ [])) x.graph x.locks) u
+            ∙ accepted_locked (first (code_number ws n₀ (length l)) loaded.answer.number) (blank ns os) ls _ m;
+        answers = equal (first (code_number ws n₀ (length l)) loaded.answer.number) 0 _ l m v;
+        scratch = λ b. absurd (b refl);
+        demand = λ b. demand_met _ h (decode t ws) l' _ (after_load file ns os ls y (decode t ws)) u v;
+      }

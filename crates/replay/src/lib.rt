@@ -1,8 +1,9 @@
 // A replay: loads a file and makes a list of calls on the loaded graph and its locks.
 #![tactic(auto)]
+
 ghost use Rattle.std.specs.Prelude.{◌≡◌, length};
 ghost use Rattle.graph.specs.Answer.{locked_outcome, ScratchKept};
-ghost use Rattle.graph.specs.Literals.{before, after, table_before, table_after};
+ghost use Rattle.graph.specs.Literals.{before, literals};
 ghost use Rattle.tagged_file.specs.Load.{load_call};
 ghost use Rattle.promises.specs.Demand.{with_locks, left};
 ghost use Rattle.replay.specs.Replay.{lent, decode, replay_call, answers_after, replayed_answer, replayed_graph, DemandMet};
@@ -50,20 +51,20 @@ pub fn replay(
     scratch: &mut [u32],
     answers: &mut [i64],
 ) -> Replayed
-    ensures call { let ns = table_before node_table node_bits in
-        let os = table_before output_table output_bits in
-        let l = lent (before scratch) (before list) (before bytes) in
-        locked_outcome (replayed_answer result) (replayed_graph result (table_after node_table node_bits) (table_after output_table output_bits)) (after locks) ≡ replay_call (before file) (before calls) l ns os (before locks) (length (before answers)) }
-    ensures answers { let ns = table_before node_table node_bits in
-        let os = table_before output_table output_bits in
-        let l = lent (before scratch) (before list) (before bytes) in
-        after answers ≡ answers_after (before file) (before calls) l ns os (before locks) (before answers) }
-    ensures scratch { ScratchKept (replayed_answer result) (before scratch) (after scratch) }
-    ensures demand { let ns = table_before node_table node_bits in
-        let os = table_before output_table output_bits in
-        let l = lent (before scratch) (before list) (before bytes) in
+    ensures call { let ns = literals node_table.old node_bits.old in
+        let os = literals output_table.old output_bits.old in
+        let l = lent scratch.old (before list) (before bytes) in
+        locked_outcome (replayed_answer result) (replayed_graph result (literals node_table.new node_bits.new) (literals output_table.new output_bits.new)) locks.new ≡ replay_call (before file) (before calls) l ns os locks.old (length answers.old) }
+    ensures answers { let ns = literals node_table.old node_bits.old in
+        let os = literals output_table.old output_bits.old in
+        let l = lent scratch.old (before list) (before bytes) in
+        answers.new ≡ answers_after (before file) (before calls) l ns os locks.old answers.old }
+    ensures scratch { ScratchKept (replayed_answer result) scratch.old scratch.new }
+    ensures demand { let ns = literals node_table.old node_bits.old in
+        let os = literals output_table.old output_bits.old in
+        let l = lent scratch.old (before list) (before bytes) in
         let cs = decode l (before calls) in
-        ((replayed_answer result).number ≡ 0 → DemandMet (left (load_call (before file) ns os (before locks))) cs (with_locks (replayed_graph result (table_after node_table node_bits) (table_after output_table output_bits)) (after locks)) (after answers)) }
+        ((replayed_answer result).number ≡ 0 → DemandMet (left (load_call (before file) ns os locks.old)) cs (with_locks (replayed_graph result (literals node_table.new node_bits.new) (literals output_table.new output_bits.new)) locks.new) answers.new) }
 {
     if calls.len() % 3 != 0 {
         return Replayed::NotCalls(CallsFault::LeftOver);
