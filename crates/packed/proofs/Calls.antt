@@ -8,7 +8,6 @@ use native.Mathlib.Omega.{arith}
 use borrow.Author.Tests.{leb-true}
 use lib.Dec.{leb}
 use lib.ListN.{length, get_or}
-use lib.IntN.{pos}
 use Rattle.graph.specs.Admission.{admission_number, Admitted}
 use Rattle.graph.specs.Answer.{whole}
 use Rattle.graph.specs.Finite.{first}

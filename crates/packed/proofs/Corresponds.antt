@@ -9,8 +9,8 @@ use Rattle.graph.specs.Admission.{Admitted, admission_number}
 use Rattle.graph.specs.Answer.{Answer, Outcome, LockedOutcome, locked_outcome, guarded, guarded_locks}
 use Rattle.graph.specs.Graph.{Graph}
 use Rattle.graph.proofs.Admit.{locks_admitted}
-use Rattle.graph.proofs.Tests.{both, off}
-use Rattle.moves.specs.Call.{moved, node_fault, scratch_fault, tree_number}
+use Rattle.graph.proofs.Tests.{both}
+use Rattle.moves.specs.Call.{moved, node_fault, tree_number}
 use Rattle.moves.specs.Apply.{none, put}
 use Rattle.moves.specs.Tree.{tree}
 use Rattle.resistive.specs.Resistive.{best_still, resistive_call}
