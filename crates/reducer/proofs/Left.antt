@@ -25,10 +25,8 @@ use Rattle.replay.specs.declared.Replayed.TheVariants as replayed
 use Rattle.replay.specs.declared.CallsFault.TheVariants.{LeftOver, UnknownKind, PartOutside}
 use Rattle.replay.specs.Replay.{replayed_answer, replayed_graph, DemandMet}
 use Rattle.graph.proofs.Answers.{number_some}
-use Rattle.graph.specs.Literals.{before, after, Slice, table_after}
-use denote.Ref.{Bor}
-use denote.Triple.Both.{Both}
-use Rattle.reducer.specs.Interface.{SavingLeft, TextLeft, GraphLeft, FoundLeft, ClassLeft, FiguresLeft}
+use Rattle.graph.specs.Literals.{literals}
+use Rattle.reducer.specs.Interface.{Lent, SavingLeft, TextLeft, GraphLeft, FoundLeft, ClassLeft, FiguresLeft}
 
 -- equal answers keep the same scratch
 pub same_kept : {a b : Answer} (s t : List ℕ) → a ≡ b → ScratchKept a s t → ScratchKept b s t
@@ -42,16 +40,16 @@ number_is (suc n) = refl
 
 -- what is left and told of an outcome o, from what a call answers and leaves, which is o
 module _ (r : ℕ) (a : Answer) (number : r ≡ a.number) where
-  pub saving_left : (o : Outcome) (k : Graph) (saving : Both (Bor (List ℤ)) (Bor (List ℤ))) → after saving ≡ told_signed a (before saving) → outcome a k ≡ o → SavingLeft o r k saving
+  pub saving_left : (o : Outcome) (k : Graph) (saving : Lent (List ℤ)) → saving.exit.now ≡ told_signed a saving.entry.now → outcome a k ≡ o → SavingLeft o r k saving
   saving_left o k saving t e =
       record { number = number ∙ ap (λ (x : Outcome). x.answer.number) e; graph = ap (λ (x : Outcome). x.graph) e; tells = t ∙ same_signed (ap (λ (x : Outcome). x.answer) e) refl }
 
-  pub text_left : (o : WriteOutcome) (buffer : Slice) (size : Both (Bor ℕ) (Bor ℕ)) → after size ≡ told_one a (before size) → write_outcome a (after buffer) ≡ o → TextLeft o r buffer size
+  pub text_left : (o : WriteOutcome) (buffer : Lent (List ℕ)) (size : Lent ℕ) → size.exit.now ≡ told_one a size.entry.now → write_outcome a buffer.exit.now ≡ o → TextLeft o r buffer size
   text_left o buffer size t e =
       record { number = number ∙ ap (λ (x : WriteOutcome). x.answer.number) e; bytes = ap (λ (x : WriteOutcome). x.buffer) e; tells = t ∙ same_one _ (ap (λ (x : WriteOutcome). x.answer) e) }
 
-  pub graph_left : (o : LockedOutcome) (g : Graph) (us bs vs ds ls numbers : Slice) → after numbers ≡ told a (before numbers) → table_after us bs ≡ g.nodes → table_after vs ds ≡ g.outputs
-      → locked_outcome a g (after ls) ≡ o → GraphLeft o r us bs vs ds ls numbers
+  pub graph_left : (o : LockedOutcome) (g : Graph) (us bs vs ds ls numbers : Lent (List ℕ)) → numbers.exit.now ≡ told a numbers.entry.now → literals us.exit.now bs.exit.now ≡ g.nodes → literals vs.exit.now ds.exit.now ≡ g.outputs
+      → locked_outcome a g ls.exit.now ≡ o → GraphLeft o r us bs vs ds ls numbers
   graph_left o g us bs vs ds ls numbers t p q e =
       record {
         number = number ∙ ap (λ (x : LockedOutcome). x.answer.number) e;
@@ -72,8 +70,8 @@ module _ (r : ℕ) (a : Answer) (number : r ≡ a.number) where
         tells = t ∙ same_one _ p;
       }
 
-  pub class_left : (o : ClassOutcome) (k : Graph) (sheet figures : Slice) (savings : Both (Bor (List ℤ)) (Bor (List ℤ))) → after figures ≡ told a (before figures)
-      → after savings ≡ told_signed a (before savings) → class_outcome a k (after sheet) ≡ o → ClassLeft o r k sheet figures savings
+  pub class_left : (o : ClassOutcome) (k : Graph) (sheet figures : Lent (List ℕ)) (savings : Lent (List ℤ)) → figures.exit.now ≡ told a figures.entry.now
+      → savings.exit.now ≡ told_signed a savings.entry.now → class_outcome a k sheet.exit.now ≡ o → ClassLeft o r k sheet figures savings
   class_left o k sheet figures savings t s e =
       let p = ap (λ (x : ClassOutcome). x.answer) e in
       record {
@@ -84,8 +82,8 @@ module _ (r : ℕ) (a : Answer) (number : r ≡ a.number) where
         saves = s ∙ same_signed p refl;
       }
 
-  pub figures_left : (b : Answer) (figures : Slice) (improvement : Both (Bor (List ℤ)) (Bor (List ℤ))) → after figures ≡ told a (before figures)
-      → after improvement ≡ told_signed a (before improvement) → a ≡ b → FiguresLeft b r figures improvement
+  pub figures_left : (b : Answer) (figures : Lent (List ℕ)) (improvement : Lent (List ℤ)) → figures.exit.now ≡ told a figures.entry.now
+      → improvement.exit.now ≡ told_signed a improvement.entry.now → a ≡ b → FiguresLeft b r figures improvement
   figures_left b figures improvement t s e =
       record { number = number ∙ ap (λ (x : Answer). x.number) e; tells = t ∙ same_told _ e; improves = s ∙ same_signed e refl }
 

@@ -1,11 +1,12 @@
 // The entries for C: each returns 0 or document 01's number, and leaves what it answers beside it at a place that is lent.
 #![tactic(auto)]
+
 ghost use Rattle.std.specs.Prelude.{◌≡◌, ◌*◌, [], ◌∷◌, length, get_or, take, drop};
 ghost use Rattle.graph.specs.Graph.{graph_of};
 ghost use Rattle.graph.specs.Count.{C};
 ghost use Rattle.graph.specs.Admission.{admission_number};
 ghost use Rattle.graph.specs.Answer.{accepted, unless, ScratchKept};
-ghost use Rattle.graph.specs.Literals.{before, after, table_before, table_after, graph_before, graph_after};
+ghost use Rattle.graph.specs.Literals.{before, graph_before, graph_in, literals};
 ghost use Rattle.file_checks.specs.File.{field_number, field_payload};
 ghost use Rattle.tagged_file.specs.Load.{load_call};
 ghost use Rattle.tagged_file.specs.Write.{write_call};
@@ -31,8 +32,8 @@ ghost use Rattle.reducer.specs.Interface.{field_answer, SavingLeft, GainLeft, Gr
 // Where the payload of the field at the front starts, and its length.
 #[unsafe(no_mangle)]
 pub extern "C" fn reducer_field(bytes: &[u8], payload: &mut [usize; 2]) -> u32
-    ensures answer { (result ≡ field_number (before bytes)) × (after payload ≡ told (field_answer (before bytes)) (before payload)) }
-    ensures stretch { result ≡ 0 → take (get_or (after payload) 1 0) (drop (get_or (after payload) 0 0) (before bytes)) ≡ field_payload (before bytes) }
+    ensures answer { (result ≡ field_number (before bytes)) × (payload.new ≡ told (field_answer (before bytes)) payload.old) }
+    ensures stretch { result ≡ 0 → take (get_or payload.new 1 0) (drop (get_or payload.new 0 0) (before bytes)) ≡ field_payload (before bytes) }
 {
     let number = tagged_file::field_number(bytes);
     *payload = answers::told::field_told(number, tagged_file::field(bytes).len(), *payload);
@@ -50,9 +51,9 @@ pub extern "C" fn reducer_load(
     locks: &mut [u8],
     numbers: &mut [u32; 3],
 ) -> u32
-    ensures { let ns = table_before node_table node_bits in
-        let os = table_before output_table output_bits in
-        let o = load_call (before file) ns os (before locks) in
+    ensures { let ns = literals node_table.old node_bits.old in
+        let os = literals output_table.old output_bits.old in
+        let o = load_call (before file) ns os locks.old in
         GraphLeft o result node_table node_bits output_table output_bits locks numbers }
 {
     let answer = tagged_file::load(
@@ -78,9 +79,9 @@ pub extern "C" fn reducer_import(
     locks: &mut [u8],
     numbers: &mut [u32; 3],
 ) -> u32
-    ensures { let ns = table_before node_table node_bits in
-        let os = table_before output_table output_bits in
-        let o = import_call (before text) ns os (before locks) in
+    ensures { let ns = literals node_table.old node_bits.old in
+        let os = literals output_table.old output_bits.old in
+        let o = import_call (before text) ns os locks.old in
         GraphLeft o result node_table node_bits output_table output_bits locks numbers }
 {
     let answer = aiger_import::import(
@@ -123,9 +124,9 @@ pub extern "C" fn reducer_join(
 ) -> u32
     ensures { let g = graph_before inputs nodes outputs node_table node_bits output_table output_bits in
         let h = graph_before second_inputs second_nodes second_outputs second_node_table second_node_bits second_output_table second_output_bits in
-        let ns = table_before joined_node_table joined_node_bits in
-        let os = table_before joined_output_table joined_output_bits in
-        let o = join_call g (before locks) h (before second_locks) ns os (before joined_locks) in
+        let ns = literals joined_node_table.old joined_node_bits.old in
+        let os = literals joined_output_table.old joined_output_bits.old in
+        let o = join_call g (before locks) h (before second_locks) ns os joined_locks.old in
         GraphLeft o result joined_node_table joined_node_bits joined_output_table joined_output_bits joined_locks numbers }
 {
     let answer = join::join(
@@ -170,7 +171,7 @@ pub extern "C" fn reducer_write(
     length: &mut usize,
 ) -> u32
     ensures { let g = graph_before inputs nodes outputs node_table node_bits output_table output_bits in
-        let o = write_call g (before locks) (before buffer) in
+        let o = write_call g (before locks) buffer.old in
         TextLeft o result buffer length }
 {
     let answer = tagged_file::write(
@@ -204,11 +205,11 @@ pub extern "C" fn reducer_export(
     length: &mut usize,
 ) -> u32
     ensures text { let g = graph_before inputs nodes outputs node_table node_bits output_table output_bits in
-        let o = export_call g (before locks) (before scratch) (before buffer) in
+        let o = export_call g (before locks) scratch.old buffer.old in
         TextLeft o result buffer length }
     ensures scratch { let g = graph_before inputs nodes outputs node_table node_bits output_table output_bits in
-        let o = export_call g (before locks) (before scratch) (before buffer) in
-        ScratchKept o.answer (before scratch) (after scratch) }
+        let o = export_call g (before locks) scratch.old buffer.old in
+        ScratchKept o.answer scratch.old scratch.new }
 {
     let answer = aiger_export::export(
         inputs,
@@ -242,12 +243,12 @@ pub extern "C" fn reducer_evaluate(
     results: &mut [u64],
 ) -> u32
     ensures answer { let g = graph_before inputs nodes outputs node_table node_bits output_table output_bits in
-        result ≡ evaluate_number g (before locks) (length (before input_words)) (length (before scratch)) (length (before results)) }
+        result ≡ evaluate_number g (before locks) (length (before input_words)) (length scratch.old) (length results.old) }
     ensures results { let g = graph_before inputs nodes outputs node_table node_bits output_table output_bits in
-        after results ≡ results_after g (before locks) (before input_words) (length (before scratch)) (before results) }
+        results.new ≡ results_after g (before locks) (before input_words) (length scratch.old) results.old }
     ensures scratch { let g = graph_before inputs nodes outputs node_table node_bits output_table output_bits in
-        ScratchKept (unless (evaluate_number g (before locks) (length (before input_words)) (length (before scratch)) (length (before results))) (accepted []))
-        (before scratch) (after scratch) }
+        ScratchKept (unless (evaluate_number g (before locks) (length (before input_words)) (length scratch.old) (length results.old)) (accepted []))
+        scratch.old scratch.new }
 {
     answers::told::evaluated_number(evaluation::evaluate(
         inputs,
@@ -280,11 +281,11 @@ pub extern "C" fn reducer_assignment(
     found: &mut [u32; 2],
 ) -> u32
     ensures found { let g = graph_before inputs nodes outputs node_table node_bits output_table output_bits in
-        let a = assignment_call g (before locks) (before wanted) (length (before scratch)) in
-        (result ≡ a.number) × (after found ≡ told a (before found)) }
+        let a = assignment_call g (before locks) (before wanted) (length scratch.old) in
+        (result ≡ a.number) × (found.new ≡ told a found.old) }
     ensures scratch { let g = graph_before inputs nodes outputs node_table node_bits output_table output_bits in
-        let a = assignment_call g (before locks) (before wanted) (length (before scratch)) in
-        ScratchKept a (before scratch) (after scratch) }
+        let a = assignment_call g (before locks) (before wanted) (length scratch.old) in
+        ScratchKept a scratch.old scratch.new }
 {
     let answer = assignment::find_assignment(
         inputs,
@@ -317,7 +318,7 @@ pub extern "C" fn reducer_count(
 ) -> u32
     ensures { let g = graph_before inputs nodes outputs node_table node_bits output_table output_bits in
         let a = unless (admission_number g (before locks)) (accepted (C g ∷ [])) in
-        (result ≡ a.number) × (after count ≡ told_one a (before count)) }
+        (result ≡ a.number) × (count.new ≡ told_one a count.old) }
 {
     let answer = graph::complemented_edges(
         inputs,
@@ -347,8 +348,8 @@ pub extern "C" fn reducer_node(
     node: u32,
     saving: &mut [i64; 2],
 ) -> u32
-    ensures { let g = graph_before inputs nodes outputs node_table node_bits output_table output_bits in
-        let k = graph_after inputs nodes outputs node_table node_bits output_table output_bits in
+    ensures { let g = graph_in inputs nodes outputs node_table.now node_bits.old output_table.now output_bits.old in
+        let k = graph_in inputs nodes outputs node_table.now node_bits.new output_table.now output_bits.new in
         let o = node_call g (before locks) node in
         SavingLeft o result k saving }
 {
@@ -382,8 +383,8 @@ pub extern "C" fn reducer_pair(
     word: u32,
     saving: &mut [i64; 2],
 ) -> u32
-    ensures { let g = graph_before inputs nodes outputs node_table node_bits output_table output_bits in
-        let k = graph_after inputs nodes outputs node_table node_bits output_table output_bits in
+    ensures { let g = graph_in inputs nodes outputs node_table.now node_bits.old output_table.now output_bits.old in
+        let k = graph_in inputs nodes outputs node_table.now node_bits.new output_table.now output_bits.new in
         let o = pair_call g (before locks) node word in
         SavingLeft o result k saving }
 {
@@ -422,7 +423,7 @@ pub extern "C" fn reducer_trial(
 ) -> u32
     ensures { let g = graph_before inputs nodes outputs node_table node_bits output_table output_bits in
         let a = trial_call g (before locks) node word named_move node_move in
-        (result ≡ a.number) × (after gain ≡ told_gain a (before gain)) }
+        (result ≡ a.number) × (gain.new ≡ told_gain a gain.old) }
 {
     let answer = node_call::trial(
         inputs,
@@ -459,8 +460,8 @@ pub extern "C" fn reducer_many(
     bytes: &[u8],
     saving: &mut i64,
 ) -> u32
-    ensures { let g = graph_before inputs nodes outputs node_table node_bits output_table output_bits in
-        let k = graph_after inputs nodes outputs node_table node_bits output_table output_bits in
+    ensures { let g = graph_in inputs nodes outputs node_table.now node_bits.old output_table.now output_bits.old in
+        let k = graph_in inputs nodes outputs node_table.now node_bits.new output_table.now output_bits.new in
         let o = many_call g (before locks) (before list) (before bytes) in
         GainLeft o result k saving }
 {
@@ -497,13 +498,13 @@ pub extern "C" fn reducer_tree(
     scratch: &mut [u32],
     saving: &mut [i64; 2],
 ) -> u32
-    ensures saving { let g = graph_before inputs nodes outputs node_table node_bits output_table output_bits in
-        let k = graph_after inputs nodes outputs node_table node_bits output_table output_bits in
-        let o = tree_call g (before locks) (length (before scratch)) root in
+    ensures saving { let g = graph_in inputs nodes outputs node_table.now node_bits.old output_table.now output_bits.old in
+        let k = graph_in inputs nodes outputs node_table.now node_bits.new output_table.now output_bits.new in
+        let o = tree_call g (before locks) (length scratch.old) root in
         SavingLeft o result k saving }
-    ensures scratch { let g = graph_before inputs nodes outputs node_table node_bits output_table output_bits in
-        let o = tree_call g (before locks) (length (before scratch)) root in
-        ScratchKept o.answer (before scratch) (after scratch) }
+    ensures scratch { let g = graph_in inputs nodes outputs node_table.now node_bits.old output_table.now output_bits.old in
+        let o = tree_call g (before locks) (length scratch.old) root in
+        ScratchKept o.answer scratch.old scratch.new }
 {
     let answer = tree_call::tree_call(
         inputs,
@@ -536,13 +537,13 @@ pub extern "C" fn reducer_resistive(
     scratch: &mut [u32],
     saving: &mut [i64; 2],
 ) -> u32
-    ensures saving { let g = graph_before inputs nodes outputs node_table node_bits output_table output_bits in
-        let k = graph_after inputs nodes outputs node_table node_bits output_table output_bits in
-        let o = resistive_call g (before locks) (length (before scratch)) root in
+    ensures saving { let g = graph_in inputs nodes outputs node_table.now node_bits.old output_table.now output_bits.old in
+        let k = graph_in inputs nodes outputs node_table.now node_bits.new output_table.now output_bits.new in
+        let o = resistive_call g (before locks) (length scratch.old) root in
         SavingLeft o result k saving }
-    ensures scratch { let g = graph_before inputs nodes outputs node_table node_bits output_table output_bits in
-        let o = resistive_call g (before locks) (length (before scratch)) root in
-        ScratchKept o.answer (before scratch) (after scratch) }
+    ensures scratch { let g = graph_in inputs nodes outputs node_table.now node_bits.old output_table.now output_bits.old in
+        let o = resistive_call g (before locks) (length scratch.old) root in
+        ScratchKept o.answer scratch.old scratch.new }
 {
     let answer = resistive_call::resistive_call(
         inputs,
@@ -577,13 +578,13 @@ pub extern "C" fn reducer_preview(
     saving: &mut [i64; 2],
 ) -> u32
     ensures saving { let g = graph_before inputs nodes outputs node_table node_bits output_table output_bits in
-        let a = preview_answer g (before locks) (length (before moves)) (length (before scratch)) root in
-        (result ≡ a.number) × (after saving ≡ told_signed a (before saving)) }
+        let a = preview_answer g (before locks) (length moves.old) (length scratch.old) root in
+        (result ≡ a.number) × (saving.new ≡ told_signed a saving.old) }
     ensures moves { let g = graph_before inputs nodes outputs node_table node_bits output_table output_bits in
-        after moves ≡ preview_bytes g (before locks) (before moves) (length (before scratch)) root }
+        moves.new ≡ preview_bytes g (before locks) moves.old (length scratch.old) root }
     ensures scratch { let g = graph_before inputs nodes outputs node_table node_bits output_table output_bits in
-        let a = preview_answer g (before locks) (length (before moves)) (length (before scratch)) root in
-        ScratchKept a (before scratch) (after scratch) }
+        let a = preview_answer g (before locks) (length moves.old) (length scratch.old) root in
+        ScratchKept a scratch.old scratch.new }
 {
     let answer = preview::preview(
         inputs,
@@ -617,16 +618,16 @@ pub extern "C" fn reducer_settle(
     figures: &mut [u32; 3],
     savings: &mut [i64; 2],
 ) -> u32
-    ensures saving { let g = graph_before inputs nodes outputs node_table node_bits output_table output_bits in
-        let k = graph_after inputs nodes outputs node_table node_bits output_table output_bits in
-        let o = settle_call g (before locks) (length (before scratch)) in
+    ensures saving { let g = graph_in inputs nodes outputs node_table.now node_bits.old output_table.now output_bits.old in
+        let k = graph_in inputs nodes outputs node_table.now node_bits.new output_table.now output_bits.new in
+        let o = settle_call g (before locks) (length scratch.old) in
         SavingLeft o result k savings }
-    ensures figures { let g = graph_before inputs nodes outputs node_table node_bits output_table output_bits in
-        let o = settle_call g (before locks) (length (before scratch)) in
-        after figures ≡ told o.answer (before figures) }
-    ensures scratch { let g = graph_before inputs nodes outputs node_table node_bits output_table output_bits in
-        let o = settle_call g (before locks) (length (before scratch)) in
-        ScratchKept o.answer (before scratch) (after scratch) }
+    ensures figures { let g = graph_in inputs nodes outputs node_table.now node_bits.old output_table.now output_bits.old in
+        let o = settle_call g (before locks) (length scratch.old) in
+        figures.new ≡ told o.answer figures.old }
+    ensures scratch { let g = graph_in inputs nodes outputs node_table.now node_bits.old output_table.now output_bits.old in
+        let o = settle_call g (before locks) (length scratch.old) in
+        ScratchKept o.answer scratch.old scratch.new }
 {
     let answer = settling::settle(
         inputs,
@@ -660,13 +661,13 @@ pub extern "C" fn reducer_class(
     figures: &mut [u32; 3],
     savings: &mut [i64; 2],
 ) -> u32
-    ensures call { let g = graph_before inputs nodes outputs node_table node_bits output_table output_bits in
-        let k = graph_after inputs nodes outputs node_table node_bits output_table output_bits in
-        let o = class_call (before book) g (before locks) (length (before scratch)) in
+    ensures call { let g = graph_in inputs nodes outputs node_table.now node_bits.old output_table.now output_bits.old in
+        let k = graph_in inputs nodes outputs node_table.now node_bits.new output_table.now output_bits.new in
+        let o = class_call book.old g (before locks) (length scratch.old) in
         ClassLeft o result k book figures savings }
-    ensures scratch { let g = graph_before inputs nodes outputs node_table node_bits output_table output_bits in
-        let o = class_call (before book) g (before locks) (length (before scratch)) in
-        ScratchKept o.answer (before scratch) (after scratch) }
+    ensures scratch { let g = graph_in inputs nodes outputs node_table.now node_bits.old output_table.now output_bits.old in
+        let o = class_call book.old g (before locks) (length scratch.old) in
+        ScratchKept o.answer scratch.old scratch.new }
 {
     let answer = class_figures::enter(
         inputs,
@@ -720,13 +721,13 @@ pub extern "C" fn reducer_majority(
     scratch: &mut [u32],
     answer: &mut u32,
 ) -> u32
-    ensures answer { let g = graph_before inputs nodes outputs node_table node_bits output_table output_bits in
-        let k = graph_after inputs nodes outputs node_table node_bits output_table output_bits in
-        let o = majority_call g (before locks) (length (before scratch)) (triple first second third) node in
-        (result ≡ o.answer.number) × (k ≡ o.graph) × (after answer ≡ told_one o.answer (before answer)) }
-    ensures scratch { let g = graph_before inputs nodes outputs node_table node_bits output_table output_bits in
-        let o = majority_call g (before locks) (length (before scratch)) (triple first second third) node in
-        ScratchKept o.answer (before scratch) (after scratch) }
+    ensures answer { let g = graph_in inputs nodes outputs node_table.old node_bits.old output_table.now output_bits.now in
+        let k = graph_in inputs nodes outputs node_table.new node_bits.new output_table.now output_bits.now in
+        let o = majority_call g (before locks) (length scratch.old) (triple first second third) node in
+        (result ≡ o.answer.number) × (k ≡ o.graph) × (answer.new ≡ told_one o.answer answer.old) }
+    ensures scratch { let g = graph_in inputs nodes outputs node_table.old node_bits.old output_table.now output_bits.now in
+        let o = majority_call g (before locks) (length scratch.old) (triple first second third) node in
+        ScratchKept o.answer scratch.old scratch.new }
 {
     let became = majority_call::majority_call(
         inputs,
@@ -761,14 +762,14 @@ pub extern "C" fn reducer_find(
     scratch: &mut [u32],
     nodes_after: &mut u32,
 ) -> u32
-    ensures graph { let g = graph_before inputs nodes outputs node_table node_bits output_table output_bits in
-        let o = find_call g (before locks) (length (before scratch)) in
+    ensures graph { let g = graph_in inputs nodes outputs node_table.old node_bits.old output_table.old output_bits.old in
+        let o = find_call g locks.old (length scratch.old) in
         let n = nodes_after_answer nodes o.answer in
-        let k = graph_after inputs n outputs node_table node_bits output_table output_bits in
-        FoundLeft o result k (after locks) (before nodes_after) (after nodes_after) }
-    ensures scratch { let g = graph_before inputs nodes outputs node_table node_bits output_table output_bits in
-        let o = find_call g (before locks) (length (before scratch)) in
-        ScratchKept o.answer (before scratch) (after scratch) }
+        let k = graph_in inputs n outputs node_table.new node_bits.new output_table.new output_bits.new in
+        FoundLeft o result k locks.new nodes_after.old nodes_after.new }
+    ensures scratch { let g = graph_in inputs nodes outputs node_table.old node_bits.old output_table.old output_bits.old in
+        let o = find_call g locks.old (length scratch.old) in
+        ScratchKept o.answer scratch.old scratch.new }
 {
     let answer = finder::find(
         inputs,
@@ -801,25 +802,25 @@ pub extern "C" fn reducer_replay(
     answers: &mut [i64],
     numbers: &mut [u32; 3],
 ) -> u32
-    ensures graph { let ns = table_before node_table node_bits in
-        let os = table_before output_table output_bits in
-        let l = lent (before scratch) (before list) (before bytes) in
-        let o = replay_call (before file) (before calls) l ns os (before locks) (length (before answers)) in
+    ensures graph { let ns = literals node_table.old node_bits.old in
+        let os = literals output_table.old output_bits.old in
+        let l = lent scratch.old (before list) (before bytes) in
+        let o = replay_call (before file) (before calls) l ns os locks.old (length answers.old) in
         GraphLeft o result node_table node_bits output_table output_bits locks numbers }
-    ensures answers { let ns = table_before node_table node_bits in
-        let os = table_before output_table output_bits in
-        let l = lent (before scratch) (before list) (before bytes) in
-        after answers ≡ answers_after (before file) (before calls) l ns os (before locks) (before answers) }
-    ensures scratch { let ns = table_before node_table node_bits in
-        let os = table_before output_table output_bits in
-        let l = lent (before scratch) (before list) (before bytes) in
-        let o = replay_call (before file) (before calls) l ns os (before locks) (length (before answers)) in
-        ScratchKept o.answer (before scratch) (after scratch) }
-    ensures demand { let ns = table_before node_table node_bits in
-        let os = table_before output_table output_bits in
-        let l = lent (before scratch) (before list) (before bytes) in
+    ensures answers { let ns = literals node_table.old node_bits.old in
+        let os = literals output_table.old output_bits.old in
+        let l = lent scratch.old (before list) (before bytes) in
+        answers.new ≡ answers_after (before file) (before calls) l ns os locks.old answers.old }
+    ensures scratch { let ns = literals node_table.old node_bits.old in
+        let os = literals output_table.old output_bits.old in
+        let l = lent scratch.old (before list) (before bytes) in
+        let o = replay_call (before file) (before calls) l ns os locks.old (length answers.old) in
+        ScratchKept o.answer scratch.old scratch.new }
+    ensures demand { let ns = literals node_table.old node_bits.old in
+        let os = literals output_table.old output_bits.old in
+        let l = lent scratch.old (before list) (before bytes) in
         let cs = decode l (before calls) in
-        (result ≡ 0 → DemandMet (left (load_call (before file) ns os (before locks))) cs (with_locks (graph_of (get_or (after numbers) 0 0) (get_or (after numbers) 1 0) (get_or (after numbers) 2 0) (table_after node_table node_bits) (table_after output_table output_bits)) (after locks)) (after answers)) }
+        (result ≡ 0 → DemandMet (left (load_call (before file) ns os locks.old)) cs (with_locks (graph_of (get_or numbers.new 0 0) (get_or numbers.new 1 0) (get_or numbers.new 2 0) (literals node_table.new node_bits.new) (literals output_table.new output_bits.new)) locks.new) answers.new) }
 {
     let answer = replay::replay(
         file,
@@ -864,8 +865,8 @@ pub extern "C" fn reducer_compare(
 ) -> u32
     ensures { let g = graph_before inputs nodes outputs node_table node_bits output_table output_bits in
         let h = graph_before second_inputs second_nodes second_outputs second_node_table second_node_bits second_output_table second_output_bits in
-        let o = compare_call g (before locks) h (before second_locks) (before moves) in
-        (result ≡ o.answer.number) × (after moves ≡ o.moves) × (after difference ≡ told o.answer (before difference)) }
+        let o = compare_call g (before locks) h (before second_locks) moves.old in
+        (result ≡ o.answer.number) × (moves.new ≡ o.moves) × (difference.new ≡ told o.answer difference.old) }
 {
     let answer = compare::compare(
         inputs,

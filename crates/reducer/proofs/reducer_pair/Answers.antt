@@ -1,0 +1,6 @@
+-- `reducer_pair` meets its contract. From those of `pair_call` and of its answer's number and value.
+use Rattle.reducer.proofs.Left.{saving_left}
+use Rattle.reducer.proofs.reducer_pair.Goals as goal
+
+pub returns : goal.returns
+returns c = saving_left _ _ c.saving_number.ensures _ _ _ c.saving_told.ensures c.pair_call-answer.ensures
