@@ -1,9 +1,9 @@
 /*
  * Settles the graph P1: one majority of three inverted inputs, its output inverted.
  *
- * In the repository's root, after `rt staticlib reducer`:
+ * In the repository's root, after `rt lib` in crates/reducer:
  *
- *     gcc -Iinclude examples/settle_p1.c target/staticlib/libreducer.a -o target/settle_p1 && target/settle_p1
+ *     gcc -Iinclude examples/settle_p1.c crates/reducer/out/libreducer.a -o target/settle_p1 && target/settle_p1
  */
 #include <inttypes.h>
 #include <stdio.h>

@@ -1,6 +1,6 @@
 """Settles the graph P1: one majority of three inverted inputs, its output inverted.
 
-In the repository's root, after `rt staticlib reducer`: python3 examples/settle_p1.py
+In the repository's root, after `rt lib` in crates/reducer: python3 examples/settle_p1.py
 """
 
 import sys

@@ -1,7 +1,7 @@
 /*
  * The inversion reducer for majority and XOR graphs, for C.
  *
- * Link the static library that `rt staticlib reducer` writes, target/staticlib/libreducer.a. It needs no other library,
+ * Link the static library that `rt lib` in crates/reducer writes, crates/reducer/out/libreducer.a. It needs no other library,
  * keeps no state, allocates nothing and may be called from several threads on tables of their own. Proved, for all bytes, words
  * and numbers, is what is said here of answers: the number returned, and what then stands in the tables, bits, locks, results,
  * moves, buffer, book and answers, at the last pointer or pointers and, after a refusal, in scratch. The rest of this page is not

@@ -1,7 +1,7 @@
 """build_wheel: the Python package of panjerov, with its library inside, for pip and for tools/install.
 
 pip calls build_wheel, as pyproject.toml says, so that `pip install ./python` needs neither setuptools nor a network: a wheel is an archive
-of the files and of three that tell about them. It does need target/staticlib/libreducer.a, and gcc to link it. It writes nothing into the
+of the files and of three that tell about them. It does need crates/reducer/out/libreducer.a, and gcc to link it. It writes nothing into the
 repository.
 
     python3 python/build_wheel.py FOLDER    # the package alone, as FOLDER/panjerov
@@ -17,14 +17,14 @@ import tempfile
 import zipfile
 
 MODULE = pathlib.Path(__file__).resolve().with_name("panjerov.py")
-ARCHIVE = MODULE.parent.parent / "target" / "staticlib" / "libreducer.a"
+ARCHIVE = MODULE.parent.parent / "crates" / "reducer" / "out" / "libreducer.a"
 SUMMARY = "The proved inversion reducer for majority and XOR graphs"
 
 
 def library():
     """The library as a shared object."""
     if not ARCHIVE.exists():
-        raise SystemExit(f"there is no {ARCHIVE}: run `rt staticlib reducer` in the repository's root first")
+        raise SystemExit(f"there is no {ARCHIVE}: run `rt lib` in the repository's crates/reducer first")
     with tempfile.TemporaryDirectory() as folder:
         shared = pathlib.Path(folder) / "libreducer.so"
         words = ["gcc", "-shared", "-o", str(shared), "-Wl,--whole-archive", str(ARCHIVE), "-Wl,--no-whole-archive"]

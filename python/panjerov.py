@@ -22,8 +22,8 @@ nothing has changed.
 A graph keeps its tables as the library takes them, and Graph.nodes and Graph.outputs show them as lists of literals (Literals), so
 that no call copies a table. While a call is made, no other thread of the program runs.
 
-An installed module has the library beside it; in the repository it is linked, at the first import, from target/staticlib/libreducer.a,
-which `rt staticlib reducer` writes.
+An installed module has the library beside it; in the repository it is linked, at the first import, from
+crates/reducer/out/libreducer.a, which `rt lib` in crates/reducer writes.
 """
 
 from __future__ import annotations
@@ -210,7 +210,7 @@ class Told(NamedTuple):
 #: Where an installed module has its library.
 _BESIDE = Path(__file__).resolve().with_name("libreducer.so")
 _ROOT = Path(__file__).resolve().parent.parent
-_ARCHIVE = _ROOT / "target" / "staticlib" / "libreducer.a"
+_ARCHIVE = _ROOT / "crates" / "reducer" / "out" / "libreducer.a"
 _SHARED = _ROOT / "target" / "python" / "libreducer.so"
 
 
@@ -219,7 +219,7 @@ def _link() -> Path:
     if _BESIDE.exists():
         return _BESIDE
     if not _ARCHIVE.exists():
-        raise ImportError(f"there is no {_ARCHIVE}: run `rt staticlib reducer` in the repository's root first")
+        raise ImportError(f"there is no {_ARCHIVE}: run `rt lib` in the repository's crates/reducer first")
     if not _SHARED.exists() or _SHARED.stat().st_mtime < _ARCHIVE.stat().st_mtime:
         _SHARED.parent.mkdir(parents=True, exist_ok=True)
         # Linked beside and renamed, so that two imports at once do not meet half a file.

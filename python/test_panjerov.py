@@ -1859,7 +1859,7 @@ class Users(unittest.TestCase):
 def run_c(source: str, given: bytes = b"") -> str:
     """What a program in C prints."""
     with tempfile.TemporaryDirectory() as folder:
-        file, program, library = Path(folder) / "program.c", Path(folder) / "program", ROOT / "target" / "staticlib" / "libreducer.a"
+        file, program, library = Path(folder) / "program.c", Path(folder) / "program", ROOT / "crates" / "reducer" / "out" / "libreducer.a"
         file.write_text(source)
         words = ["gcc", "-O2", "-std=c99", "-Wall", "-Wextra", "-pedantic", "-Werror", f"-I{ROOT / 'include'}"]
         subprocess.run([*words, str(file), str(library), "-o", str(program)], check=True)
@@ -1881,7 +1881,7 @@ class Header(unittest.TestCase):
 
     def run_c(self, source: Path) -> str:
         with tempfile.TemporaryDirectory() as folder:
-            program, library = Path(folder) / "program", ROOT / "target" / "staticlib" / "libreducer.a"
+            program, library = Path(folder) / "program", ROOT / "crates" / "reducer" / "out" / "libreducer.a"
             words = ["gcc", "-std=c99", "-Wall", "-Wextra", "-pedantic", "-Werror", f"-I{ROOT / 'include'}"]
             subprocess.run([*words, str(source), str(library), "-o", str(program)], check=True)
             return subprocess.run([str(program)], check=True, capture_output=True, text=True).stdout

@@ -20,7 +20,7 @@ fn folder() -> Option<PathBuf> {
         return Some(named.into());
     }
     let here = std::env::var("CARGO_MANIFEST_DIR").expect("cargo sets it");
-    let own = Path::new(&here).join("../../target/staticlib");
+    let own = Path::new(&here).join("../../crates/reducer/out");
     // Told also where it is not there yet, so that cargo looks again once it is.
     println!("cargo:rerun-if-changed={}", own.join(ARCHIVE).display());
     if own.join(ARCHIVE).exists() {
@@ -34,7 +34,7 @@ fn main() {
     println!("cargo:rerun-if-env-changed=PKG_CONFIG_PATH");
     let Some(folder) = folder().filter(|folder| folder.join(ARCHIVE).exists()) else {
         eprintln!(
-            "there is no {ARCHIVE}: run `rt staticlib reducer` in the repository's root, or say by REDUCER_LIB_DIR in which folder it is"
+            "there is no {ARCHIVE}: run `rt lib` in the repository's crates/reducer, or say by REDUCER_LIB_DIR in which folder it is"
         );
         exit(1);
     };

@@ -210,7 +210,7 @@ fn printed(program: &PathBuf, case: &Case) -> String {
         .stdin(Stdio::piped())
         .stdout(Stdio::piped())
         .spawn()
-        .expect("target/bin/settle_report, which `rt check settle_report` builds");
+        .expect("crates/settle_report/out/settle_report, which `tools/build settle-report` builds");
     let mut pipe = child.stdin.take().expect("a pipe");
     let output = thread::scope(|scope| {
         scope.spawn(move || {
@@ -228,7 +228,7 @@ fn printed(program: &PathBuf, case: &Case) -> String {
 
 fn main() {
     let root = PathBuf::from(env!("CARGO_MANIFEST_DIR")).join("../..");
-    let program = root.join("target/bin/settle_report");
+    let program = root.join("crates/settle_report/out/settle_report");
     let text = fs::read_to_string(root.join("crates/settle_report/cases.txt")).expect("the cases");
     let mut random = Random::new(65_536);
     let mut cases = stored(&text);
