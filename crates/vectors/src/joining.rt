@@ -2,20 +2,23 @@
 // how many elements are given for its front, and these; the ten lengths; I, N and O of the first and of the second.
 use crate::{print, read};
 use answers::told;
+use std::io;
 
 pub fn join(
+    rt: &(impl Input + Print),
     node_table: &mut [u32],
     node_bits: &mut [u64],
     output_table: &mut [u32],
     output_bits: &mut [u64],
     locks: &mut [u8],
-) {
+) -> io::Result<()> {
     let mut first_node_table = [0u32; 512];
     let mut first_node_bits = [0u64; 16];
     let mut first_output_table = [0u32; 128];
     let mut first_output_bits = [0u64; 16];
     let mut first_locks = [0u8; 256];
     fill(
+        rt,
         &mut first_node_table,
         &mut first_node_bits,
         &mut first_output_table,
@@ -23,6 +26,7 @@ pub fn join(
         &mut first_locks,
     );
     meet(
+        rt,
         &first_node_table,
         &first_node_bits,
         &first_output_table,
@@ -33,24 +37,26 @@ pub fn join(
         output_table,
         output_bits,
         locks,
-    );
+    )
 }
 
 fn fill(
+    rt: &impl Input,
     node_table: &mut [u32],
     node_bits: &mut [u64],
     output_table: &mut [u32],
     output_bits: &mut [u64],
     locks: &mut [u8],
 ) {
-    read::fill_words(node_table);
-    read::fill_longs(node_bits);
-    read::fill_words(output_table);
-    read::fill_longs(output_bits);
-    read::fill_bytes(locks);
+    read::fill_words(rt, node_table);
+    read::fill_longs(rt, node_bits);
+    read::fill_words(rt, output_table);
+    read::fill_longs(rt, output_bits);
+    read::fill_bytes(rt, locks);
 }
 
 fn meet(
+    rt: &(impl Input + Print),
     first_node_table: &[u32],
     first_node_bits: &[u64],
     first_output_table: &[u32],
@@ -61,13 +67,14 @@ fn meet(
     output_table: &mut [u32],
     output_bits: &mut [u64],
     locks: &mut [u8],
-) {
+) -> io::Result<()> {
     let mut second_node_table = [0u32; 512];
     let mut second_node_bits = [0u64; 16];
     let mut second_output_table = [0u32; 128];
     let mut second_output_bits = [0u64; 16];
     let mut second_locks = [0u8; 256];
     fill(
+        rt,
         &mut second_node_table,
         &mut second_node_bits,
         &mut second_output_table,
@@ -75,6 +82,7 @@ fn meet(
         &mut second_locks,
     );
     lend_first(
+        rt,
         first_node_table,
         first_node_bits,
         first_output_table,
@@ -90,11 +98,12 @@ fn meet(
         output_table,
         output_bits,
         locks,
-    );
+    )
 }
 
 // So much of each of the first's slices lent.
 fn lend_first(
+    rt: &(impl Input + Print),
     first_node_table: &[u32],
     first_node_bits: &[u64],
     first_output_table: &[u32],
@@ -110,13 +119,14 @@ fn lend_first(
     output_table: &mut [u32],
     output_bits: &mut [u64],
     locks: &mut [u8],
-) {
-    let node_table_end = read::room_words(read::size(), first_node_table);
-    let node_bits_end = read::room_longs(read::size(), first_node_bits);
-    let output_table_end = read::room_words(read::size(), first_output_table);
-    let output_bits_end = read::room_longs(read::size(), first_output_bits);
-    let locks_end = read::room_bytes(read::size(), first_locks);
+) -> io::Result<()> {
+    let node_table_end = read::room_words(read::size(rt), first_node_table);
+    let node_bits_end = read::room_longs(read::size(rt), first_node_bits);
+    let output_table_end = read::room_words(read::size(rt), first_output_table);
+    let output_bits_end = read::room_longs(read::size(rt), first_output_bits);
+    let locks_end = read::room_bytes(read::size(rt), first_locks);
     lend_second(
+        rt,
         &first_node_table[..node_table_end],
         &first_node_bits[..node_bits_end],
         &first_output_table[..output_table_end],
@@ -132,11 +142,12 @@ fn lend_first(
         output_table,
         output_bits,
         locks,
-    );
+    )
 }
 
 // And of the second's.
 fn lend_second(
+    rt: &(impl Input + Print),
     first_node_table: &[u32],
     first_node_bits: &[u64],
     first_output_table: &[u32],
@@ -152,13 +163,14 @@ fn lend_second(
     output_table: &mut [u32],
     output_bits: &mut [u64],
     locks: &mut [u8],
-) {
-    let node_table_end = read::room_words(read::size(), second_node_table);
-    let node_bits_end = read::room_longs(read::size(), second_node_bits);
-    let output_table_end = read::room_words(read::size(), second_output_table);
-    let output_bits_end = read::room_longs(read::size(), second_output_bits);
-    let locks_end = read::room_bytes(read::size(), second_locks);
+) -> io::Result<()> {
+    let node_table_end = read::room_words(read::size(rt), second_node_table);
+    let node_bits_end = read::room_longs(read::size(rt), second_node_bits);
+    let output_table_end = read::room_words(read::size(rt), second_output_table);
+    let output_bits_end = read::room_longs(read::size(rt), second_output_bits);
+    let locks_end = read::room_bytes(read::size(rt), second_locks);
     run(
+        rt,
         first_node_table,
         first_node_bits,
         first_output_table,
@@ -174,10 +186,11 @@ fn lend_second(
         output_table,
         output_bits,
         locks,
-    );
+    )
 }
 
 fn run(
+    rt: &(impl Input + Print),
     first_node_table: &[u32],
     first_node_bits: &[u64],
     first_output_table: &[u32],
@@ -193,19 +206,19 @@ fn run(
     output_table: &mut [u32],
     output_bits: &mut [u64],
     locks: &mut [u8],
-) {
+) -> io::Result<()> {
     let answer = join::join(
-        read::word(),
-        read::word(),
-        read::word(),
+        read::word(rt),
+        read::word(rt),
+        read::word(rt),
         first_node_table,
         first_node_bits,
         first_output_table,
         first_output_bits,
         first_locks,
-        read::word(),
-        read::word(),
-        read::word(),
+        read::word(rt),
+        read::word(rt),
+        read::word(rt),
         second_node_table,
         second_node_bits,
         second_output_table,
@@ -218,7 +231,8 @@ fn run(
         locks,
     );
     print::answer(
+        rt,
         told::loaded_number(answer),
         told::loaded_told(answer, [0; 3]),
-    );
+    )
 }

@@ -2,22 +2,25 @@
 // these three, of scratch and of answers stand at the end of its case.
 use crate::{print, read};
 use replay::Replayed;
+use std::io;
 
 pub fn list(
+    rt: &(impl Input + Print),
     file: &[u8],
     node_table: &mut [u32],
     node_bits: &mut [u64],
     output_table: &mut [u32],
     output_bits: &mut [u64],
     locks: &mut [u8],
-) {
+) -> io::Result<()> {
     let mut calls = [0u32; 128];
     let mut list = [0u32; 128];
     let mut moves = [0u8; 128];
     let mut scratch = [77u32; 4096];
     let mut answers = [77i64; 192];
-    fill(&mut calls, &mut list, &mut moves);
+    fill(rt, &mut calls, &mut list, &mut moves);
     lend(
+        rt,
         file,
         node_table,
         node_bits,
@@ -29,16 +32,17 @@ pub fn list(
         &moves,
         &mut scratch,
         &mut answers,
-    );
+    )
 }
 
-fn fill(calls: &mut [u32], list: &mut [u32], moves: &mut [u8]) {
-    read::fill_words(calls);
-    read::fill_words(list);
-    read::fill_bytes(moves);
+fn fill(rt: &impl Input, calls: &mut [u32], list: &mut [u32], moves: &mut [u8]) {
+    read::fill_words(rt, calls);
+    read::fill_words(rt, list);
+    read::fill_bytes(rt, moves);
 }
 
 fn lend(
+    rt: &(impl Input + Print),
     file: &[u8],
     node_table: &mut [u32],
     node_bits: &mut [u64],
@@ -50,13 +54,14 @@ fn lend(
     moves: &[u8],
     scratch: &mut [u32],
     answers: &mut [i64],
-) {
-    let calls_end = read::room_words(read::size(), calls);
-    let list_end = read::room_words(read::size(), list);
-    let moves_end = read::room_bytes(read::size(), moves);
-    let scratch_end = read::room_words(read::size(), scratch);
-    let answers_end = read::room_signed(read::size(), answers);
+) -> io::Result<()> {
+    let calls_end = read::room_words(read::size(rt), calls);
+    let list_end = read::room_words(read::size(rt), list);
+    let moves_end = read::room_bytes(read::size(rt), moves);
+    let scratch_end = read::room_words(read::size(rt), scratch);
+    let answers_end = read::room_signed(read::size(rt), answers);
     run(
+        rt,
         file,
         node_table,
         node_bits,
@@ -68,10 +73,11 @@ fn lend(
         &moves[..moves_end],
         &mut scratch[..scratch_end],
         &mut answers[..answers_end],
-    );
+    )
 }
 
 fn run(
+    rt: &(impl Input + Print),
     file: &[u8],
     node_table: &mut [u32],
     node_bits: &mut [u64],
@@ -83,7 +89,7 @@ fn run(
     moves: &[u8],
     scratch: &mut [u32],
     answers: &mut [i64],
-) {
+) -> io::Result<()> {
     let answer = replay::replay(
         file,
         calls,
@@ -97,21 +103,20 @@ fn run(
         scratch,
         answers,
     );
-    replayed(answer, scratch);
-    print::size(answers.len());
+    replayed(rt, answer, scratch)?;
+    print::size(rt, answers.len())
 }
 
 // A replay that was not made has the number 1 here, whatever refused it, and its scratch is shown.
-fn replayed(answer: Replayed, scratch: &[u32]) {
+fn replayed(rt: &impl Print, answer: Replayed, scratch: &[u32]) -> io::Result<()> {
     let Replayed::Done {
         inputs,
         nodes,
         outputs,
     } = answer
     else {
-        print::answer(1, [0; 3]);
-        print::words(scratch);
-        return;
+        print::answer(rt, 1, [0; 3])?;
+        return print::words(rt, scratch);
     };
-    print::answer(0, [inputs, nodes, outputs]);
+    print::answer(rt, 0, [inputs, nodes, outputs])
 }

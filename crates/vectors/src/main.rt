@@ -12,7 +12,10 @@ mod ops;
 mod print;
 mod read;
 
+use std::io;
+
 fn fill(
+    rt: &impl Input,
     bytes: &mut [u8],
     node_table: &mut [u32],
     node_bits: &mut [u64],
@@ -20,40 +23,43 @@ fn fill(
     output_bits: &mut [u64],
     locks: &mut [u8],
 ) {
-    read::fill_bytes(bytes);
-    read::fill_words(node_table);
-    read::fill_longs(node_bits);
-    read::fill_words(output_table);
-    read::fill_longs(output_bits);
-    read::fill_bytes(locks);
+    read::fill_bytes(rt, bytes);
+    read::fill_words(rt, node_table);
+    read::fill_longs(rt, node_bits);
+    read::fill_words(rt, output_table);
+    read::fill_longs(rt, output_bits);
+    read::fill_bytes(rt, locks);
 }
 
 fn show(
+    rt: &(impl Input + Print),
     bytes: &[u8],
     node_table: &[u32],
     node_bits: &[u64],
     output_table: &[u32],
     output_bits: &[u64],
     locks: &[u8],
-) {
-    print::bytes(bytes);
-    print::words(node_table);
-    print::longs(node_bits);
-    print::words(output_table);
-    print::longs(output_bits);
-    print::bytes(locks);
-    print::end_line();
+) -> io::Result<()> {
+    print::bytes(rt, bytes)?;
+    print::words(rt, node_table)?;
+    print::longs(rt, node_bits)?;
+    print::words(rt, output_table)?;
+    print::longs(rt, output_bits)?;
+    print::bytes(rt, locks)?;
+    print::end_line(rt)
 }
 
 fn run(
+    rt: &(impl Input + Print),
     bytes: &mut [u8],
     node_table: &mut [u32],
     node_bits: &mut [u64],
     output_table: &mut [u32],
     output_bits: &mut [u64],
     locks: &mut [u8],
-) {
+) -> io::Result<()> {
     fill(
+        rt,
         bytes,
         node_table,
         node_bits,
@@ -62,53 +68,57 @@ fn run(
         locks,
     );
     ops::call(
-        read::word(),
+        rt,
+        read::word(rt),
         bytes,
         node_table,
         node_bits,
         output_table,
         output_bits,
         locks,
-    );
+    )?;
     show(
+        rt,
         bytes,
         node_table,
         node_bits,
         output_table,
         output_bits,
         locks,
-    );
+    )
 }
 
 // The lengths of a case read, and so much of each slice lent.
 fn lend(
+    rt: &(impl Input + Print),
     bytes: &mut [u8],
     node_table: &mut [u32],
     node_bits: &mut [u64],
     output_table: &mut [u32],
     output_bits: &mut [u64],
     locks: &mut [u8],
-) {
-    let byte_end = read::room_bytes(read::size(), bytes);
-    let node_end = read::room_words(read::size(), node_table);
-    let node_bits_end = read::room_longs(read::size(), node_bits);
-    let output_end = read::room_words(read::size(), output_table);
-    let output_bits_end = read::room_longs(read::size(), output_bits);
-    let lock_end = read::room_bytes(read::size(), locks);
+) -> io::Result<()> {
+    let byte_end = read::room_bytes(read::size(rt), bytes);
+    let node_end = read::room_words(read::size(rt), node_table);
+    let node_bits_end = read::room_longs(read::size(rt), node_bits);
+    let output_end = read::room_words(read::size(rt), output_table);
+    let output_bits_end = read::room_longs(read::size(rt), output_bits);
+    let lock_end = read::room_bytes(read::size(rt), locks);
     run(
+        rt,
         &mut bytes[..byte_end],
         &mut node_table[..node_end],
         &mut node_bits[..node_bits_end],
         &mut output_table[..output_end],
         &mut output_bits[..output_bits_end],
         &mut locks[..lock_end],
-    );
+    )
 }
 
 // Reads and runs one case, and answers whether there was one.
-fn run_case() -> bool {
-    if read::word() == 0 {
-        return false;
+fn run_case(rt: &(impl Input + Print)) -> io::Result<bool> {
+    if read::word(rt) == 0 {
+        return Ok(false);
     }
     let mut bytes = [165u8; 65536];
     let mut node_table = [0u32; 4096];
@@ -117,19 +127,22 @@ fn run_case() -> bool {
     let mut output_bits = [0u64; 72];
     let mut locks = [0u8; 2048];
     lend(
+        rt,
         &mut bytes,
         &mut node_table,
         &mut node_bits,
         &mut output_table,
         &mut output_bits,
         &mut locks,
-    );
-    true
+    )?;
+    Ok(true)
 }
 
-fn main() {
-    let mut turns: u32 = 1000000;
-    while turns > 0 && run_case() {
-        turns -= 1;
+fn main(rt: HostRuntime) -> io::Result<()> {
+    for _ in 0..1000000 {
+        if !run_case(&rt)? {
+            return Ok(());
+        }
     }
+    Ok(())
 }

@@ -1,8 +1,10 @@
 // Each op: an entry called, and its answer printed. I, N and O stand at the end of a case whose entry is given them.
 use crate::{joining, listing, print, read};
 use answers::told;
+use std::io;
 
 pub fn call(
+    rt: &(impl Input + Print),
     op: u32,
     bytes: &mut [u8],
     node_table: &mut [u32],
@@ -10,12 +12,13 @@ pub fn call(
     output_table: &mut [u32],
     output_bits: &mut [u64],
     locks: &mut [u8],
-) {
+) -> io::Result<()> {
     match op {
-        1 => admit(node_table, node_bits, output_table, output_bits, locks),
-        2 => count(node_table, node_bits, output_table, output_bits, locks),
-        3 => field(bytes),
+        1 => admit(rt, node_table, node_bits, output_table, output_bits, locks),
+        2 => count(rt, node_table, node_bits, output_table, output_bits, locks),
+        3 => field(rt, bytes),
         4 => load(
+            rt,
             bytes,
             node_table,
             node_bits,
@@ -24,6 +27,7 @@ pub fn call(
             locks,
         ),
         5 => write(
+            rt,
             bytes,
             node_table,
             node_bits,
@@ -31,8 +35,9 @@ pub fn call(
             output_bits,
             locks,
         ),
-        16 => joining::join(node_table, node_bits, output_table, output_bits, locks),
+        16 => joining::join(rt, node_table, node_bits, output_table, output_bits, locks),
         _ => listing::list(
+            rt,
             bytes,
             node_table,
             node_bits,
@@ -51,36 +56,38 @@ fn admission(answer: graph::Admission) -> u32 {
 }
 
 fn admit(
+    rt: &(impl Input + Print),
     node_table: &[u32],
     node_bits: &[u64],
     output_table: &[u32],
     output_bits: &[u64],
     locks: &[u8],
-) {
+) -> io::Result<()> {
     let answer = graph::admit_graph(
-        read::word(),
-        read::word(),
-        read::word(),
+        read::word(rt),
+        read::word(rt),
+        read::word(rt),
         node_table,
         node_bits,
         output_table,
         output_bits,
         locks,
     );
-    print::answer(admission(answer), [0; 3]);
+    print::answer(rt, admission(answer), [0; 3])
 }
 
 fn count(
+    rt: &(impl Input + Print),
     node_table: &[u32],
     node_bits: &[u64],
     output_table: &[u32],
     output_bits: &[u64],
     locks: &[u8],
-) {
+) -> io::Result<()> {
     let answer = graph::complemented_edges(
-        read::word(),
-        read::word(),
-        read::word(),
+        read::word(rt),
+        read::word(rt),
+        read::word(rt),
         node_table,
         node_bits,
         output_table,
@@ -88,24 +95,26 @@ fn count(
         locks,
     );
     print::answer(
+        rt,
         told::count_number(answer),
         [told::count_told(answer, 0), 0, 0],
-    );
+    )
 }
 
-fn field(bytes: &[u8]) {
-    print::bytes(tagged_file::field(bytes));
-    print::answer(tagged_file::field_number(bytes), [0; 3]);
+fn field(rt: &(impl Input + Print), bytes: &[u8]) -> io::Result<()> {
+    print::bytes(rt, tagged_file::field(bytes))?;
+    print::answer(rt, tagged_file::field_number(bytes), [0; 3])
 }
 
 fn load(
+    rt: &(impl Input + Print),
     bytes: &[u8],
     node_table: &mut [u32],
     node_bits: &mut [u64],
     output_table: &mut [u32],
     output_bits: &mut [u64],
     locks: &mut [u8],
-) {
+) -> io::Result<()> {
     let answer = tagged_file::load(
         bytes,
         node_table,
@@ -115,23 +124,25 @@ fn load(
         locks,
     );
     print::answer(
+        rt,
         told::loaded_number(answer),
         told::loaded_told(answer, [0; 3]),
-    );
+    )
 }
 
 fn write(
+    rt: &(impl Input + Print),
     buffer: &mut [u8],
     node_table: &[u32],
     node_bits: &[u64],
     output_table: &[u32],
     output_bits: &[u64],
     locks: &[u8],
-) {
+) -> io::Result<()> {
     let answer = tagged_file::write(
-        read::word(),
-        read::word(),
-        read::word(),
+        read::word(rt),
+        read::word(rt),
+        read::word(rt),
         node_table,
         node_bits,
         output_table,
@@ -139,6 +150,6 @@ fn write(
         locks,
         buffer,
     );
-    print::answer(told::written_number(answer), [0; 3]);
-    print::size(told::written_told(answer, 0));
+    print::answer(rt, told::written_number(answer), [0; 3])?;
+    print::size(rt, told::written_told(answer, 0))
 }

@@ -1,23 +1,24 @@
 // Numbers on standard output. A slice is shown by its length and a checksum.
-fn put(n: u64) {
-    io::print_decimal(1, n);
-    io::write_all(1, b" ");
+use std::io;
+
+fn put(rt: &impl Print, n: u64) -> io::Result<()> {
+    print!(rt; "{n} ")
 }
 
-pub fn size(n: usize) {
-    put(n as u64);
+pub fn size(rt: &impl Print, n: usize) -> io::Result<()> {
+    put(rt, n as u64)
 }
 
 // An answer: its number, 0 for accepted, and its values, 0 where it has none.
-pub fn answer(number: u32, values: [u32; 3]) {
-    put(number as u64);
-    put(values[0] as u64);
-    put(values[1] as u64);
-    put(values[2] as u64);
+pub fn answer(rt: &impl Print, number: u32, values: [u32; 3]) -> io::Result<()> {
+    put(rt, number as u64)?;
+    put(rt, values[0] as u64)?;
+    put(rt, values[1] as u64)?;
+    put(rt, values[2] as u64)
 }
 
-pub fn end_line() {
-    io::write_all(1, b"\n");
+pub fn end_line(rt: &impl Print) -> io::Result<()> {
+    println!(rt; "")
 }
 
 fn mix(sum: u64, word: u32) -> u64 {
@@ -37,35 +38,35 @@ fn mix_long(sum: u64, long: u64) -> u64 {
     )
 }
 
-pub fn bytes(bytes: &[u8]) {
-    put(bytes.len() as u64);
+pub fn bytes(rt: &impl Print, bytes: &[u8]) -> io::Result<()> {
+    put(rt, bytes.len() as u64)?;
     let mut sum: u64 = 0;
     let mut i = 0;
     while i < bytes.len() {
         sum = mix_byte(sum, bytes[i]);
         i += 1;
     }
-    put(sum);
+    put(rt, sum)
 }
 
-pub fn words(words: &[u32]) {
-    put(words.len() as u64);
+pub fn words(rt: &impl Print, words: &[u32]) -> io::Result<()> {
+    put(rt, words.len() as u64)?;
     let mut sum: u64 = 0;
     let mut i = 0;
     while i < words.len() {
         sum = mix(sum, words[i]);
         i += 1;
     }
-    put(sum);
+    put(rt, sum)
 }
 
-pub fn longs(longs: &[u64]) {
-    put(longs.len() as u64);
+pub fn longs(rt: &impl Print, longs: &[u64]) -> io::Result<()> {
+    put(rt, longs.len() as u64)?;
     let mut sum: u64 = 0;
     let mut i = 0;
     while i < longs.len() {
         sum = mix_long(sum, longs[i]);
         i += 1;
     }
-    put(sum);
+    put(rt, sum)
 }

@@ -1,6 +1,7 @@
 // Big-endian numbers from standard input. What is not there reads as 0.
 ghost use Rattle.std.specs.Prelude.{◌≡◌, ◌≤◌, ◌<◌, length, take};
-ghost use Rattle.io.specs.Counts.{IsPrefixLen};
+
+use std::io::{Input, Read};
 
 fn wide(x: u8) -> u32
     ensures { result < 256 }
@@ -8,20 +9,32 @@ fn wide(x: u8) -> u32
     x as u32
 }
 
-pub fn word() -> u32 {
+// Reads until the space is full, the input ends or a read fails.
+fn fill_space<R: Read>(input: &mut R, space: &mut [u8]) {
+    let mut done = 0;
+    while done < space.len() {
+        let n = input.read(&mut space[done..]).unwrap_or(0);
+        if n == 0 {
+            return;
+        }
+        done += n;
+    }
+}
+
+pub fn word(rt: &impl Input) -> u32 {
     let mut four = [0u8; 4];
-    io::read_full(0, &mut four);
+    fill_space(&mut rt.reader(), &mut four);
     ((wide(four[0]) * 256 + wide(four[1])) * 256 + wide(four[2])) * 256 + wide(four[3])
 }
 
 // A word of 64 bits, from two numbers.
-fn long() -> u64 {
-    let high = word() as u64;
-    high * 4294967296 + word() as u64
+fn long(rt: &impl Input) -> u64 {
+    let high = word(rt) as u64;
+    high * 4294967296 + word(rt) as u64
 }
 
-pub fn size() -> usize {
-    word() as usize
+pub fn size(rt: &impl Input) -> usize {
+    word(rt) as usize
 }
 
 fn least(a: usize, b: usize) -> usize
@@ -33,19 +46,19 @@ fn least(a: usize, b: usize) -> usize
 
 // How many elements at the front of a slice to take: as many as wanted, or all.
 pub fn room_bytes(wanted: usize, space: &[u8]) -> usize
-    ensures { IsPrefixLen result space.now }
+    ensures { (result ≤ length space.now) × (result ≡ length (take result space.now)) }
 {
     least(wanted, space.len())
 }
 
 pub fn room_words(wanted: usize, space: &[u32]) -> usize
-    ensures { IsPrefixLen result space.now }
+    ensures { (result ≤ length space.now) × (result ≡ length (take result space.now)) }
 {
     least(wanted, space.len())
 }
 
 pub fn room_longs(wanted: usize, space: &[u64]) -> usize
-    ensures { IsPrefixLen result space.now }
+    ensures { (result ≤ length space.now) × (result ≡ length (take result space.now)) }
 {
     least(wanted, space.len())
 }
@@ -57,25 +70,25 @@ pub fn room_signed(wanted: usize, space: &[i64]) -> usize
 }
 
 // The bytes and words that the input has for the front of a slice, as many as it says.
-pub fn fill_bytes(space: &mut [u8]) {
-    let end = room_bytes(size(), space);
-    io::read_full(0, &mut space[..end]);
+pub fn fill_bytes(rt: &impl Input, space: &mut [u8]) {
+    let end = room_bytes(size(rt), space);
+    fill_space(&mut rt.reader(), &mut space[..end]);
 }
 
-pub fn fill_words(space: &mut [u32]) {
-    let end = least(size(), space.len());
+pub fn fill_words(rt: &impl Input, space: &mut [u32]) {
+    let end = least(size(rt), space.len());
     let mut i = 0;
     while i < end {
-        space[i] = word();
+        space[i] = word(rt);
         i += 1;
     }
 }
 
-pub fn fill_longs(space: &mut [u64]) {
-    let end = least(size(), space.len());
+pub fn fill_longs(rt: &impl Input, space: &mut [u64]) {
+    let end = least(size(rt), space.len());
     let mut i = 0;
     while i < end {
-        space[i] = long();
+        space[i] = long(rt);
         i += 1;
     }
 }
