@@ -14,8 +14,8 @@ returns-then-number-ne0 c =
 
 pub fill_literals-requires : goal.fill_literals-requires
 fill_literals-requires c =
-    let p = export_passed _ _ _ _ (sym c.export_number-number.ensures ∙ c.if-number-ne0.false) in
-    (p.0, p.1)
+    let q = export_passed _ _ _ _ (sym c.export_number-number.ensures ∙ c.if-number-ne0.false) in
+    (q.0, q.1)
 
 pub put_text-requires : goal.put_text-requires
 put_text-requires c =

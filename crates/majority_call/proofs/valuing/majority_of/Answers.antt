@@ -29,16 +29,14 @@ unfolding voted_of
 returns-then-b-eq-UNKNOWN c =
     unequal _ _ _ _ c.if-a-eq-LEAK.false
     (unequal _ _ _ _ c.if-b-eq-LEAK.false
-    (unequal _ _ _ _ c.if-c-eq-LEAK.false
-    (unequal _ _ _ _ c.if-a-eq-UNKNOWN.false (equal _ _ _ _ c.if-b-eq-UNKNOWN.true (ap (λ (n : ℕ). 512 + n) c.index_of-then-b-eq-UNKNOWN.ensures)))))
+    (unequal _ _ _ _ c.if-c-eq-LEAK.false (unequal _ _ _ _ c.if-a-eq-UNKNOWN.false (equal _ _ _ _ c.if-b-eq-UNKNOWN.true (ap (λ (n : ℕ). 512 + n) c.index_of-then-b-eq-UNKNOWN.ensures)))))
 
 pub returns-then-c-eq-UNKNOWN : goal.returns-then-c-eq-UNKNOWN
 unfolding voted_of
 returns-then-c-eq-UNKNOWN c =
     unequal _ _ _ _ c.if-a-eq-LEAK.false
     (unequal _ _ _ _ c.if-b-eq-LEAK.false
-    (unequal _ _ _ _ c.if-c-eq-LEAK.false
-    (unequal _ _ _ _ c.if-a-eq-UNKNOWN.false
+    (unequal _ _ _ _ c.if-c-eq-LEAK.false (unequal _ _ _ _ c.if-a-eq-UNKNOWN.false
     (unequal _ _ _ _ c.if-b-eq-UNKNOWN.false (equal _ _ _ _ c.if-c-eq-UNKNOWN.true (ap (λ (n : ℕ). 512 + n) c.index_of-then-c-eq-UNKNOWN.ensures))))))
 
 pub returns : goal.returns
