@@ -1,15 +1,15 @@
 // How many bytes the text has, before any of it is written: each part from the indices that its literals name.
 ghost use Rattle.std.specs.Prelude.{◌≡◌, [], ◌+◌, ◌*◌, ◌≤◌, ◌<◌, length};
 ghost use Rattle.graph.specs.Admission.{Admitted};
-ghost use Rattle.graph.specs.Literals.{graph_in};
 ghost use Rattle.tagged_file.specs.Write.{in_order};
 ghost use Rattle.aiger.specs.Export.{gates_before, header, export_text};
 ghost use Rattle.aiger_export.specs.Inner.{xor_wide, majority_wide, Fit, input_line, output_line, node_lines};
+ghost use Rattle.graph.specs.Tables.{lent_graph};
 
 use crate::gates;
 use crate::steps::{Steps, graph_steps, text_wide, wide_by};
 use graph::decimal::length_of;
-use graph::table;
+use graph::{Lent, table};
 
 // The ANDs of an XOR, the first with index b, whose words are that wide.
 pub fn xor_size(b: u32, x: usize, y: usize) -> usize
@@ -33,70 +33,34 @@ pub fn majority_size(b: u32, x: usize, y: usize, z: usize) -> usize
 }
 
 // The lines of node v, whose first AND has index b.
-pub fn node_size(
-    inputs: u32,
-    nodes: u32,
-    outputs: u32,
-    node_table: &[u32],
-    node_bits: &[u64],
-    output_table: &[u32],
-    output_bits: &[u64],
-    steps: Steps,
-    b: u32,
-    v: usize,
-) -> usize
-    requires { let g = graph_in inputs nodes outputs node_table.now node_bits.now output_table.now output_bits.now in
-        Admitted g × Fit g steps × (v < nodes) × (b ≡ inputs + 1 + gates_before g v) }
-    ensures { let g = graph_in inputs nodes outputs node_table.now node_bits.now output_table.now output_bits.now in
+pub fn node_size(lent: &Lent, steps: Steps, b: u32, v: usize) -> usize
+    requires { let g = lent_graph lent.now in
+        Admitted g × Fit g steps × (v < lent.now.nodes) × (b ≡ lent.now.inputs + 1 + gates_before g v) }
+    ensures { let g = lent_graph lent.now in
         (result ≡ length (node_lines g v)) × (result ≤ 84) }
 {
     let at = 3 * v;
-    let x = wide_by(steps, table::index_at(node_table, node_bits, at));
-    let y = wide_by(steps, table::index_at(node_table, node_bits, at + 1));
-    if table::is_mark_at(node_table, node_bits, at + 2) {
+    let x = wide_by(steps, lent.node_table.index_at(at));
+    let y = wide_by(steps, lent.node_table.index_at(at + 1));
+    if lent.node_table.is_mark_at(at + 2) {
         return xor_size(b, x, y);
     }
-    majority_size(
-        b,
-        x,
-        y,
-        wide_by(steps, table::index_at(node_table, node_bits, at + 2)),
-    )
+    majority_size(b, x, y, wide_by(steps, lent.node_table.index_at(at + 2)))
 }
 
-pub fn nodes_size(
-    inputs: u32,
-    nodes: u32,
-    outputs: u32,
-    node_table: &[u32],
-    node_bits: &[u64],
-    output_table: &[u32],
-    output_bits: &[u64],
-    steps: Steps,
-) -> usize
-    requires { let g = graph_in inputs nodes outputs node_table.now node_bits.now output_table.now output_bits.now in
+pub fn nodes_size(lent: &Lent, steps: Steps) -> usize
+    requires { let g = lent_graph lent.now in
         Admitted g × Fit g steps }
-    ensures { let g = graph_in inputs nodes outputs node_table.now node_bits.now output_table.now output_bits.now in
-        (result ≡ length (in_order (node_lines g) 0 nodes)) × (result ≤ 84 * nodes) }
+    ensures { let g = lent_graph lent.now in
+        (result ≡ length (in_order (node_lines g) 0 lent.now.nodes)) × (result ≤ 84 * lent.now.nodes) }
 {
     let mut size: usize = 0;
-    let mut b = inputs + 1;
+    let mut b = lent.inputs + 1;
     let mut v: usize = 0;
-    let mut left = nodes;
+    let mut left = lent.nodes;
     while 0 < left {
-        size += node_size(
-            inputs,
-            nodes,
-            outputs,
-            node_table,
-            node_bits,
-            output_table,
-            output_bits,
-            steps,
-            b,
-            v,
-        );
-        b += gates::gates_at(node_table, node_bits, v);
+        size += node_size(lent, steps, b, v);
+        b += gates::gates_at(&lent.node_table, v);
         v += 1;
         left -= 1;
     }
@@ -118,26 +82,17 @@ pub fn inputs_size(inputs: u32) -> usize
     size
 }
 
-pub fn outputs_size(
-    inputs: u32,
-    nodes: u32,
-    outputs: u32,
-    node_table: &[u32],
-    node_bits: &[u64],
-    output_table: &[u32],
-    output_bits: &[u64],
-    steps: Steps,
-) -> usize
-    requires { let g = graph_in inputs nodes outputs node_table.now node_bits.now output_table.now output_bits.now in
+pub fn outputs_size(lent: &Lent, steps: Steps) -> usize
+    requires { let g = lent_graph lent.now in
         Admitted g × Fit g steps }
-    ensures { let g = graph_in inputs nodes outputs node_table.now node_bits.now output_table.now output_bits.now in
-        (result ≡ length (in_order (output_line g) 0 outputs)) × (result ≤ 84 * outputs) }
+    ensures { let g = lent_graph lent.now in
+        (result ≡ length (in_order (output_line g) 0 lent.now.outputs)) × (result ≤ 84 * lent.now.outputs) }
 {
     let mut size: usize = 0;
     let mut j: usize = 0;
-    let mut left = outputs;
+    let mut left = lent.outputs;
     while 0 < left {
-        size += wide_by(steps, table::index_at(output_table, output_bits, j));
+        size += wide_by(steps, lent.output_table.index_at(j));
         j += 1;
         left -= 1;
     }
@@ -160,58 +115,16 @@ pub fn most_bytes(inputs: u32, nodes: u32, outputs: u32) -> usize
 }
 
 // The whole text.
-pub fn text_size(
-    inputs: u32,
-    nodes: u32,
-    outputs: u32,
-    node_table: &[u32],
-    node_bits: &[u64],
-    output_table: &[u32],
-    output_bits: &[u64],
-) -> usize
-    requires { let g = graph_in inputs nodes outputs node_table.now node_bits.now output_table.now output_bits.now in
+pub fn text_size(lent: &Lent) -> usize
+    requires { let g = lent_graph lent.now in
         Admitted g }
-    ensures { let g = graph_in inputs nodes outputs node_table.now node_bits.now output_table.now output_bits.now in
+    ensures { let g = lent_graph lent.now in
         result ≡ length (export_text g) }
 {
-    let count = gates::gate_count(
-        inputs,
-        nodes,
-        outputs,
-        node_table,
-        node_bits,
-        output_table,
-        output_bits,
-    );
-    let steps = graph_steps(
-        inputs,
-        nodes,
-        outputs,
-        node_table,
-        node_bits,
-        output_table,
-        output_bits,
-    );
-    header_size(inputs, count, outputs)
-        + inputs_size(inputs)
-        + outputs_size(
-            inputs,
-            nodes,
-            outputs,
-            node_table,
-            node_bits,
-            output_table,
-            output_bits,
-            steps,
-        )
-        + nodes_size(
-            inputs,
-            nodes,
-            outputs,
-            node_table,
-            node_bits,
-            output_table,
-            output_bits,
-            steps,
-        )
+    let count = gates::gate_count(lent);
+    let steps = graph_steps(lent);
+    header_size(lent.inputs, count, lent.outputs)
+        + inputs_size(lent.inputs)
+        + outputs_size(lent, steps)
+        + nodes_size(lent, steps)
 }

@@ -2,10 +2,11 @@
 ghost use Rattle.std.specs.Prelude.{◌≡◌, ◌≤◌, ◌<◌};
 ghost use Rattle.graph.specs.Admission.{Admitted};
 ghost use Rattle.graph.specs.Finite.{if_less};
-ghost use Rattle.graph.specs.Literals.{graph_in};
 ghost use Rattle.aiger_export.specs.Inner.{wide_by, halves, Step, Fit};
+ghost use Rattle.graph.specs.Tables.{lent_graph};
 
 use crate::gates;
+use graph::Lent;
 
 // The least index whose literal has two digits, three, and so on.
 #[derive(Clone, Copy)]
@@ -53,101 +54,37 @@ pub fn text_wide(index: u32) -> usize
 }
 
 // The least index of the graph whose literals have at least the index `half` in the text; past the last where none have.
-pub fn step_at(
-    inputs: u32,
-    nodes: u32,
-    outputs: u32,
-    node_table: &[u32],
-    node_bits: &[u64],
-    output_table: &[u32],
-    output_bits: &[u64],
-    half: u32,
-) -> u32
-    requires { let g = graph_in inputs nodes outputs node_table.now node_bits.now output_table.now output_bits.now in
+pub fn step_at(lent: &Lent, half: u32) -> u32
+    requires { let g = lent_graph lent.now in
         Admitted g }
-    ensures { let g = graph_in inputs nodes outputs node_table.now node_bits.now output_table.now output_bits.now in
+    ensures { let g = lent_graph lent.now in
         Step g half result }
 {
-    if half <= inputs {
+    if half <= lent.inputs {
         return half;
     }
-    let mut last = inputs;
-    let mut v: u32 = 0;
-    while v < nodes {
-        last += gates::gates_at(node_table, node_bits, v as usize);
+    let mut last = lent.inputs;
+    for v in 0..lent.nodes {
+        last += gates::gates_at(&lent.node_table, v as usize);
         if half <= last {
-            return inputs + 1 + v;
+            return lent.inputs + 1 + v;
         }
-        v += 1;
     }
-    inputs + 1 + nodes
+    lent.inputs + 1 + lent.nodes
 }
 
 // The steps of the graph's indices.
-pub fn graph_steps(
-    inputs: u32,
-    nodes: u32,
-    outputs: u32,
-    node_table: &[u32],
-    node_bits: &[u64],
-    output_table: &[u32],
-    output_bits: &[u64],
-) -> Steps
-    requires { let g = graph_in inputs nodes outputs node_table.now node_bits.now output_table.now output_bits.now in
+pub fn graph_steps(lent: &Lent) -> Steps
+    requires { let g = lent_graph lent.now in
         Admitted g }
-    ensures { let g = graph_in inputs nodes outputs node_table.now node_bits.now output_table.now output_bits.now in
+    ensures { let g = lent_graph lent.now in
         Fit g result }
 {
     Steps {
-        two: step_at(
-            inputs,
-            nodes,
-            outputs,
-            node_table,
-            node_bits,
-            output_table,
-            output_bits,
-            5,
-        ),
-        three: step_at(
-            inputs,
-            nodes,
-            outputs,
-            node_table,
-            node_bits,
-            output_table,
-            output_bits,
-            50,
-        ),
-        four: step_at(
-            inputs,
-            nodes,
-            outputs,
-            node_table,
-            node_bits,
-            output_table,
-            output_bits,
-            500,
-        ),
-        five: step_at(
-            inputs,
-            nodes,
-            outputs,
-            node_table,
-            node_bits,
-            output_table,
-            output_bits,
-            5000,
-        ),
-        six: step_at(
-            inputs,
-            nodes,
-            outputs,
-            node_table,
-            node_bits,
-            output_table,
-            output_bits,
-            50000,
-        ),
+        two: step_at(lent, 5),
+        three: step_at(lent, 50),
+        four: step_at(lent, 500),
+        five: step_at(lent, 5000),
+        six: step_at(lent, 50000),
     }
 }

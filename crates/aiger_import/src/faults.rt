@@ -64,8 +64,7 @@ pub fn gates_number(rest: &[u8], nodes: u32, start: u32) -> u32
     ensures { result ≡ gate_lines_number rest.now nodes start }
 {
     let mut s = rest;
-    let mut k: u32 = 0;
-    while k < nodes {
+    for k in 0..nodes {
         let line = gate_line(s, start + k);
         let fault = line.fault;
         if fault != 0 {
@@ -73,7 +72,6 @@ pub fn gates_number(rest: &[u8], nodes: u32, start: u32) -> u32
         }
         let size = line.size;
         s = &s[size..];
-        k += 1;
     }
     0
 }
@@ -83,8 +81,7 @@ pub fn outputs_number(rest: &[u8], inputs: u32, nodes: u32, outputs: u32) -> u32
     ensures { result ≡ first (output_lines_number rest.now outputs (inputs + 1 + nodes)) (gate_lines_number (skip outputs rest.now) nodes (inputs + 1)) }
 {
     let mut s = rest;
-    let mut j: u32 = 0;
-    while j < outputs {
+    for j in 0..outputs {
         let line = output_line(s, inputs + 1 + nodes);
         let fault = line.fault;
         if fault != 0 {
@@ -92,7 +89,6 @@ pub fn outputs_number(rest: &[u8], inputs: u32, nodes: u32, outputs: u32) -> u32
         }
         let size = line.size;
         s = &s[size..];
-        j += 1;
     }
     gates_number(s, nodes, inputs + 1)
 }
@@ -102,8 +98,7 @@ pub fn inputs_number(rest: &[u8], inputs: u32, nodes: u32, outputs: u32) -> u32
     ensures { result ≡ body_number rest.now inputs nodes outputs }
 {
     let mut s = rest;
-    let mut k: u32 = 0;
-    while k < inputs {
+    for k in 0..inputs {
         let line = input_line(s, k);
         let fault = line.fault;
         if fault != 0 {
@@ -111,7 +106,6 @@ pub fn inputs_number(rest: &[u8], inputs: u32, nodes: u32, outputs: u32) -> u32
         }
         let size = line.size;
         s = &s[size..];
-        k += 1;
     }
     outputs_number(s, inputs, nodes, outputs)
 }

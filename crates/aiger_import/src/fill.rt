@@ -16,12 +16,10 @@ pub fn after_ones<'a>(rest: &'a [u8], lines: u32) -> &'a [u8]
     ensures { result.now ≡ skip lines rest.now }
 {
     let mut s = rest;
-    let mut k: u32 = 0;
-    while k < lines {
+    for k in 0..lines {
         let line = known_number(s);
         let size = line.size;
         s = &s[size..];
-        k += 1;
     }
     s
 }

@@ -116,8 +116,7 @@ pub fn read_line(s: &[u8], k: usize, numbers: &mut [u32]) -> Line
     ensures { LineRead k s.now numbers.new result.fault result.size }
 {
     let mut at: usize = 0;
-    let mut j: usize = 0;
-    while j < k {
+    for j in 0..k {
         let n = number_at(&s[at..], 32);
         let fault = n.fault;
         if fault != 0 {
@@ -125,7 +124,6 @@ pub fn read_line(s: &[u8], k: usize, numbers: &mut [u32]) -> Line
         }
         numbers[j] = n.value;
         at += n.size;
-        j += 1;
     }
     let n = number_at(&s[at..], 10);
     numbers[k] = n.value;

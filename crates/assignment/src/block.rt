@@ -1,12 +1,13 @@
 // A block: 64 assignments tried together.
 ghost use Rattle.std.specs.Prelude.{◌≡◌, ℕ, ◌+◌, ◌≤◌, min, length, take};
-ghost use Rattle.graph.specs.Literals.{graph_in};
 ghost use Rattle.evaluation.specs.Inner.{nodes_of, NodeWords};
 ghost use Rattle.assignment.specs.Inner.{Top, Searchable, Left, Places};
+ghost use Rattle.graph.specs.Tables.{lent_graph};
 
 use crate::outputs::left_from;
 use crate::words;
 use evaluation::{front, values};
+use graph::Lent;
 
 const ONES: u64 = 18446744073709551615;
 
@@ -32,27 +33,21 @@ fn front_count(inputs: u32, nodes: u32, top: usize) -> usize
 // What is left of `left` by the outputs that name one of the first `many` nodes. These are evaluated in eight stretches, each word at the place of its index;
 // after each the outputs that name them are looked at, and where no place is left the block is done. Else their words end at the front.
 fn front_places(
-    inputs: u32,
-    nodes: u32,
-    outputs: u32,
-    node_table: &[u32],
-    node_bits: &[u64],
-    output_table: &[u32],
-    output_bits: &[u64],
+    lent: &Lent,
     wanted: &[u8],
     many: usize,
     input_words: &[u64],
     left: u64,
     scratch: &mut [u64],
 ) -> u64
-    requires { let g = graph_in inputs nodes outputs node_table.now node_bits.now output_table.now output_bits.now in
-        Searchable g wanted.now (length scratch.old) × (inputs ≤ length input_words.now) × (inputs + 1 + many ≤ nodes) × Left g wanted.now input_words.now (inputs + 1 + 0) left }
-    ensures { let g = graph_in inputs nodes outputs node_table.now node_bits.now output_table.now output_bits.now in
+    requires { let g = lent_graph lent.now in
+        Searchable g wanted.now (length scratch.old) × (lent.now.inputs ≤ length input_words.now) × (lent.now.inputs + 1 + many ≤ lent.now.nodes) × Left g wanted.now input_words.now (lent.now.inputs + 1 + 0) left }
+    ensures { let g = lent_graph lent.now in
         let ws = input_words.now in
-        Left g wanted.now ws (inputs + 1 + many) result × ((result ≡ 0 → ⊥) → NodeWords (nodes_of inputs nodes g.nodes) ws (take many scratch.new) many) }
+        Left g wanted.now ws (lent.now.inputs + 1 + many) result × ((result ≡ 0 → ⊥) → NodeWords (nodes_of lent.now.inputs lent.now.nodes g.nodes) ws (take many scratch.new) many) }
 {
-    front::fill_low(inputs, input_words, scratch);
-    let first = inputs as usize + 1;
+    front::fill_low(lent.inputs, input_words, scratch);
+    let first = lent.inputs as usize + 1;
     let step = many / 8 + 1;
     let mut rest = left;
     let mut known: usize = 0;
@@ -61,12 +56,11 @@ fn front_places(
             return 0;
         }
         let next = lesser(known + step, many);
-        front::front_nodes(inputs, known, next, node_table, node_bits, scratch);
+        front::front_nodes(lent.inputs, known, next, &lent.node_table, scratch);
         rest = left_from(
-            inputs,
-            outputs,
-            output_table,
-            output_bits,
+            lent.inputs,
+            lent.outputs,
+            &lent.output_table,
             wanted,
             input_words,
             &scratch[first..first + next],
@@ -81,29 +75,22 @@ fn front_places(
 
 // The places left by the outputs that name the constant, an input or one of the first `many` nodes.
 fn first_places(
-    inputs: u32,
-    nodes: u32,
-    outputs: u32,
-    node_table: &[u32],
-    node_bits: &[u64],
-    output_table: &[u32],
-    output_bits: &[u64],
+    lent: &Lent,
     wanted: &[u8],
     many: usize,
     input_words: &[u64],
     scratch: &mut [u64],
 ) -> u64
-    requires { let g = graph_in inputs nodes outputs node_table.now node_bits.now output_table.now output_bits.now in
-        Searchable g wanted.now (length scratch.old) × (inputs ≤ length input_words.now) × ((many ≡ 0 → ⊥) → inputs + 1 + many ≤ nodes) }
-    ensures { let g = graph_in inputs nodes outputs node_table.now node_bits.now output_table.now output_bits.now in
+    requires { let g = lent_graph lent.now in
+        Searchable g wanted.now (length scratch.old) × (lent.now.inputs ≤ length input_words.now) × ((many ≡ 0 → ⊥) → lent.now.inputs + 1 + many ≤ lent.now.nodes) }
+    ensures { let g = lent_graph lent.now in
         let ws = input_words.now in
-        Left g wanted.now ws (inputs + 1 + many) result × ((result ≡ 0 → ⊥) → NodeWords (nodes_of inputs nodes g.nodes) ws (take many scratch.new) many) }
+        Left g wanted.now ws (lent.now.inputs + 1 + many) result × ((result ≡ 0 → ⊥) → NodeWords (nodes_of lent.now.inputs lent.now.nodes g.nodes) ws (take many scratch.new) many) }
 {
     let left = left_from(
-        inputs,
-        outputs,
-        output_table,
-        output_bits,
+        lent.inputs,
+        lent.outputs,
+        &lent.output_table,
         wanted,
         input_words,
         &scratch[..0],
@@ -113,31 +100,12 @@ fn first_places(
     if many == 0 {
         return left;
     }
-    front_places(
-        inputs,
-        nodes,
-        outputs,
-        node_table,
-        node_bits,
-        output_table,
-        output_bits,
-        wanted,
-        many,
-        input_words,
-        left,
-        scratch,
-    )
+    front_places(lent, wanted, many, input_words, left, scratch)
 }
 
 // What is left of `left` by the outputs that name a node from `many` on, the words of the nodes before it being in the front of `scratch`.
 fn last_places(
-    inputs: u32,
-    nodes: u32,
-    outputs: u32,
-    node_table: &[u32],
-    node_bits: &[u64],
-    output_table: &[u32],
-    output_bits: &[u64],
+    lent: &Lent,
     wanted: &[u8],
     many: usize,
     top: usize,
@@ -145,28 +113,26 @@ fn last_places(
     left: u64,
     scratch: &mut [u64],
 ) -> u64
-    requires { let g = graph_in inputs nodes outputs node_table.now node_bits.now output_table.now output_bits.now in
+    requires { let g = lent_graph lent.now in
         let ws = input_words.now in
-        Searchable g wanted.now (length scratch.old) × (inputs ≤ length ws) × (many ≤ top) × (top ≤ nodes)
-        × Left g wanted.now ws (inputs + 1 + many) left × NodeWords (nodes_of inputs nodes g.nodes) ws (take many scratch.old) many }
-    ensures { let g = graph_in inputs nodes outputs node_table.now node_bits.now output_table.now output_bits.now in
-        Left g wanted.now input_words.now (inputs + 1 + top) result }
+        Searchable g wanted.now (length scratch.old) × (lent.now.inputs ≤ length ws) × (many ≤ top) × (top ≤ lent.now.nodes)
+        × Left g wanted.now ws (lent.now.inputs + 1 + many) left × NodeWords (nodes_of lent.now.inputs lent.now.nodes g.nodes) ws (take many scratch.old) many }
+    ensures { let g = lent_graph lent.now in
+        Left g wanted.now input_words.now (lent.now.inputs + 1 + top) result }
 {
     values::fill_rest(
-        inputs,
+        lent.inputs,
         top as u32,
         many,
-        node_table,
-        node_bits,
+        &lent.node_table,
         input_words,
         scratch,
     );
-    let low = inputs as usize + 1 + many;
+    let low = lent.inputs as usize + 1 + many;
     left_from(
-        inputs,
-        outputs,
-        output_table,
-        output_bits,
+        lent.inputs,
+        lent.outputs,
+        &lent.output_table,
         wanted,
         input_words,
         &scratch[..top],
@@ -176,55 +142,17 @@ fn last_places(
 }
 
 // The places of block b that give the pattern, `top` nodes being asked for.
-pub fn block_places(
-    inputs: u32,
-    nodes: u32,
-    outputs: u32,
-    node_table: &[u32],
-    node_bits: &[u64],
-    output_table: &[u32],
-    output_bits: &[u64],
-    wanted: &[u8],
-    top: usize,
-    b: u32,
-    scratch: &mut [u64],
-) -> u64
-    requires { let g = graph_in inputs nodes outputs node_table.now node_bits.now output_table.now output_bits.now in
-        Searchable g wanted.now (length scratch.old) × Top g wanted.now outputs top }
-    ensures { let g = graph_in inputs nodes outputs node_table.now node_bits.now output_table.now output_bits.now in
+pub fn block_places(lent: &Lent, wanted: &[u8], top: usize, b: u32, scratch: &mut [u64]) -> u64
+    requires { let g = lent_graph lent.now in
+        Searchable g wanted.now (length scratch.old) × Top g wanted.now lent.now.outputs top }
+    ensures { let g = lent_graph lent.now in
         Places g wanted.now b result }
 {
     let input_words = words::input_words(b);
-    let many = front_count(inputs, nodes, top);
-    let left = first_places(
-        inputs,
-        nodes,
-        outputs,
-        node_table,
-        node_bits,
-        output_table,
-        output_bits,
-        wanted,
-        many,
-        &input_words,
-        scratch,
-    );
+    let many = front_count(lent.inputs, lent.nodes, top);
+    let left = first_places(lent, wanted, many, &input_words, scratch);
     if left == 0 {
         return 0;
     }
-    last_places(
-        inputs,
-        nodes,
-        outputs,
-        node_table,
-        node_bits,
-        output_table,
-        output_bits,
-        wanted,
-        many,
-        top,
-        &input_words,
-        left,
-        scratch,
-    )
+    last_places(lent, wanted, many, top, &input_words, left, scratch)
 }

@@ -1,9 +1,10 @@
 // Which of the numbers 3, 4, 5, 13, 17, 18 and 8 refuses a search; 0 is none.
 ghost use Rattle.std.specs.Prelude.{◌≡◌, ◌≤◌, length};
 ghost use Rattle.graph.specs.Finite.{first, if_less};
-ghost use Rattle.graph.specs.Literals.{graph_in};
 ghost use Rattle.assignment.specs.Assignment.{pattern_number, assignment_number};
+ghost use Rattle.graph.specs.Tables.{lent_graph};
 
+use graph::Lent;
 use graph::faults::first_fault;
 
 // 18 where a wanted byte is above 2.
@@ -12,12 +13,10 @@ fn pattern_number(outputs: u32, wanted: &[u8]) -> u32
     ensures { result ≡ pattern_number outputs wanted.now }
 {
     let end = outputs as usize;
-    let mut o: usize = 0;
-    while o < end {
+    for o in 0..end {
         if 2 < wanted[o] {
             return 18;
         }
-        o += 1;
     }
     0
 }
@@ -62,49 +61,20 @@ fn last_number(inputs: u32, nodes: u32, outputs: u32, wanted: &[u8], words: usiz
     first_fault(many, rest)
 }
 
-pub fn assignment_number(
-    inputs: u32,
-    nodes: u32,
-    outputs: u32,
-    node_table: &[u32],
-    node_bits: &[u64],
-    output_table: &[u32],
-    output_bits: &[u64],
-    locks: &[u8],
-    wanted: &[u8],
-    words: usize,
-) -> u32
-    ensures { let g = graph_in inputs nodes outputs node_table.now node_bits.now output_table.now output_bits.now in
-        result ≡ assignment_number g locks.now wanted.now words }
+pub fn assignment_number(lent: &Lent, wanted: &[u8], words: usize) -> u32
+    ensures { let g = lent_graph lent.now in
+        result ≡ assignment_number g lent.now.locks.now wanted.now words }
 {
-    let room = graph::faults::tables_number(
-        inputs,
-        nodes,
-        outputs,
-        node_table,
-        node_bits,
-        output_table,
-        output_bits,
-        locks,
-    );
+    let room = graph::faults::tables_number(lent);
     if room != 0 {
         return room;
     }
-    if wanted.len() < outputs as usize {
+    if wanted.len() < lent.outputs as usize {
         return 4;
     }
-    let content = graph::faults::content_number(
-        inputs,
-        nodes,
-        outputs,
-        node_table,
-        node_bits,
-        output_table,
-        output_bits,
-        locks,
-    );
+    let content = graph::faults::content_number(lent);
     if content != 0 {
         return content;
     }
-    last_number(inputs, nodes, outputs, wanted, words)
+    last_number(lent.inputs, lent.nodes, lent.outputs, wanted, words)
 }

@@ -3,15 +3,18 @@
 
 ghost use Rattle.std.specs.Prelude.{◌≡◌, length};
 ghost use Rattle.graph.specs.Answer.{accepted, ScratchKept};
-ghost use Rattle.graph.specs.Literals.{before, graph_before};
+ghost use Rattle.graph.specs.Literals.{before};
 ghost use Rattle.assignment.specs.Assignment.{found_values, assignment_call, assigned_answer};
 ghost use Rattle.assignment.specs.Inner.{found_by};
+ghost use Rattle.graph.specs.Tables.{lent_graph};
 
 mod block;
 mod faults;
 mod outputs;
 mod search;
 mod words;
+
+use graph::Lent;
 
 // What the search for an assignment answers.
 #[derive(Clone, Copy)]
@@ -33,46 +36,14 @@ fn assigned_by(number: u32) -> Assigned
 }
 
 // The pattern is a byte an output: 0, 1, or 2 for either.
-pub fn find_assignment(
-    inputs: u32,
-    nodes: u32,
-    outputs: u32,
-    node_table: &[u32],
-    node_bits: &[u64],
-    output_table: &[u32],
-    output_bits: &[u64],
-    locks: &[u8],
-    wanted: &[u8],
-    scratch: &mut [u64],
-) -> Assigned
-    ensures call { let g = graph_before inputs nodes outputs node_table node_bits output_table output_bits in
-        assigned_answer result ≡ assignment_call g (before locks) (before wanted) (length scratch.old) }
+pub fn find_assignment(lent: &Lent, wanted: &[u8], scratch: &mut [u64]) -> Assigned
+    ensures call { let g = lent_graph lent.now in
+        assigned_answer result ≡ assignment_call g lent.now.locks.now (before wanted) (length scratch.old) }
     ensures scratch { ScratchKept (assigned_answer result) scratch.old scratch.new }
 {
-    let number = faults::assignment_number(
-        inputs,
-        nodes,
-        outputs,
-        node_table,
-        node_bits,
-        output_table,
-        output_bits,
-        locks,
-        wanted,
-        scratch.len(),
-    );
+    let number = faults::assignment_number(lent, wanted, scratch.len());
     if number != 0 {
         return Assigned::Refused(graph::faults::refused_by(number));
     }
-    assigned_by(search::search(
-        inputs,
-        nodes,
-        outputs,
-        node_table,
-        node_bits,
-        output_table,
-        output_bits,
-        wanted,
-        scratch,
-    ))
+    assigned_by(search::search(lent, wanted, scratch))
 }

@@ -2,13 +2,15 @@
 ghost use Rattle.std.specs.Prelude.{◌≡◌, List, ℕ, ◌+◌, ◌*◌, ◌/◌, ◌≤◌, ◌<◌, min, length, get_or};
 ghost use Rattle.graph.specs.Finite.{first_of};
 ghost use Rattle.graph.specs.Graph.{index};
-ghost use Rattle.graph.specs.Literals.{bit, graph_in, literals};
+ghost use Rattle.graph.specs.Literals.{bit};
 ghost use Rattle.evaluation.specs.Inner.{by_index, literal_word};
 ghost use Rattle.assignment.specs.Inner.{fits, clean, want_in, lacks, Reached, Top, Pattern, Searchable};
+ghost use Rattle.graph.specs.Tables.{lent_graph, lent_table};
 
 use crate::words;
 use evaluation::values;
-use graph::table;
+use graph::table::Table;
+use graph::{Lent, table};
 
 // How many nodes' words the literal x asks for, where those of the first `known` are asked for already.
 fn reached(inputs: u32, known: usize, x: u32, want: u8) -> usize
@@ -27,33 +29,16 @@ fn reached(inputs: u32, known: usize, x: u32, want: u8) -> usize
 }
 
 // How many nodes' words the wanted outputs ask for.
-pub fn top_of(
-    inputs: u32,
-    nodes: u32,
-    outputs: u32,
-    node_table: &[u32],
-    node_bits: &[u64],
-    output_table: &[u32],
-    output_bits: &[u64],
-    wanted: &[u8],
-    words: usize,
-) -> usize
-    requires { let g = graph_in inputs nodes outputs node_table.now node_bits.now output_table.now output_bits.now in
+pub fn top_of(lent: &Lent, wanted: &[u8], words: usize) -> usize
+    requires { let g = lent_graph lent.now in
         Searchable g wanted.now words }
-    ensures { let g = graph_in inputs nodes outputs node_table.now node_bits.now output_table.now output_bits.now in
-        Top g wanted.now outputs result }
+    ensures { let g = lent_graph lent.now in
+        Top g wanted.now lent.now.outputs result }
 {
-    let end = outputs as usize;
+    let end = lent.outputs as usize;
     let mut top: usize = 0;
-    let mut o: usize = 0;
-    while o < end {
-        top = reached(
-            inputs,
-            top,
-            table::edge_at(output_table, output_bits, o),
-            wanted[o],
-        );
-        o += 1;
+    for o in 0..end {
+        top = reached(lent.inputs, top, lent.output_table.edge_at(o), wanted[o]);
     }
     top
 }
@@ -89,17 +74,16 @@ fn left_by(inputs: u32, input_words: &[u64], node_words: &[u64], left: u64, x: u
 pub fn left_from(
     inputs: u32,
     outputs: u32,
-    output_table: &[u32],
-    output_bits: &[u64],
+    output_table: &Table,
     wanted: &[u8],
     input_words: &[u64],
     node_words: &[u64],
     low: usize,
     left: u64,
 ) -> u64
-    requires { let l = literals output_table.now output_bits.now in
+    requires { let l = lent_table output_table.now in
         (inputs ≤ 16) × (inputs ≤ length input_words.now) × (length node_words.now ≤ 100000) × Pattern outputs l wanted.now }
-    ensures { let l = literals output_table.now output_bits.now in
+    ensures { let l = lent_table output_table.now in
         let ws = by_index inputs input_words.now node_words.now in
         let high = inputs + 1 + length node_words.now in
         ((j : ℕ) → j < 64 → bit j result ≡ min (bit j left) (clean (first_of outputs (lacks ws l wanted.now low high j)))) }
@@ -107,12 +91,10 @@ pub fn left_from(
     let high = inputs as usize + 1 + node_words.len();
     let end = outputs as usize;
     let mut rest = left;
-    let mut o: usize = 0;
-    while o < end {
-        let x = table::edge_at(output_table, output_bits, o);
+    for o in 0..end {
+        let x = output_table.edge_at(o);
         let want = want_in(x, wanted[o], low, high);
         rest = left_by(inputs, input_words, node_words, rest, x, want);
-        o += 1;
     }
     rest
 }

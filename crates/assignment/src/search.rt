@@ -1,11 +1,12 @@
 // Block after block, until one has a place that gives the pattern.
 ghost use Rattle.std.specs.Prelude.{◌≡◌, ◌*◌, ◌^◌, ◌≤◌, length};
-ghost use Rattle.graph.specs.Literals.{graph_in};
 ghost use Rattle.assignment.specs.Assignment.{least_assignment};
 ghost use Rattle.assignment.specs.Inner.{Searchable, found_by};
+ghost use Rattle.graph.specs.Tables.{lent_graph};
 
 use crate::outputs::top_of;
 use crate::{block, words};
+use graph::Lent;
 
 // Enough blocks for every assignment.
 fn block_count(inputs: u32) -> u32
@@ -13,62 +14,26 @@ fn block_count(inputs: u32) -> u32
     ensures { (2 ^ inputs ≤ 64 * result) × (result ≤ 1024) }
 {
     let mut blocks: u32 = 1;
-    let mut i: u32 = 6;
-    while i < inputs {
+    for i in 6..inputs {
         blocks *= 2;
-        i += 1;
     }
     blocks
 }
 
 // The number of the least assignment that gives the pattern, or 65,536.
-pub fn search(
-    inputs: u32,
-    nodes: u32,
-    outputs: u32,
-    node_table: &[u32],
-    node_bits: &[u64],
-    output_table: &[u32],
-    output_bits: &[u64],
-    wanted: &[u8],
-    scratch: &mut [u64],
-) -> u32
-    requires { let g = graph_in inputs nodes outputs node_table.now node_bits.now output_table.now output_bits.now in
+pub fn search(lent: &Lent, wanted: &[u8], scratch: &mut [u64]) -> u32
+    requires { let g = lent_graph lent.now in
         Searchable g wanted.now (length scratch.old) }
-    ensures { let g = graph_in inputs nodes outputs node_table.now node_bits.now output_table.now output_bits.now in
+    ensures { let g = lent_graph lent.now in
         found_by result ≡ least_assignment g wanted.now }
 {
-    let end = block_count(inputs);
-    let top = top_of(
-        inputs,
-        nodes,
-        outputs,
-        node_table,
-        node_bits,
-        output_table,
-        output_bits,
-        wanted,
-        scratch.len(),
-    );
-    let mut b: u32 = 0;
-    while b < end {
-        let places = block::block_places(
-            inputs,
-            nodes,
-            outputs,
-            node_table,
-            node_bits,
-            output_table,
-            output_bits,
-            wanted,
-            top,
-            b,
-            scratch,
-        );
+    let end = block_count(lent.inputs);
+    let top = top_of(lent, wanted, scratch.len());
+    for b in 0..end {
+        let places = block::block_places(lent, wanted, top, b, scratch);
         if places != 0 {
             return 64 * b + words::first_place(places);
         }
-        b += 1;
     }
     65536
 }

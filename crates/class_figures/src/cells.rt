@@ -1,8 +1,9 @@
 // Cells of nodes: 12 an XOR, 5 a majority.
 ghost use Rattle.std.specs.Prelude.{◌≡◌, cond, ◌≤◌};
-ghost use Rattle.graph.specs.Literals.{literals};
 ghost use Rattle.class_figures.specs.Inner.{Countable, node_cells};
+ghost use Rattle.graph.specs.Tables.{lent_table};
 
+use graph::table::Table;
 use moves::rows;
 
 fn kind_cells(xor: bool) -> u32
@@ -14,15 +15,13 @@ fn kind_cells(xor: bool) -> u32
     5
 }
 
-pub fn node_cells(nodes: u32, node_table: &[u32], node_bits: &[u64]) -> u32
-    requires { Countable nodes (literals node_table.now node_bits.now) }
-    ensures { result ≡ node_cells nodes (literals node_table.now node_bits.now) }
+pub fn node_cells(nodes: u32, node_table: &Table) -> u32
+    requires { Countable nodes (lent_table node_table.now) }
+    ensures { result ≡ node_cells nodes (lent_table node_table.now) }
 {
     let mut cells: u32 = 0;
-    let mut v: u32 = 0;
-    while v < nodes {
-        cells += kind_cells(rows::is_xor(node_table, node_bits, v as usize));
-        v += 1;
+    for v in 0..nodes {
+        cells += kind_cells(rows::is_xor(node_table, v as usize));
     }
     cells
 }

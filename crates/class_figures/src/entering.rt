@@ -1,11 +1,12 @@
 // A row entered into the record.
 ghost use Rattle.std.specs.Prelude.{◌≡◌, ℕ, ◌≤◌, ◌<◌, length, get_or};
-ghost use Rattle.graph.specs.Literals.{literals};
 ghost use Rattle.settling.specs.Settle.{settled_answer};
 ghost use Rattle.class_figures.specs.Call.{entered_at, entered};
 ghost use Rattle.class_figures.specs.Inner.{Roomy, Countable, node_cells, entered_by};
+ghost use Rattle.graph.specs.Tables.{lent_table};
 
 use crate::cells;
+use graph::table::Table;
 use settling::Settled;
 
 // The word at place j after one more row.
@@ -39,15 +40,9 @@ fn enter_row(book: &mut [u64], row: &[u64; 5])
 }
 
 // The nodes of the settled graph are those of the graph before, so that they are counted once. A refused graph is not entered.
-pub fn enter_settled(
-    settled: Settled,
-    nodes: u32,
-    node_table: &[u32],
-    node_bits: &[u64],
-    book: &mut [u64],
-)
-    requires { Roomy book.old × ((settled_answer settled).number ≡ 0 → Countable nodes (literals node_table.now node_bits.now)) }
-    ensures { book.new ≡ entered_by (settled_answer settled) (node_cells nodes (literals node_table.now node_bits.now)) book.old }
+pub fn enter_settled(settled: Settled, nodes: u32, node_table: &Table, book: &mut [u64])
+    requires { Roomy book.old × ((settled_answer settled).number ≡ 0 → Countable nodes (lent_table node_table.now)) }
+    ensures { book.new ≡ entered_by (settled_answer settled) (node_cells nodes (lent_table node_table.now)) book.old }
 {
     match settled {
         Settled::Rounds {
@@ -57,7 +52,7 @@ pub fn enter_settled(
             own: _,
             others: _,
         } => {
-            let kinds = cells::node_cells(nodes, node_table, node_bits) as u64;
+            let kinds = cells::node_cells(nodes, node_table) as u64;
             let row = [
                 before as u64,
                 after as u64,

@@ -2,9 +2,10 @@
 ghost use Rattle.std.specs.Prelude.{◌≡◌, min, get_or};
 ghost use Rattle.graph.specs.Finite.{first};
 ghost use Rattle.graph.specs.Admission.{tables_number};
-ghost use Rattle.graph.specs.Literals.{graph_in};
 ghost use Rattle.class_figures.specs.Call.{record_number, length_number, figures_number};
+ghost use Rattle.graph.specs.Tables.{lent_graph};
 
+use graph::Lent;
 use graph::faults::first_fault;
 
 fn lesser(a: usize, b: usize) -> usize
@@ -34,12 +35,10 @@ fn record_number(limit: u64, book: &[u64]) -> u32
         return 3;
     }
     let end = lesser(86, book.len());
-    let mut j: usize = 0;
-    while j < end {
+    for j in 0..end {
         if 1099511627776 <= book[j] {
             return 3;
         }
-        j += 1;
     }
     0
 }
@@ -54,31 +53,12 @@ fn length_number(book: &[u64]) -> u32
 }
 
 // Before the graph's contents are looked at.
-pub fn early_number(
-    inputs: u32,
-    nodes: u32,
-    outputs: u32,
-    node_table: &[u32],
-    node_bits: &[u64],
-    output_table: &[u32],
-    output_bits: &[u64],
-    locks: &[u8],
-    book: &[u64],
-) -> u32
-    ensures { let g = graph_in inputs nodes outputs node_table.now node_bits.now output_table.now output_bits.now in
-        result ≡ first (record_number 1000 book.now) (first (tables_number g locks.now) (length_number book.now)) }
+pub fn early_number(lent: &Lent, book: &[u64]) -> u32
+    ensures { let g = lent_graph lent.now in
+        result ≡ first (record_number 1000 book.now) (first (tables_number g lent.now.locks.now) (length_number book.now)) }
 {
     let full = record_number(1000, book);
-    let room = graph::faults::tables_number(
-        inputs,
-        nodes,
-        outputs,
-        node_table,
-        node_bits,
-        output_table,
-        output_bits,
-        locks,
-    );
+    let room = graph::faults::tables_number(lent);
     first_fault(full, first_fault(room, length_number(book)))
 }
 

@@ -12,6 +12,8 @@ mod entering;
 mod faults;
 mod reading;
 
+use graph::Lent;
+use graph::table::Table;
 use settling::Settled;
 
 // What reading the figures answers.
@@ -32,15 +34,15 @@ pub enum ClassFigures {
 }
 
 // Settles a graph and enters it into the record.
-pub fn enter(
+pub fn enter<'x>(
     inputs: u32,
     nodes: u32,
     outputs: u32,
-    node_table: &[u32],
-    node_bits: &mut [u64],
-    output_table: &[u32],
-    output_bits: &mut [u64],
-    locks: &[u8],
+    node_table: &'x [u32],
+    node_bits: &'x mut [u64],
+    output_table: &'x [u32],
+    output_bits: &'x mut [u64],
+    locks: &'x [u8],
     scratch: &mut [u32],
     book: &mut [u64],
 ) -> Settled
@@ -49,17 +51,21 @@ pub fn enter(
         class_outcome (settled_answer result) k book.new ≡ class_call book.old g locks.now (length scratch.old) }
     ensures scratch { ScratchKept (settled_answer result) scratch.old scratch.new }
 {
-    let number = faults::early_number(
+    let lent = Lent {
         inputs,
         nodes,
         outputs,
-        node_table,
-        node_bits,
-        output_table,
-        output_bits,
+        node_table: Table {
+            indices: node_table,
+            bits: node_bits,
+        },
+        output_table: Table {
+            indices: output_table,
+            bits: output_bits,
+        },
         locks,
-        book,
-    );
+    };
+    let number = faults::early_number(&lent, book);
     if number != 0 {
         return Settled::Refused(graph::faults::refused_by(number));
     }
@@ -74,7 +80,15 @@ pub fn enter(
         locks,
         scratch,
     );
-    entering::enter_settled(settled, nodes, node_table, node_bits, book);
+    entering::enter_settled(
+        settled,
+        nodes,
+        &Table {
+            indices: node_table,
+            bits: node_bits,
+        },
+        book,
+    );
     settled
 }
 

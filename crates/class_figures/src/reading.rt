@@ -41,10 +41,8 @@ fn latest_total(book: &[u64], k: usize) -> u64
     ensures { (result ≡ latest_total book.now k) × (result ≤ 17592186044416) }
 {
     let mut sum: u64 = 0;
-    let mut i: usize = 0;
-    while i < 16 {
+    for i in 0..16 {
         sum += book[6 + 5 * i + k];
-        i += 1;
     }
     sum
 }

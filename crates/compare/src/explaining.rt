@@ -6,8 +6,11 @@ ghost use Rattle.graph.specs.Finite.{if_less};
 ghost use Rattle.graph.specs.Literals.{graph_in};
 ghost use Rattle.compare.specs.Compare.{compared, comparison_answer, words_compared};
 ghost use Rattle.compare.specs.Telling.{apart, explained};
+ghost use Rattle.graph.specs.Tables.{lent_graph};
 
 use crate::{Comparison, indices, telling};
+use graph::Lent;
+use graph::table::Table;
 
 // Words for a bit of each index that a graph can have, as many moves together note them.
 const SEEN: usize = 1627;
@@ -26,28 +29,21 @@ fn index_told(nodes: u32, place: usize) -> Comparison
 
 // Two graphs of one wiring: the moves that lead from the first to the second, or the first place that none explain.
 fn explain(
-    inputs: u32,
-    nodes: u32,
-    outputs: u32,
-    node_table: &[u32],
-    node_bits: &[u64],
-    output_table: &[u32],
-    output_bits: &[u64],
+    first: &Lent,
     second_node_bits: &[u64],
     second_output_bits: &[u64],
     moves: &mut [u8],
 ) -> Comparison
-    requires { Admitted (graph_in inputs nodes outputs node_table.now node_bits.now output_table.now output_bits.now) × (3 * nodes ≤ 64 * length second_node_bits.now) × (outputs ≤ 64 * length second_output_bits.now) × (nodes ≤ length moves.old) }
-    ensures { let g = graph_in inputs nodes outputs node_table.now node_bits.now output_table.now output_bits.now in
+    requires { Admitted (lent_graph first.now) × (3 * first.now.nodes ≤ 64 * length second_node_bits.now) × (first.now.outputs ≤ 64 * length second_output_bits.now) × (first.now.nodes ≤ length moves.old) }
+    ensures { let g = lent_graph first.now in
         compared (comparison_answer result) moves.new ≡ explained g (apart g.nodes second_node_bits.now) (apart g.outputs second_output_bits.now) moves.old }
 {
     let mut seen = [0u64; SEEN];
-    let end = 3 * nodes as usize;
+    let end = 3 * first.nodes as usize;
     let k = telling::tell_nodes(
-        inputs,
-        nodes,
-        node_table,
-        node_bits,
+        first.inputs,
+        first.nodes,
+        &first.node_table,
         second_node_bits,
         &mut seen,
     );
@@ -55,20 +51,18 @@ fn explain(
         return Comparison::Told(4, k as u32);
     }
     let j = telling::tell_outputs(
-        outputs,
-        output_table,
-        output_bits,
+        first.outputs,
+        &first.output_table,
         second_output_bits,
         &seen,
     );
-    if j < outputs as usize {
+    if j < first.outputs as usize {
         return Comparison::Told(5, j as u32);
     }
     telling::fill_moves(
-        inputs,
-        nodes,
-        node_table,
-        node_bits,
+        first.inputs,
+        first.nodes,
+        &first.node_table,
         second_node_bits,
         &seen,
         moves,
@@ -77,50 +71,24 @@ fn explain(
 }
 
 pub fn compare_words(
-    inputs: u32,
-    nodes: u32,
-    outputs: u32,
-    node_table: &[u32],
-    node_bits: &[u64],
-    output_table: &[u32],
-    output_bits: &[u64],
-    second_node_table: &[u32],
-    second_node_bits: &[u64],
-    second_output_table: &[u32],
-    second_output_bits: &[u64],
+    first: &Lent,
+    second_node_table: &Table,
+    second_output_table: &Table,
     moves: &mut [u8],
 ) -> Comparison
-    requires { Admitted (graph_in inputs nodes outputs node_table.now node_bits.now output_table.now output_bits.now) × Admitted (graph_in inputs nodes outputs second_node_table.now second_node_bits.now second_output_table.now second_output_bits.now) × (nodes ≤ length moves.old) }
-    ensures { let g = graph_in inputs nodes outputs node_table.now node_bits.now output_table.now output_bits.now in
-        let h = graph_in inputs nodes outputs second_node_table.now second_node_bits.now second_output_table.now second_output_bits.now in
+    requires { Admitted (lent_graph first.now) × Admitted (graph_in first.now.inputs first.now.nodes first.now.outputs second_node_table.now.indices.now second_node_table.now.bits.now second_output_table.now.indices.now second_output_table.now.bits.now) × (first.now.nodes ≤ length moves.old) }
+    ensures { let g = lent_graph first.now in
+        let h = graph_in first.now.inputs first.now.nodes first.now.outputs second_node_table.now.indices.now second_node_table.now.bits.now second_output_table.now.indices.now second_output_table.now.bits.now in
         compared (comparison_answer result) moves.new ≡ words_compared g h moves.old }
 {
-    let place = indices::wired_to(
-        inputs,
-        nodes,
-        outputs,
-        node_table,
-        node_bits,
-        output_table,
-        output_bits,
-        second_node_table,
-        second_node_bits,
-        second_output_table,
-        second_output_bits,
-    );
-    if place < 3 * nodes as usize + outputs as usize {
-        return index_told(nodes, place);
+    let place = indices::wired_to(first, second_node_table, second_output_table);
+    if place < 3 * first.nodes as usize + first.outputs as usize {
+        return index_told(first.nodes, place);
     }
     explain(
-        inputs,
-        nodes,
-        outputs,
-        node_table,
-        node_bits,
-        output_table,
-        output_bits,
-        second_node_bits,
-        second_output_bits,
+        first,
+        second_node_table.bits,
+        second_output_table.bits,
         moves,
     )
 }

@@ -4,8 +4,10 @@ ghost use Rattle.graph.specs.Admission.{Admitted};
 ghost use Rattle.graph.specs.Finite.{if_equal};
 ghost use Rattle.graph.specs.Literals.{graph_in, index_at};
 ghost use Rattle.compare.specs.Compare.{passing, wired_to};
+ghost use Rattle.graph.specs.Tables.{lent_graph};
 
-use graph::table::raw_at;
+use graph::Lent;
+use graph::table::{Table, raw_at};
 
 // The first of the sizes that differs, 3 where none does.
 pub fn size_apart(
@@ -35,37 +37,27 @@ fn same_to(n: usize, table: &[u32], second_table: &[u32]) -> usize
     requires { (n ≤ length table.now) × (n ≤ length second_table.now) }
     ensures { result ≡ passing n (λ j. eqb (index_at table.now j) (index_at second_table.now j)) }
 {
-    let mut j: usize = 0;
-    while j < n {
+    for j in 0..n {
         if raw_at(table, j) != raw_at(second_table, j) {
             return j;
         }
-        j += 1;
     }
     n
 }
 
 // The same of both tables in a row.
-pub fn wired_to(
-    inputs: u32,
-    nodes: u32,
-    outputs: u32,
-    node_table: &[u32],
-    node_bits: &[u64],
-    output_table: &[u32],
-    output_bits: &[u64],
-    second_node_table: &[u32],
-    second_node_bits: &[u64],
-    second_output_table: &[u32],
-    second_output_bits: &[u64],
-) -> usize
-    requires { Admitted (graph_in inputs nodes outputs node_table.now node_bits.now output_table.now output_bits.now) × Admitted (graph_in inputs nodes outputs second_node_table.now second_node_bits.now second_output_table.now second_output_bits.now) }
-    ensures { result ≡ wired_to (graph_in inputs nodes outputs node_table.now node_bits.now output_table.now output_bits.now) (graph_in inputs nodes outputs second_node_table.now second_node_bits.now second_output_table.now second_output_bits.now) }
+pub fn wired_to(first: &Lent, second_node_table: &Table, second_output_table: &Table) -> usize
+    requires { Admitted (lent_graph first.now) × Admitted (graph_in first.now.inputs first.now.nodes first.now.outputs second_node_table.now.indices.now second_node_table.now.bits.now second_output_table.now.indices.now second_output_table.now.bits.now) }
+    ensures { result ≡ wired_to (lent_graph first.now) (graph_in first.now.inputs first.now.nodes first.now.outputs second_node_table.now.indices.now second_node_table.now.bits.now second_output_table.now.indices.now second_output_table.now.bits.now) }
 {
-    let end = 3 * nodes as usize;
-    let k = same_to(end, node_table, second_node_table);
+    let end = 3 * first.nodes as usize;
+    let k = same_to(end, first.node_table.indices, second_node_table.indices);
     if k < end {
         return k;
     }
-    end + same_to(outputs as usize, output_table, second_output_table)
+    end + same_to(
+        first.outputs as usize,
+        first.output_table.indices,
+        second_output_table.indices,
+    )
 }

@@ -2,14 +2,15 @@
 #![tactic(auto)]
 
 ghost use Rattle.std.specs.Prelude.{◌≡◌};
-ghost use Rattle.graph.specs.Literals.{graph_in};
 ghost use Rattle.compare.specs.Compare.{compared, comparison_answer, compare_call};
+ghost use Rattle.graph.specs.Tables.{lent_graph};
 
 mod explaining;
 mod faults;
 mod indices;
 mod telling;
 
+use graph::Lent;
 use graph::faults::refused_by;
 
 // How two graphs differ, in two numbers: 0 and 0 for by moves alone; else 1 to 5 for what is the first difference, and where it is. Or why the
@@ -21,74 +22,25 @@ pub enum Comparison {
 }
 
 // The tables are only read, and the bytes are filled where moves lead from the first graph to the second.
-pub fn compare(
-    inputs: u32,
-    nodes: u32,
-    outputs: u32,
-    node_table: &[u32],
-    node_bits: &[u64],
-    output_table: &[u32],
-    output_bits: &[u64],
-    locks: &[u8],
-    second_inputs: u32,
-    second_nodes: u32,
-    second_outputs: u32,
-    second_node_table: &[u32],
-    second_node_bits: &[u64],
-    second_output_table: &[u32],
-    second_output_bits: &[u64],
-    second_locks: &[u8],
-    moves: &mut [u8],
-) -> Comparison
-    ensures { let g = graph_in inputs nodes outputs node_table.now node_bits.now output_table.now output_bits.now in
-        let h = graph_in second_inputs second_nodes second_outputs second_node_table.now second_node_bits.now second_output_table.now second_output_bits.now in
-        compared (comparison_answer result) moves.new ≡ compare_call g locks.now h second_locks.now moves.old }
+pub fn compare(first: &Lent, second: &Lent, moves: &mut [u8]) -> Comparison
+    ensures { let g = lent_graph first.now in
+        let h = lent_graph second.now in
+        compared (comparison_answer result) moves.new ≡ compare_call g first.now.locks.now h second.now.locks.now moves.old }
 {
-    let number = faults::compare_number(
-        inputs,
-        nodes,
-        outputs,
-        node_table,
-        node_bits,
-        output_table,
-        output_bits,
-        locks,
-        second_inputs,
-        second_nodes,
-        second_outputs,
-        second_node_table,
-        second_node_bits,
-        second_output_table,
-        second_output_bits,
-        second_locks,
-        moves.len(),
-    );
+    let number = faults::compare_number(first, second, moves.len());
     if number != 0 {
         return Comparison::Refused(refused_by(number));
     }
     let size = indices::size_apart(
-        inputs,
-        nodes,
-        outputs,
-        second_inputs,
-        second_nodes,
-        second_outputs,
+        first.inputs,
+        first.nodes,
+        first.outputs,
+        second.inputs,
+        second.nodes,
+        second.outputs,
     );
     if size < 3 {
         return Comparison::Told(1, size);
     }
-    explaining::compare_words(
-        inputs,
-        nodes,
-        outputs,
-        node_table,
-        node_bits,
-        output_table,
-        output_bits,
-        second_node_table,
-        second_node_bits,
-        second_output_table,
-        second_output_bits,
-        moves,
-    )
+    explaining::compare_words(first, &second.node_table, &second.output_table, moves)
 }

@@ -4,27 +4,29 @@ ghost use Rattle.std.specs.Prelude.{◌≡◌, Bool, cond, false, ℕ, ◌+◌, 
 ghost use Rattle.graph.specs.Admission.{Admitted};
 ghost use Rattle.graph.specs.Finite.{tab, if_less};
 ghost use Rattle.graph.specs.Graph.{index, is_xor};
-ghost use Rattle.graph.specs.Literals.{bit_at, held, literals};
+ghost use Rattle.graph.specs.Literals.{bit_at, held};
 ghost use Rattle.graph.specs.Turned.{only};
 ghost use Rattle.moves.specs.Rows.{flag};
 ghost use Rattle.many.specs.Making.{Noted, bare};
 ghost use Rattle.order.specs.Inner.{tells};
 ghost use Rattle.compare.specs.Compare.{passing};
 ghost use Rattle.compare.specs.Telling.{apart, own_turn, told, fits, unfit};
+ghost use Rattle.graph.specs.Tables.{lent_table};
 
 use graph::table;
+use graph::table::Table;
 use many::making;
 use moves::rows;
 
 // How often, by twos, the word at place j is to be turned by its own node's move.
-fn own_turn(table: &[u32], bits: &[u64], second_bits: &[u64], seen: &[u64], j: usize) -> u32
-    requires { let l = literals table.now bits.now in
+fn own_turn(table: &Table, second_bits: &[u64], seen: &[u64], j: usize) -> u32
+    requires { let l = lent_table table.now in
         (j < held l) × (index (get_or l j 0) < 104128) × (j < 64 * length second_bits.now) × (length seen.now ≡ 1627) }
-    ensures { let l = literals table.now bits.now in
+    ensures { let l = lent_table table.now in
         (result ≡ own_turn seen.now l second_bits.now j) × (result ≤ 1) }
 {
-    let f = (table::odd_at(table, bits, j) + table::bit_at(second_bits, j)) % 2;
-    making::turns_at(table, bits, seen, j, f) % 2
+    let f = (table.odd_at(j) + table::bit_at(second_bits, j)) % 2;
+    making::turns_at(table, seen, j, f) % 2
 }
 
 // x for an XOR, else y. What stands below goes through it, so that nothing jumps by the kind, which a processor could not foresee.
@@ -73,25 +75,24 @@ fn unfit_word(xor: bool, x: u32, y: u32, z: u32) -> u32
 fn tell_node(
     inputs: u32,
     nodes: u32,
-    node_table: &[u32],
-    node_bits: &[u64],
+    node_table: &Table,
     second_node_bits: &[u64],
     seen: &mut [u64],
     v: u32,
 ) -> u32
-    requires { let l = literals node_table.now node_bits.now in
+    requires { let l = lent_table node_table.now in
         Admitted (bare inputs nodes l) × (v < nodes) × (3 * nodes ≤ 64 * length second_node_bits.now) × (length seen.old ≡ 1627) }
-    ensures { let l = literals node_table.now node_bits.now in
+    ensures { let l = lent_table node_table.now in
         let x = is_xor (bare inputs nodes l) v in
         let t : ℕ → ℕ = λ k. own_turn seen.old l second_node_bits.now (3 * v + k) in
         (result ≡ unfit x (t 0) (t 1) (t 2)) × ((w : ℕ) → bit_at seen.new w ≡ (bit_at seen.old w + only (inputs + 1 + v) (flag x (tells x (t 0) (t 1)) 3) w) % 2) }
 {
     let at = 3 * v as usize;
-    let xor = rows::is_xor(node_table, node_bits, v as usize);
-    let x = own_turn(node_table, node_bits, second_node_bits, seen, at);
-    let y = own_turn(node_table, node_bits, second_node_bits, seen, at + 1);
+    let xor = rows::is_xor(node_table, v as usize);
+    let x = own_turn(node_table, second_node_bits, seen, at);
+    let y = own_turn(node_table, second_node_bits, seen, at + 1);
     let third = third_place(xor, at);
-    let z = own_turn(node_table, node_bits, second_node_bits, seen, third);
+    let z = own_turn(node_table, second_node_bits, seen, third);
     making::note(seen, (inputs + 1 + v) as usize, readers_turn(xor, x, y));
     unfit_word(xor, x, y, z)
 }
@@ -100,33 +101,22 @@ fn tell_node(
 pub fn tell_nodes(
     inputs: u32,
     nodes: u32,
-    node_table: &[u32],
-    node_bits: &[u64],
+    node_table: &Table,
     second_node_bits: &[u64],
     seen: &mut [u64],
 ) -> usize
-    requires { let g = bare inputs nodes (literals node_table.now node_bits.now) in
+    requires { let g = bare inputs nodes (lent_table node_table.now) in
         Admitted g × (3 * nodes ≤ 64 * length second_node_bits.now) × ((d : ℕ → ℕ) → Noted g d seen.old (inputs + 1)) }
-    ensures { let l = literals node_table.now node_bits.now in
+    ensures { let l = lent_table node_table.now in
         let g = bare inputs nodes l in
         let w = apart l second_node_bits.now in
         (result ≡ passing (3 * nodes) (fits g w (told g w))) × (result ≡ 3 * nodes → Noted g (told g w) seen.new (inputs + 1 + nodes)) }
 {
-    let mut v: u32 = 0;
-    while v < nodes {
-        let word = tell_node(
-            inputs,
-            nodes,
-            node_table,
-            node_bits,
-            second_node_bits,
-            seen,
-            v,
-        );
+    for v in 0..nodes {
+        let word = tell_node(inputs, nodes, node_table, second_node_bits, seen, v);
         if word != 0 {
             return 3 * v as usize + word as usize;
         }
-        v += 1;
     }
     3 * nodes as usize
 }
@@ -134,23 +124,20 @@ pub fn tell_nodes(
 // The same of the outputs, which no move turns but those of the nodes that they name.
 pub fn tell_outputs(
     outputs: u32,
-    output_table: &[u32],
-    output_bits: &[u64],
+    output_table: &Table,
     second_output_bits: &[u64],
     seen: &[u64],
 ) -> usize
-    requires { let l = literals output_table.now output_bits.now in
+    requires { let l = lent_table output_table.now in
         (outputs ≤ held l) × ((j : ℕ) → j < outputs → index (get_or l j 0) < 104128) × (outputs ≤ 64 * length second_output_bits.now) × (length seen.now ≡ 1627) }
-    ensures { let l = literals output_table.now output_bits.now in
+    ensures { let l = lent_table output_table.now in
         result ≡ passing outputs (λ j. eqb (own_turn seen.now l second_output_bits.now j) 0) }
 {
     let end = outputs as usize;
-    let mut j: usize = 0;
-    while j < end {
-        if own_turn(output_table, output_bits, second_output_bits, seen, j) != 0 {
+    for j in 0..end {
+        if own_turn(output_table, second_output_bits, seen, j) != 0 {
             return j;
         }
-        j += 1;
     }
     end
 }
@@ -170,26 +157,23 @@ fn move_told(xor: bool, x: u32, y: u32) -> u8
 pub fn fill_moves(
     inputs: u32,
     nodes: u32,
-    node_table: &[u32],
-    node_bits: &[u64],
+    node_table: &Table,
     second_node_bits: &[u64],
     seen: &[u64],
     moves: &mut [u8],
 )
-    requires { let l = literals node_table.now node_bits.now in
+    requires { let l = lent_table node_table.now in
         Admitted (bare inputs nodes l) × (3 * nodes ≤ 64 * length second_node_bits.now) × (length seen.now ≡ 1627) × (nodes ≤ length moves.old) }
-    ensures { let l = literals node_table.now node_bits.now in
+    ensures { let l = lent_table node_table.now in
         let t : ℕ → ℕ = own_turn seen.now l second_node_bits.now in
         let bs = moves.old in
         moves.new ≡ tab (length bs) (λ v. if_less v nodes (tells (is_xor (bare inputs nodes l) v) (t (3 * v)) (t (3 * v + 1))) (get_or bs v 0)) }
 {
-    let mut v: usize = 0;
-    while v < nodes as usize {
+    for v in 0..nodes as usize {
         let at = 3 * v;
-        let x = own_turn(node_table, node_bits, second_node_bits, seen, at);
-        let y = own_turn(node_table, node_bits, second_node_bits, seen, at + 1);
-        let xor = rows::is_xor(node_table, node_bits, v);
+        let x = own_turn(node_table, second_node_bits, seen, at);
+        let y = own_turn(node_table, second_node_bits, seen, at + 1);
+        let xor = rows::is_xor(node_table, v);
         moves[v] = move_told(xor, x, y);
-        v += 1;
     }
 }

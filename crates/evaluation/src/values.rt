@@ -5,9 +5,11 @@ ghost use Rattle.graph.specs.Inner.{three_bits};
 ghost use Rattle.graph.specs.Literals.{bit, bit_of, held, literals};
 ghost use Rattle.evaluation.specs.Word.{gather};
 ghost use Rattle.evaluation.specs.Inner.{by_index, column, literal_word, nodes_of, NodeBelow, NodeWords, Filled};
+ghost use Rattle.graph.specs.Tables.{lent_table};
 
 use crate::front;
 use graph::table;
+use graph::table::Table;
 
 const ONES: u64 = 18446744073709551615;
 
@@ -48,21 +50,20 @@ pub fn index_word(inputs: u32, input_words: &[u64], node_words: &[u64], index: u
 // The word of the literal at place j of a table, whose bit is b, from the words of the inputs and of the nodes so far.
 pub fn literal_word(
     inputs: u32,
-    table: &[u32],
-    bits: &[u64],
+    table: &Table,
     j: usize,
     b: u32,
     input_words: &[u64],
     node_words: &[u64],
 ) -> u64
-    requires { let l = literals table.now bits.now in
+    requires { let l = lent_table table.now in
         let end = inputs + 1 + length node_words.now in
         (inputs ≤ length input_words.now) × (end ≤ 2147483647) × (j < held l) × (index (get_or l j 0) < end) × (b ≡ bit_of (get_or l j 0)) × (b ≤ 1) }
-    ensures { let l = literals table.now bits.now in
+    ensures { let l = lent_table table.now in
         let ws = by_index inputs input_words.now node_words.now in
         result ≡ literal_word ws (get_or l j 0) }
 {
-    let u = table::index_at(table, bits, j);
+    let u = table.index_at(j);
     turned(index_word(inputs, input_words, node_words, u), b)
 }
 
@@ -80,26 +81,25 @@ pub fn either_index(xor: bool, u: u32, v: u32) -> u32
 // that nothing jumps by the kind, which a processor could not foresee.
 fn third_word(
     inputs: u32,
-    table: &[u32],
-    bits: &[u64],
+    table: &Table,
     at: usize,
     b: u32,
     xor: bool,
     input_words: &[u64],
     node_words: &[u64],
 ) -> u64
-    requires { let l = literals table.now bits.now in
+    requires { let l = lent_table table.now in
         let end = inputs + 1 + length node_words.now in
         (inputs ≤ length input_words.now) × (end ≤ 2147483647) × (at + 2 < held l)
         × (index (get_or l at 0) < end) × (xor ≡ false → index (get_or l (at + 2) 0) < end)
         × (b ≡ bit_of (get_or l (at + 2) 0)) × (b ≤ 1) }
-    ensures { let l = literals table.now bits.now in
+    ensures { let l = lent_table table.now in
         let ws = by_index inputs input_words.now node_words.now in
         (xor ≡ false → result ≡ literal_word ws (get_or l (at + 2) 0)) }
 {
     let last = at + 2;
-    let first = table::index_at(table, bits, at);
-    let third = table::index_at(table, bits, last);
+    let first = table.index_at(at);
+    let third = table.index_at(last);
     let u = either_index(xor, first, third);
     turned(index_word(inputs, input_words, node_words, u), b)
 }
@@ -116,33 +116,23 @@ pub fn joined_word(xor: bool, x: u64, y: u64, z: u64) -> u64
 // The word of the next node, whose words have these bits, `node_words` being those of the nodes before it.
 fn node_word(
     inputs: u32,
-    node_table: &[u32],
-    node_bits: &[u64],
+    node_table: &Table,
     three: u32,
     input_words: &[u64],
     node_words: &[u64],
 ) -> u64
-    requires { let l = literals node_table.now node_bits.now in
+    requires { let l = lent_table node_table.now in
         (inputs ≤ length input_words.now) × NodeBelow inputs l (length node_words.now) × (three ≡ three_bits l (length node_words.now)) }
-    ensures { let l = literals node_table.now node_bits.now in
+    ensures { let l = lent_table node_table.now in
         let ws = by_index inputs input_words.now node_words.now in
         ((n j : ℕ) → j < 64 → bit j result ≡ node_value (nodes_of inputs n l) (column j ws) (length node_words.now)) }
 {
     let at = 3 * node_words.len();
-    let xor = table::is_mark_at(node_table, node_bits, at + 2);
-    let x = literal_word(
-        inputs,
-        node_table,
-        node_bits,
-        at,
-        three % 2,
-        input_words,
-        node_words,
-    );
+    let xor = node_table.is_mark_at(at + 2);
+    let x = literal_word(inputs, node_table, at, three % 2, input_words, node_words);
     let y = literal_word(
         inputs,
         node_table,
-        node_bits,
         at + 1,
         three / 2 % 2,
         input_words,
@@ -151,7 +141,6 @@ fn node_word(
     let z = third_word(
         inputs,
         node_table,
-        node_bits,
         at,
         three / 4 % 2,
         xor,
@@ -164,26 +153,18 @@ fn node_word(
 // Fills in the word of node v, whose words have these bits.
 fn fill_node(
     inputs: u32,
-    node_table: &[u32],
-    node_bits: &[u64],
+    node_table: &Table,
     v: usize,
     three: u32,
     input_words: &[u64],
     scratch: &mut [u64],
 )
-    requires { let l = literals node_table.now node_bits.now in
+    requires { let l = lent_table node_table.now in
         (inputs ≤ length input_words.now) × (v < length scratch.old) × NodeBelow inputs l v × (three ≡ three_bits l v) }
-    ensures { let l = literals node_table.now node_bits.now in
+    ensures { let l = lent_table node_table.now in
         Filled inputs l input_words.now scratch.old v scratch.new (v + 1) }
 {
-    let w = node_word(
-        inputs,
-        node_table,
-        node_bits,
-        three,
-        input_words,
-        &scratch[..v],
-    );
+    let w = node_word(inputs, node_table, three, input_words, &scratch[..v]);
     scratch[v] = w;
 }
 
@@ -192,27 +173,18 @@ pub fn fill_rest(
     inputs: u32,
     nodes: u32,
     begin: usize,
-    node_table: &[u32],
-    node_bits: &[u64],
+    node_table: &Table,
     input_words: &[u64],
     scratch: &mut [u64],
 )
-    requires { let l = literals node_table.now node_bits.now in
+    requires { let l = lent_table node_table.now in
         (inputs ≤ length input_words.now) × (nodes ≤ length scratch.old) × (nodes ≤ 100000) × ((v : ℕ) → v < nodes → NodeBelow inputs l v) × (begin ≤ nodes) }
-    ensures { let l = literals node_table.now node_bits.now in
+    ensures { let l = lent_table node_table.now in
         Filled inputs l input_words.now scratch.old begin scratch.new nodes }
 {
     for v in begin..nodes as usize {
-        let three = table::three_at(node_table, node_bits, v);
-        fill_node(
-            inputs,
-            node_table,
-            node_bits,
-            v,
-            three,
-            input_words,
-            scratch,
-        );
+        let three = node_table.three_at(v);
+        fill_node(inputs, node_table, v, three, input_words, scratch);
     }
 }
 
@@ -220,24 +192,15 @@ pub fn fill_rest(
 pub fn fill_nodes(
     inputs: u32,
     nodes: u32,
-    node_table: &[u32],
-    node_bits: &[u64],
+    node_table: &Table,
     input_words: &[u64],
     scratch: &mut [u64],
 )
-    requires { let l = literals node_table.now node_bits.now in
+    requires { let l = lent_table node_table.now in
         (inputs ≤ length input_words.now) × (nodes ≤ length scratch.old) × (nodes ≤ 100000) × ((v : ℕ) → v < nodes → NodeBelow inputs l v) }
-    ensures { let g = nodes_of inputs nodes (literals node_table.now node_bits.now) in
+    ensures { let g = nodes_of inputs nodes (lent_table node_table.now) in
         NodeWords g input_words.now (take nodes scratch.new) nodes }
 {
-    let begin = front::fill_front(inputs, nodes, node_table, node_bits, input_words, scratch);
-    fill_rest(
-        inputs,
-        nodes,
-        begin,
-        node_table,
-        node_bits,
-        input_words,
-        scratch,
-    );
+    let begin = front::fill_front(inputs, nodes, node_table, input_words, scratch);
+    fill_rest(inputs, nodes, begin, node_table, input_words, scratch);
 }

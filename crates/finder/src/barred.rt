@@ -2,11 +2,11 @@
 // under one of its values; where it is not, the node leaks.
 ghost use Rattle.std.specs.Prelude.{◌≡◌, true, ◌≤◌, ◌<◌};
 ghost use Rattle.graph.specs.Admission.{Admitted};
-ghost use Rattle.graph.specs.Literals.{literals};
 ghost use Rattle.evaluation.specs.Inner.{nodes_of};
 ghost use Rattle.finder.specs.Barred.{NoMajority};
+ghost use Rattle.graph.specs.Tables.{lent_table};
 
-use graph::table::{index_at, is_mark_at};
+use graph::table::Table;
 
 fn is_input(inputs: u32, index: u32) -> bool
     ensures { result ≡ true → (0 < index) × (index ≤ inputs) }
@@ -17,27 +17,21 @@ fn is_input(inputs: u32, index: u32) -> bool
     index <= inputs
 }
 
-pub fn nothing_to_find(
-    inputs: u32,
-    nodes: u32,
-    node_table: &[u32],
-    node_bits: &[u64],
-    v: usize,
-) -> bool
-    requires { let g = nodes_of inputs nodes (literals node_table.now node_bits.now) in
+pub fn nothing_to_find(inputs: u32, nodes: u32, node_table: &Table, v: usize) -> bool
+    requires { let g = nodes_of inputs nodes (lent_table node_table.now) in
         Admitted g × (v < nodes) }
-    ensures { let g = nodes_of inputs nodes (literals node_table.now node_bits.now) in
+    ensures { let g = nodes_of inputs nodes (lent_table node_table.now) in
         (result ≡ true → NoMajority g v) }
 {
     let at = 3 * v;
-    if is_mark_at(node_table, node_bits, at + 2) {
+    if node_table.is_mark_at(at + 2) {
         return false;
     }
-    if index_at(node_table, node_bits, at) != 0 {
+    if node_table.index_at(at) != 0 {
         return false;
     }
-    if is_input(inputs, index_at(node_table, node_bits, at + 1)) {
+    if is_input(inputs, node_table.index_at(at + 1)) {
         return true;
     }
-    is_input(inputs, index_at(node_table, node_bits, at + 2))
+    is_input(inputs, node_table.index_at(at + 2))
 }

@@ -3,9 +3,10 @@ ghost use Rattle.std.specs.Prelude.{◌≡◌, Bool, List, ℕ, ◌+◌, ◌*◌
 ghost use Rattle.graph.specs.Graph.{graph_of};
 ghost use Rattle.graph.specs.Literals.{held, literals};
 ghost use Rattle.finder.specs.Compacting.{renumber_by, moved_word, moved_node, Holds, NodeHolds, OutputsMoved, Shifted, Moves, Compacted, Cleared};
+ghost use Rattle.graph.specs.Tables.{lent_table};
 
 use graph::literal::MARK;
-use graph::table::{edge_at, is_mark_at, set_word};
+use graph::table::{Table, set_word};
 use moves::words::wide;
 
 // A literal by the numbers in scratch.
@@ -34,39 +35,41 @@ pub fn renumber_outputs(
         let os' = literals output_table.new output_bits.new in
         OutputsMoved inputs outputs scratch.now os os' }
 {
-    let mut j: u32 = 0;
-    while j < outputs {
+    for j in 0..outputs {
         let at = wide(j);
-        let x = edge_at(output_table, output_bits, at);
+        let x = Table {
+            indices: output_table,
+            bits: output_bits,
+        }
+        .edge_at(at);
         set_word(
             output_table,
             output_bits,
             at,
             renumbered(inputs, scratch, x),
         );
-        j += 1;
     }
 }
 
 // A third word may be the mark, which stays.
-fn moved_third(inputs: u32, node_table: &[u32], node_bits: &[u64], scratch: &[u32], v: usize) -> u32
-    requires { let ns = literals node_table.now node_bits.now in
+fn moved_third(inputs: u32, node_table: &Table, scratch: &[u32], v: usize) -> u32
+    requires { let ns = lent_table node_table.now in
         (v ≤ 100000) × (3 * v + 3 ≤ held ns) × NodeHolds inputs scratch.now ns v }
-    ensures { let ns = literals node_table.now node_bits.now in
+    ensures { let ns = lent_table node_table.now in
         result ≡ moved_word inputs scratch.now ns (3 * v + 2) }
 {
     let at = 3 * v + 2;
-    if is_mark_at(node_table, node_bits, at) {
+    if node_table.is_mark_at(at) {
         return MARK;
     }
-    renumbered(inputs, scratch, edge_at(node_table, node_bits, at))
+    renumbered(inputs, scratch, node_table.edge_at(at))
 }
 
 // Node v to the place of node t.
-fn move_node(
+fn move_node<'x>(
     inputs: u32,
-    node_table: &mut [u32],
-    node_bits: &mut [u64],
+    node_table: &'x mut [u32],
+    node_bits: &'x mut [u64],
     scratch: &[u32],
     v: usize,
     t: usize,
@@ -76,11 +79,15 @@ fn move_node(
     ensures { let ns = literals node_table.old node_bits.old in
         literals node_table.new node_bits.new ≡ moved_node inputs scratch.now ns v t }
 {
+    let table = Table {
+        indices: node_table,
+        bits: node_bits,
+    };
     let from = 3 * v;
     let at = 3 * t;
-    let x = renumbered(inputs, scratch, edge_at(node_table, node_bits, from));
-    let y = renumbered(inputs, scratch, edge_at(node_table, node_bits, from + 1));
-    let z = moved_third(inputs, node_table, node_bits, scratch, v);
+    let x = renumbered(inputs, scratch, table.edge_at(from));
+    let y = renumbered(inputs, scratch, table.edge_at(from + 1));
+    let z = moved_third(inputs, &table, scratch, v);
     set_word(node_table, node_bits, at, x);
     set_word(node_table, node_bits, at + 1, y);
     set_word(node_table, node_bits, at + 2, z);
@@ -126,10 +133,8 @@ pub fn compact(
         (result ≤ nodes) × ((o : ℕ) (os : List ℕ) (l : ℕ → Bool) → Moves (graph_of inputs nodes o ns os) l scratch.now → Compacted (graph_of inputs nodes o ns os) l locks.old nodes result ns' locks.new) }
 {
     let mut t: usize = 0;
-    let mut v: usize = 0;
-    while v < nodes {
+    for v in 0..nodes {
         t = shift(inputs, node_table, node_bits, locks, scratch, v, t);
-        v += 1;
     }
     t
 }
@@ -142,10 +147,8 @@ pub fn clear_words(table: &mut [u32], bits: &mut [u64], a: usize, b: usize)
         let xs' = literals table.new bits.new in
         Cleared a b xs xs' }
 {
-    let mut j = a;
-    while j < b {
+    for j in a..b {
         set_word(table, bits, j, 0);
-        j += 1;
     }
 }
 
@@ -154,9 +157,7 @@ pub fn clear_locks(locks: &mut [u8], a: usize, b: usize)
     requires { (a ≤ b) × (b ≤ 300000) × (b ≤ length locks.old) }
     ensures { Cleared a b locks.old locks.new }
 {
-    let mut j = a;
-    while j < b {
+    for j in a..b {
         locks[j] = 0;
-        j += 1;
     }
 }

@@ -1,11 +1,11 @@
 // Ways down to an input: of each node passed, a lower index from which one leads on, and how many words it has.
 ghost use Rattle.std.specs.Prelude.{◌≡◌, true, ◌⊎◌, ℕ, ◌+◌, ◌-◌, ◌*◌, ◌≤◌, ◌<◌, length};
 ghost use Rattle.graph.specs.Admission.{Admitted};
-ghost use Rattle.graph.specs.Literals.{literals};
 ghost use Rattle.evaluation.specs.Inner.{nodes_of};
 ghost use Rattle.finder.specs.Ways.{Open, Chosen, Leading, Led};
+ghost use Rattle.graph.specs.Tables.{lent_table};
 
-use graph::table::{index_at, is_mark_at};
+use graph::table::Table;
 use moves::words::wide;
 use trees::fields::{read, store};
 
@@ -84,43 +84,29 @@ fn nearer_open(inputs: u32, scratch: &[u32], best: u32, index: u32) -> u32
 }
 
 // The index that node v names from which the way is to lead on.
-fn nearest_open(
-    inputs: u32,
-    nodes: u32,
-    node_table: &[u32],
-    node_bits: &[u64],
-    scratch: &[u32],
-    v: usize,
-) -> u32
-    requires { let g = nodes_of inputs nodes (literals node_table.now node_bits.now) in
+fn nearest_open(inputs: u32, nodes: u32, node_table: &Table, scratch: &[u32], v: usize) -> u32
+    requires { let g = nodes_of inputs nodes (lent_table node_table.now) in
         Admitted g × (v < nodes) × (8 * nodes ≤ length scratch.now) }
-    ensures { let g = nodes_of inputs nodes (literals node_table.now node_bits.now) in
+    ensures { let g = nodes_of inputs nodes (lent_table node_table.now) in
         Leading g scratch.now v result }
 {
     let at = 3 * v;
-    let a = nearer_open(inputs, scratch, 0, index_at(node_table, node_bits, at));
-    let b = nearer_open(inputs, scratch, a, index_at(node_table, node_bits, at + 1));
-    if is_mark_at(node_table, node_bits, at + 2) {
+    let a = nearer_open(inputs, scratch, 0, node_table.index_at(at));
+    let b = nearer_open(inputs, scratch, a, node_table.index_at(at + 1));
+    if node_table.is_mark_at(at + 2) {
         return b;
     }
-    nearer_open(inputs, scratch, b, index_at(node_table, node_bits, at + 2))
+    nearer_open(inputs, scratch, b, node_table.index_at(at + 2))
 }
 
 // Stores it, and how many words lead on from node v.
-pub fn set_down(
-    inputs: u32,
-    nodes: u32,
-    node_table: &[u32],
-    node_bits: &[u64],
-    scratch: &mut [u32],
-    v: usize,
-)
-    requires { let g = nodes_of inputs nodes (literals node_table.now node_bits.now) in
+pub fn set_down(inputs: u32, nodes: u32, node_table: &Table, scratch: &mut [u32], v: usize)
+    requires { let g = nodes_of inputs nodes (lent_table node_table.now) in
         Admitted g × (v < nodes) × (8 * nodes ≤ length scratch.old) }
-    ensures { let g = nodes_of inputs nodes (literals node_table.now node_bits.now) in
+    ensures { let g = nodes_of inputs nodes (lent_table node_table.now) in
         Led g v scratch.old scratch.new }
 {
-    let low = nearest_open(inputs, nodes, node_table, node_bits, scratch, v);
+    let low = nearest_open(inputs, nodes, node_table, scratch, v);
     let words = more(words_from(inputs, scratch, low));
     store(scratch, v, 0, 2 * low);
     store(scratch, v, 6, words);

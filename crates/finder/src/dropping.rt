@@ -5,41 +5,24 @@ ghost use Rattle.graph.specs.Literals.{graph_in, held, literals};
 ghost use Rattle.hidden.specs.Drop.{live, dropped, dropped_locks};
 ghost use Rattle.finder.specs.Numbering.{rank_of, Numbers};
 ghost use Rattle.finder.specs.Compacting.{NodeHolds, Cut};
+ghost use Rattle.graph.specs.Tables.{lent_graph};
 
 use crate::compacting::{clear_locks, clear_words, compact, renumber_outputs};
 use crate::living::mark_living;
 use crate::numbering::number_living;
+use graph::Lent;
+use graph::table::Table;
 use moves::words::wide;
 
 // The new index of each living node, and how many there are.
-fn number(
-    inputs: u32,
-    nodes: u32,
-    outputs: u32,
-    node_table: &[u32],
-    node_bits: &[u64],
-    output_table: &[u32],
-    output_bits: &[u64],
-    locks: &[u8],
-    scratch: &mut [u32],
-) -> u32
-    requires { let g = graph_in inputs nodes outputs node_table.now node_bits.now output_table.now output_bits.now in
-        Admitted g × LockBytes nodes locks.now × (nodes ≤ length scratch.old) }
-    ensures { let g = graph_in inputs nodes outputs node_table.now node_bits.now output_table.now output_bits.now in
-        (result ≤ nodes) × (result ≡ rank_of (live g locks.now) nodes) × Numbers inputs (live g locks.now) nodes scratch.new }
+fn number(lent: &Lent, scratch: &mut [u32]) -> u32
+    requires { let g = lent_graph lent.now in
+        Admitted g × LockBytes lent.now.nodes lent.now.locks.now × (lent.now.nodes ≤ length scratch.old) }
+    ensures { let g = lent_graph lent.now in
+        (result ≤ lent.now.nodes) × (result ≡ rank_of (live g lent.now.locks.now) lent.now.nodes) × Numbers lent.now.inputs (live g lent.now.locks.now) lent.now.nodes scratch.new }
 {
-    mark_living(
-        inputs,
-        nodes,
-        outputs,
-        node_table,
-        node_bits,
-        output_table,
-        output_bits,
-        locks,
-        scratch,
-    );
-    number_living(inputs, nodes, scratch)
+    mark_living(lent, scratch);
+    number_living(lent.inputs, lent.nodes, scratch)
 }
 
 // The nodes that have numbers moved together, and zeros behind.
@@ -64,15 +47,15 @@ fn cut(
 }
 
 // Drops all that is not read, and answers how many nodes are left.
-pub fn drop_unread(
+pub fn drop_unread<'x>(
     inputs: u32,
     nodes: u32,
     outputs: u32,
-    node_table: &mut [u32],
-    node_bits: &mut [u64],
-    output_table: &mut [u32],
-    output_bits: &mut [u64],
-    locks: &mut [u8],
+    node_table: &'x mut [u32],
+    node_bits: &'x mut [u64],
+    output_table: &'x mut [u32],
+    output_bits: &'x mut [u64],
+    locks: &'x mut [u8],
     scratch: &mut [u32],
 ) -> u32
     requires { let g = graph_in inputs nodes outputs node_table.old node_bits.old output_table.old output_bits.old in
@@ -80,17 +63,21 @@ pub fn drop_unread(
     ensures { let g = graph_in inputs nodes outputs node_table.old node_bits.old output_table.old output_bits.old in
         (graph_in inputs result outputs node_table.new node_bits.new output_table.new output_bits.new ≡ dropped g locks.old) × (locks.new ≡ dropped_locks g locks.old) }
 {
-    let left = number(
+    let lent = Lent {
         inputs,
         nodes,
         outputs,
-        node_table,
-        node_bits,
-        output_table,
-        output_bits,
+        node_table: Table {
+            indices: node_table,
+            bits: node_bits,
+        },
+        output_table: Table {
+            indices: output_table,
+            bits: output_bits,
+        },
         locks,
-        scratch,
-    );
+    };
+    let left = number(&lent, scratch);
     cut(inputs, nodes, node_table, node_bits, locks, scratch);
     renumber_outputs(inputs, outputs, output_table, output_bits, scratch);
     left

@@ -3,13 +3,13 @@
 ghost use Rattle.std.specs.Prelude.{◌≡◌, true, ℕ, ◌+◌, ◌-◌, ◌*◌, ◌≤◌, ◌<◌, length};
 ghost use Rattle.graph.specs.Admission.{Admitted};
 ghost use Rattle.graph.specs.Graph.{node};
-ghost use Rattle.graph.specs.Literals.{literals};
 ghost use Rattle.evaluation.specs.Inner.{nodes_of};
 ghost use Rattle.finder.specs.Meeting.{Bars, AllBar, NamesOr, Ends, Listed, Followed, Comes, Come, Put, Added};
+ghost use Rattle.graph.specs.Tables.{lent_table};
 
 use crate::down::{is_open, words_from};
 use crate::masks::{ALL, place_of, spread};
-use graph::table::{index_at, is_mark_at};
+use graph::table::Table;
 use moves::words::{narrow, wide};
 use trees::fields::read;
 
@@ -17,24 +17,17 @@ use trees::fields::read;
 const FAR: u32 = 40;
 
 // The index that word k of node w names, 0 for the mark.
-fn named_at(
-    inputs: u32,
-    nodes: u32,
-    node_table: &[u32],
-    node_bits: &[u64],
-    w: usize,
-    k: usize,
-) -> u32
-    requires { let g = nodes_of inputs nodes (literals node_table.now node_bits.now) in
+fn named_at(inputs: u32, nodes: u32, node_table: &Table, w: usize, k: usize) -> u32
+    requires { let g = nodes_of inputs nodes (lent_table node_table.now) in
         Admitted g × (w < nodes) × (k < 3) }
-    ensures { let g = nodes_of inputs nodes (literals node_table.now node_bits.now) in
+    ensures { let g = nodes_of inputs nodes (lent_table node_table.now) in
         NamesOr g w result }
 {
     let at = 3 * w + k;
-    if is_mark_at(node_table, node_bits, at) {
+    if node_table.is_mark_at(at) {
         return 0;
     }
-    index_at(node_table, node_bits, at)
+    node_table.index_at(at)
 }
 
 // Whether a way may end at an index other than 0.
@@ -65,8 +58,7 @@ fn is_far(inputs: u32, scratch: &[u32], list: &[u32], index: u32) -> bool
 fn follow(
     inputs: u32,
     nodes: u32,
-    node_table: &[u32],
-    node_bits: &[u64],
+    node_table: &Table,
     scratch: &[u32],
     list: &[u32],
     m: usize,
@@ -74,9 +66,9 @@ fn follow(
     from: u32,
     by: u64,
 ) -> u64
-    requires { let g = nodes_of inputs nodes (literals node_table.now node_bits.now) in
+    requires { let g = nodes_of inputs nodes (lent_table node_table.now) in
         Followed g v m list.now scratch.now × Comes g v m list.now from by }
-    ensures { let g = nodes_of inputs nodes (literals node_table.now node_bits.now) in
+    ensures { let g = nodes_of inputs nodes (lent_table node_table.now) in
         Bars g list.now m result (node g v) }
 {
     if is_far(inputs, scratch, list, from) {
@@ -84,8 +76,7 @@ fn follow(
     }
     let mut x = from;
     let mut mask = by;
-    let mut far: u32 = 0;
-    while far < FAR {
+    for far in 0..FAR {
         if ends(inputs, scratch, list, x) {
             return mask;
         }
@@ -98,7 +89,6 @@ fn follow(
             return ALL;
         }
         mask = mask | place_of(list, m, x);
-        far += 1;
     }
     ALL
 }
@@ -114,8 +104,7 @@ pub struct Head {
 fn step(
     inputs: u32,
     nodes: u32,
-    node_table: &[u32],
-    node_bits: &[u64],
+    node_table: &Table,
     list: &[u32],
     m: usize,
     v: usize,
@@ -123,9 +112,9 @@ fn step(
     by: u64,
     k: usize,
 ) -> Head
-    requires { let g = nodes_of inputs nodes (literals node_table.now node_bits.now) in
+    requires { let g = nodes_of inputs nodes (lent_table node_table.now) in
         Listed g v m list.now × Comes g v m list.now from by × (k < 3) }
-    ensures { let g = nodes_of inputs nodes (literals node_table.now node_bits.now) in
+    ensures { let g = nodes_of inputs nodes (lent_table node_table.now) in
         (0 < result.index → Comes g v m list.now result.index result.mask) }
 {
     if from <= inputs {
@@ -137,14 +126,7 @@ fn step(
         }
         return Head { index: 0, mask: 0 };
     }
-    let x = named_at(
-        inputs,
-        nodes,
-        node_table,
-        node_bits,
-        wide(from - inputs - 1),
-        k,
-    );
+    let x = named_at(inputs, nodes, node_table, wide(from - inputs - 1), k);
     Head {
         index: x,
         mask: by | place_of(list, m, x),
@@ -167,8 +149,7 @@ fn put(heads: &mut [u32], met: &mut [u64], n: usize, head: Head) -> usize
 fn further(
     inputs: u32,
     nodes: u32,
-    node_table: &[u32],
-    node_bits: &[u64],
+    node_table: &Table,
     list: &[u32],
     m: usize,
     v: usize,
@@ -177,19 +158,17 @@ fn further(
     from: usize,
     n: usize,
 ) -> usize
-    requires { let g = nodes_of inputs nodes (literals node_table.now node_bits.now) in
+    requires { let g = nodes_of inputs nodes (lent_table node_table.now) in
         Listed g v m list.now × Come g v m list.now n heads.old met.old × (from ≤ n) × (n ≤ 4) × (n + 3 * (n - from) ≤ length heads.old) × (n + 3 * (n - from) ≤ length met.old) }
-    ensures { let g = nodes_of inputs nodes (literals node_table.now node_bits.now) in
+    ensures { let g = nodes_of inputs nodes (lent_table node_table.now) in
         Come g v m list.now result heads.new met.new × (n ≤ result) × (result ≤ n + 3 * (n - from)) × (length heads.new ≡ length heads.old) × (length met.new ≡ length met.old) }
 {
     let mut t = n;
-    let mut j = 3 * from;
-    while j < 3 * n {
+    for j in 3 * from..3 * n {
         let head = step(
             inputs,
             nodes,
             node_table,
-            node_bits,
             list,
             m,
             v,
@@ -198,7 +177,6 @@ fn further(
             j % 3,
         );
         t = put(heads, met, t, head);
-        j += 1;
     }
     t
 }
@@ -207,8 +185,7 @@ fn further(
 fn way(
     inputs: u32,
     nodes: u32,
-    node_table: &[u32],
-    node_bits: &[u64],
+    node_table: &Table,
     scratch: &[u32],
     list: &[u32],
     m: usize,
@@ -217,19 +194,17 @@ fn way(
     by: u64,
     k: usize,
 ) -> u64
-    requires { let g = nodes_of inputs nodes (literals node_table.now node_bits.now) in
+    requires { let g = nodes_of inputs nodes (lent_table node_table.now) in
         Followed g v m list.now scratch.now × Comes g v m list.now from by × (k < 3) }
-    ensures { let g = nodes_of inputs nodes (literals node_table.now node_bits.now) in
+    ensures { let g = nodes_of inputs nodes (lent_table node_table.now) in
         Bars g list.now m result (node g v) }
 {
-    let head = step(
-        inputs, nodes, node_table, node_bits, list, m, v, from, by, k,
-    );
+    let head = step(inputs, nodes, node_table, list, m, v, from, by, k);
     if head.index == 0 {
         return ALL;
     }
     follow(
-        inputs, nodes, node_table, node_bits, scratch, list, m, v, head.index, head.mask,
+        inputs, nodes, node_table, scratch, list, m, v, head.index, head.mask,
     )
 }
 
@@ -248,8 +223,7 @@ fn add_way(ways: &mut [u64], n: usize, mask: u64) -> usize
 fn ways_by(
     inputs: u32,
     nodes: u32,
-    node_table: &[u32],
-    node_bits: &[u64],
+    node_table: &Table,
     scratch: &[u32],
     list: &[u32],
     m: usize,
@@ -262,19 +236,17 @@ fn ways_by(
     ways: &mut [u64],
     n: usize,
 ) -> usize
-    requires { let g = nodes_of inputs nodes (literals node_table.now node_bits.now) in
+    requires { let g = nodes_of inputs nodes (lent_table node_table.now) in
         Followed g v m list.now scratch.now × Come g v m list.now to heads.now met.now × (from ≤ to) × (to ≤ 13) × (k < 3) × (n ≤ 27) × (n + (to - from) ≤ length ways.old) × AllBar g list.now m n ways.old (node g v) }
-    ensures { let g = nodes_of inputs nodes (literals node_table.now node_bits.now) in
+    ensures { let g = nodes_of inputs nodes (lent_table node_table.now) in
         AllBar g list.now m result ways.new (node g v) × (result ≤ n + (to - from)) × (length ways.new ≡ length ways.old) }
 {
     let mut t = n;
-    let mut e = from;
-    while e < to {
+    for e in from..to {
         let mask = way(
-            inputs, nodes, node_table, node_bits, scratch, list, m, v, heads[e], met[e], k,
+            inputs, nodes, node_table, scratch, list, m, v, heads[e], met[e], k,
         );
         t = add_way(ways, t, mask);
-        e += 1;
     }
     t
 }
@@ -283,8 +255,7 @@ fn ways_by(
 fn ways_from(
     inputs: u32,
     nodes: u32,
-    node_table: &[u32],
-    node_bits: &[u64],
+    node_table: &Table,
     scratch: &[u32],
     list: &[u32],
     m: usize,
@@ -296,22 +267,22 @@ fn ways_from(
     allowed: u64,
     ways: &mut [u64],
 ) -> usize
-    requires { let g = nodes_of inputs nodes (literals node_table.now node_bits.now) in
+    requires { let g = nodes_of inputs nodes (lent_table node_table.now) in
         Followed g v m list.now scratch.now × Come g v m list.now to heads.now met.now × (from ≤ to) × (to ≤ 13) × (to - from ≤ 9) × (27 ≤ length ways.old) }
-    ensures { let g = nodes_of inputs nodes (literals node_table.now node_bits.now) in
+    ensures { let g = nodes_of inputs nodes (lent_table node_table.now) in
         AllBar g list.now m result ways.new (node g v) × (result ≤ 27) × (length ways.new ≡ length ways.old) }
 {
     let n = ways_by(
-        inputs, nodes, node_table, node_bits, scratch, list, m, v, heads, met, from, to, 1, ways, 0,
+        inputs, nodes, node_table, scratch, list, m, v, heads, met, from, to, 1, ways, 0,
     );
     if spread(ways, n, allowed) {
         return n;
     }
     let o = ways_by(
-        inputs, nodes, node_table, node_bits, scratch, list, m, v, heads, met, from, to, 2, ways, n,
+        inputs, nodes, node_table, scratch, list, m, v, heads, met, from, to, 2, ways, n,
     );
     ways_by(
-        inputs, nodes, node_table, node_bits, scratch, list, m, v, heads, met, from, to, 0, ways, o,
+        inputs, nodes, node_table, scratch, list, m, v, heads, met, from, to, 0, ways, o,
     )
 }
 
@@ -319,8 +290,7 @@ fn ways_from(
 pub fn gather_ways(
     inputs: u32,
     nodes: u32,
-    node_table: &[u32],
-    node_bits: &[u64],
+    node_table: &Table,
     scratch: &[u32],
     list: &[u32],
     m: usize,
@@ -328,22 +298,21 @@ pub fn gather_ways(
     allowed: u64,
     ways: &mut [u64],
 ) -> usize
-    requires { let g = nodes_of inputs nodes (literals node_table.now node_bits.now) in
+    requires { let g = nodes_of inputs nodes (lent_table node_table.now) in
         Followed g v m list.now scratch.now × (27 ≤ length ways.old) }
-    ensures { let g = nodes_of inputs nodes (literals node_table.now node_bits.now) in
+    ensures { let g = nodes_of inputs nodes (lent_table node_table.now) in
         AllBar g list.now m result ways.new (node g v) × (result ≤ 27) × (length ways.new ≡ length ways.old) }
 {
     let mut heads = [0u32; 13];
     let mut met = [0u64; 13];
     heads[0] = inputs + 1 + narrow(v);
     let p = further(
-        inputs, nodes, node_table, node_bits, list, m, v, &mut heads, &mut met, 0, 1,
+        inputs, nodes, node_table, list, m, v, &mut heads, &mut met, 0, 1,
     );
     let q = further(
-        inputs, nodes, node_table, node_bits, list, m, v, &mut heads, &mut met, 1, p,
+        inputs, nodes, node_table, list, m, v, &mut heads, &mut met, 1, p,
     );
     ways_from(
-        inputs, nodes, node_table, node_bits, scratch, list, m, v, &heads, &met, p, q, allowed,
-        ways,
+        inputs, nodes, node_table, scratch, list, m, v, &heads, &met, p, q, allowed, ways,
     )
 }

@@ -22,7 +22,9 @@ mod passing;
 mod signs;
 mod trying;
 
+use graph::Lent;
 use graph::faults::refused_by;
+use graph::table::Table;
 use hidden::Found;
 use moves::words::wide;
 use trees::fields::clear;
@@ -63,15 +65,15 @@ fn pass_and_drop(
 
 // The finder: each free node by rising index becomes the first majority that three indices near it give; then what is not read is dropped,
 // and the rest renumbered with its locks. Freed words and lock bytes become 0.
-pub fn find(
+pub fn find<'x>(
     inputs: u32,
     nodes: u32,
     outputs: u32,
-    node_table: &mut [u32],
-    node_bits: &mut [u64],
-    output_table: &mut [u32],
-    output_bits: &mut [u64],
-    locks: &mut [u8],
+    node_table: &'x mut [u32],
+    node_bits: &'x mut [u64],
+    output_table: &'x mut [u32],
+    output_bits: &'x mut [u64],
+    locks: &'x mut [u8],
     scratch: &mut [u32],
 ) -> Found
     ensures outcome { let n = nodes_after_answer nodes (found_answer result) in
@@ -80,17 +82,21 @@ pub fn find(
         locked_outcome (found_answer result) k locks.new ≡ find_call g locks.old (length scratch.old) }
     ensures scratch { ScratchKept (found_answer result) scratch.old scratch.new }
 {
-    let number = faults::find_number(
+    let lent = Lent {
         inputs,
         nodes,
         outputs,
-        node_table,
-        node_bits,
-        output_table,
-        output_bits,
+        node_table: Table {
+            indices: node_table,
+            bits: node_bits,
+        },
+        output_table: Table {
+            indices: output_table,
+            bits: output_bits,
+        },
         locks,
-        scratch.len(),
-    );
+    };
+    let number = faults::find_number(&lent, scratch.len());
     if number != 0 {
         return Found::Refused(refused_by(number));
     }

@@ -2,20 +2,18 @@
 // that a living node names.
 ghost use Rattle.std.specs.Prelude.{◌≡◌, ◌+◌, ◌*◌, ◌≤◌, ◌<◌, length, get_or};
 ghost use Rattle.graph.specs.Admission.{Admitted, LockBytes};
-ghost use Rattle.graph.specs.Literals.{graph_in};
 ghost use Rattle.finder.specs.Living.{Marked, NodeMarked, LockedMarked, Zeroed, Living, Lives};
+ghost use Rattle.graph.specs.Tables.{lent_graph};
 
-use graph::table::{index_at, is_mark_at};
+use graph::Lent;
 use moves::words::wide;
 
 fn unmark(nodes: usize, scratch: &mut [u32])
     requires { (nodes ≤ 100000) × (nodes ≤ length scratch.old) }
     ensures { Zeroed nodes scratch.old scratch.new }
 {
-    let mut k: usize = 0;
-    while k < nodes {
+    for k in 0..nodes {
         scratch[k] = 0;
-        k += 1;
     }
 }
 
@@ -31,29 +29,19 @@ fn mark(inputs: u32, scratch: &mut [u32], index: u32)
 }
 
 // What the words of node v name.
-fn mark_named(
-    inputs: u32,
-    nodes: u32,
-    outputs: u32,
-    node_table: &[u32],
-    node_bits: &[u64],
-    output_table: &[u32],
-    output_bits: &[u64],
-    v: usize,
-    scratch: &mut [u32],
-)
-    requires { let g = graph_in inputs nodes outputs node_table.now node_bits.now output_table.now output_bits.now in
-        Admitted g × (v < nodes) × (nodes ≤ length scratch.old) }
-    ensures { let g = graph_in inputs nodes outputs node_table.now node_bits.now output_table.now output_bits.now in
+fn mark_named(lent: &Lent, v: usize, scratch: &mut [u32])
+    requires { let g = lent_graph lent.now in
+        Admitted g × (v < lent.now.nodes) × (lent.now.nodes ≤ length scratch.old) }
+    ensures { let g = lent_graph lent.now in
         NodeMarked g v scratch.old scratch.new }
 {
     let at = 3 * v;
-    mark(inputs, scratch, index_at(node_table, node_bits, at));
-    mark(inputs, scratch, index_at(node_table, node_bits, at + 1));
-    if is_mark_at(node_table, node_bits, at + 2) {
+    mark(lent.inputs, scratch, lent.node_table.index_at(at));
+    mark(lent.inputs, scratch, lent.node_table.index_at(at + 1));
+    if lent.node_table.is_mark_at(at + 2) {
         return;
     }
-    mark(inputs, scratch, index_at(node_table, node_bits, at + 2));
+    mark(lent.inputs, scratch, lent.node_table.index_at(at + 2));
 }
 
 fn mark_locked(locks: &[u8], v: usize, scratch: &mut [u32])
@@ -66,110 +54,42 @@ fn mark_locked(locks: &[u8], v: usize, scratch: &mut [u32])
     scratch[v] = 1;
 }
 
-fn visit(
-    inputs: u32,
-    nodes: u32,
-    outputs: u32,
-    node_table: &[u32],
-    node_bits: &[u64],
-    output_table: &[u32],
-    output_bits: &[u64],
-    locks: &[u8],
-    v: usize,
-    scratch: &mut [u32],
-)
-    requires { let g = graph_in inputs nodes outputs node_table.now node_bits.now output_table.now output_bits.now in
-        Admitted g × LockBytes nodes locks.now × (v < nodes) × Living g locks.now (v + 1) outputs scratch.old }
-    ensures { let g = graph_in inputs nodes outputs node_table.now node_bits.now output_table.now output_bits.now in
-        Living g locks.now v outputs scratch.new }
+fn visit(lent: &Lent, v: usize, scratch: &mut [u32])
+    requires { let g = lent_graph lent.now in
+        Admitted g × LockBytes lent.now.nodes lent.now.locks.now × (v < lent.now.nodes) × Living g lent.now.locks.now (v + 1) lent.now.outputs scratch.old }
+    ensures { let g = lent_graph lent.now in
+        Living g lent.now.locks.now v lent.now.outputs scratch.new }
 {
-    mark_locked(locks, v, scratch);
+    mark_locked(lent.locks, v, scratch);
     if scratch[v] != 1 {
         return;
     }
-    mark_named(
-        inputs,
-        nodes,
-        outputs,
-        node_table,
-        node_bits,
-        output_table,
-        output_bits,
-        v,
-        scratch,
-    );
+    mark_named(lent, v, scratch);
 }
 
-fn mark_outputs(
-    inputs: u32,
-    nodes: u32,
-    outputs: u32,
-    node_table: &[u32],
-    node_bits: &[u64],
-    output_table: &[u32],
-    output_bits: &[u64],
-    locks: &[u8],
-    scratch: &mut [u32],
-)
-    requires { let g = graph_in inputs nodes outputs node_table.now node_bits.now output_table.now output_bits.now in
-        Admitted g × LockBytes nodes locks.now × Living g locks.now nodes 0 scratch.old }
-    ensures { let g = graph_in inputs nodes outputs node_table.now node_bits.now output_table.now output_bits.now in
-        Living g locks.now nodes outputs scratch.new }
+fn mark_outputs(lent: &Lent, scratch: &mut [u32])
+    requires { let g = lent_graph lent.now in
+        Admitted g × LockBytes lent.now.nodes lent.now.locks.now × Living g lent.now.locks.now lent.now.nodes 0 scratch.old }
+    ensures { let g = lent_graph lent.now in
+        Living g lent.now.locks.now lent.now.nodes lent.now.outputs scratch.new }
 {
-    let mut j: u32 = 0;
-    while j < outputs {
-        mark(
-            inputs,
-            scratch,
-            index_at(output_table, output_bits, wide(j)),
-        );
-        j += 1;
+    for j in 0..lent.outputs {
+        mark(lent.inputs, scratch, lent.output_table.index_at(wide(j)));
     }
 }
 
 // Marks each node that lives by 1, the others by 0.
-pub fn mark_living(
-    inputs: u32,
-    nodes: u32,
-    outputs: u32,
-    node_table: &[u32],
-    node_bits: &[u64],
-    output_table: &[u32],
-    output_bits: &[u64],
-    locks: &[u8],
-    scratch: &mut [u32],
-)
-    requires { let g = graph_in inputs nodes outputs node_table.now node_bits.now output_table.now output_bits.now in
-        Admitted g × LockBytes nodes locks.now × (nodes ≤ length scratch.old) }
-    ensures { let g = graph_in inputs nodes outputs node_table.now node_bits.now output_table.now output_bits.now in
-        Lives g locks.now scratch.new }
+pub fn mark_living(lent: &Lent, scratch: &mut [u32])
+    requires { let g = lent_graph lent.now in
+        Admitted g × LockBytes lent.now.nodes lent.now.locks.now × (lent.now.nodes ≤ length scratch.old) }
+    ensures { let g = lent_graph lent.now in
+        Lives g lent.now.locks.now scratch.new }
 {
-    unmark(wide(nodes), scratch);
-    mark_outputs(
-        inputs,
-        nodes,
-        outputs,
-        node_table,
-        node_bits,
-        output_table,
-        output_bits,
-        locks,
-        scratch,
-    );
-    let mut v = wide(nodes);
+    unmark(wide(lent.nodes), scratch);
+    mark_outputs(lent, scratch);
+    let mut v = wide(lent.nodes);
     while 0 < v {
         v -= 1;
-        visit(
-            inputs,
-            nodes,
-            outputs,
-            node_table,
-            node_bits,
-            output_table,
-            output_bits,
-            locks,
-            v,
-            scratch,
-        );
+        visit(lent, v, scratch);
     }
 }

@@ -2,11 +2,12 @@
 ghost use Rattle.std.specs.Prelude.{◌≡◌, true, false, ◌⊎◌, ℕ, ◌+◌, ◌*◌, ◌≤◌, ◌<◌, length};
 ghost use Rattle.std.specs.Int.Bits.{bit_and, bit_or};
 ghost use Rattle.graph.specs.Graph.{node};
-ghost use Rattle.graph.specs.Literals.{bit, literals};
+ghost use Rattle.graph.specs.Literals.{bit};
 ghost use Rattle.evaluation.specs.Inner.{nodes_of};
 ghost use Rattle.finder.specs.Meeting.{Rises, PlacesOf, Lacks, Allows, Higher, Unmet, Listed};
+ghost use Rattle.graph.specs.Tables.{lent_table};
 
-use graph::table::{index_at, is_mark_at};
+use graph::table::Table;
 
 // Every place.
 pub const ALL: u64 = 18446744073709551615;
@@ -34,10 +35,8 @@ pub fn place_of(list: &[u32], m: usize, index: u32) -> u64
     ensures { PlacesOf list.now m index result }
 {
     let mut below: usize = 0;
-    let mut c: usize = 0;
-    while c < m {
+    for c in 0..m {
         below = counted(below, list[c] < index);
-        c += 1;
     }
     if below == m {
         return 0;
@@ -63,28 +62,27 @@ fn higher(x: u32, y: u32) -> u32
 pub fn allowed_places(
     inputs: u32,
     nodes: u32,
-    node_table: &[u32],
-    node_bits: &[u64],
+    node_table: &Table,
     list: &[u32],
     m: usize,
     v: usize,
 ) -> u64
-    requires { let g = nodes_of inputs nodes (literals node_table.now node_bits.now) in
+    requires { let g = nodes_of inputs nodes (lent_table node_table.now) in
         Listed g v m list.now }
-    ensures { let g = nodes_of inputs nodes (literals node_table.now node_bits.now) in
+    ensures { let g = nodes_of inputs nodes (lent_table node_table.now) in
         Allows g v m list.now result }
 {
     let at = 3 * v;
-    let i = index_at(node_table, node_bits, at);
-    let j = index_at(node_table, node_bits, at + 1);
-    if is_mark_at(node_table, node_bits, at + 2) {
+    let i = node_table.index_at(at);
+    let j = node_table.index_at(at + 1);
+    if node_table.is_mark_at(at + 2) {
         return ALL ^ place_of(list, m, higher(i, j));
     }
     if i != 0 {
         return ALL;
     }
     let y = place_of(list, m, j);
-    let z = place_of(list, m, index_at(node_table, node_bits, at + 2));
+    let z = place_of(list, m, node_table.index_at(at + 2));
     ALL ^ (y | z)
 }
 
@@ -130,10 +128,8 @@ pub fn thirds(ways: &[u64], n: usize, allowed: u64, a: usize, b: usize) -> u64
         return 0;
     }
     let mut met = allowed;
-    let mut k: usize = 0;
-    while k < n {
+    for k in 0..n {
         met = narrowed(met, ways[k], a, b);
-        k += 1;
     }
     met
 }
@@ -165,8 +161,7 @@ pub fn spread(ways: &[u64], n: usize, allowed: u64) -> bool
 {
     let mut seen: u64 = 0;
     let mut apart: u32 = 0;
-    let mut k: usize = 0;
-    while k < n {
+    for k in 0..n {
         let w = ways[k] & allowed;
         if w == 0 {
             return true;
@@ -176,7 +171,6 @@ pub fn spread(ways: &[u64], n: usize, allowed: u64) -> bool
         if 3 < apart {
             return true;
         }
-        k += 1;
     }
     false
 }

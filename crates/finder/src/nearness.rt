@@ -2,12 +2,12 @@
 ghost use Rattle.std.specs.Prelude.{◌≡◌, true, ℕ, ◌+◌, ◌*◌, ◌/◌, ◌≤◌, ◌<◌, eqb, length};
 ghost use Rattle.graph.specs.Admission.{Admitted};
 ghost use Rattle.graph.specs.Graph.{is_edge};
-ghost use Rattle.graph.specs.Literals.{literals};
 ghost use Rattle.evaluation.specs.Inner.{nodes_of};
 ghost use Rattle.hidden.specs.Find.{reaches};
 ghost use Rattle.finder.specs.Nearness.{Carried, Inserted, Grown, through};
+ghost use Rattle.graph.specs.Tables.{lent_table};
 
-use graph::table::{index_at, is_mark_at};
+use graph::table::Table;
 use moves::words::wide;
 
 // Leaves the lower of two at place k and answers the other.
@@ -29,13 +29,11 @@ fn insert(list: &mut [u32], n: usize, index: u32) -> usize
     ensures { Inserted index n result list.old list.new }
 {
     let mut carried = index;
-    let mut k: usize = 0;
-    while k < n {
+    for k in 0..n {
         if list[k] == carried {
             return n;
         }
         carried = carry(list, k, carried);
-        k += 1;
     }
     list[n] = carried;
     n + 1
@@ -55,135 +53,129 @@ fn add(list: &mut [u32], n: usize, index: u32) -> usize
 fn through_one(
     inputs: u32,
     nodes: u32,
-    node_table: &[u32],
-    node_bits: &[u64],
+    node_table: &Table,
     list: &mut [u32],
     n: usize,
     j: usize,
 ) -> usize
-    requires { let g = nodes_of inputs nodes (literals node_table.now node_bits.now) in
+    requires { let g = nodes_of inputs nodes (lent_table node_table.now) in
         Admitted g × (j < 3 * nodes) × (is_edge g j ≡ true) × (n + 1 ≤ length list.old) × (length list.old ≤ 1000) }
-    ensures { let g = nodes_of inputs nodes (literals node_table.now node_bits.now) in
+    ensures { let g = nodes_of inputs nodes (lent_table node_table.now) in
         Grown 1 (inputs + 1 + j / 3) (through g 0 j) n result list.old list.new }
 {
-    add(list, n, index_at(node_table, node_bits, j))
+    add(list, n, node_table.index_at(j))
 }
 
 // What the words of an index name.
 pub fn reach_one(
     inputs: u32,
     nodes: u32,
-    node_table: &[u32],
-    node_bits: &[u64],
+    node_table: &Table,
     list: &mut [u32],
     n: usize,
     u: u32,
 ) -> usize
-    requires { let g = nodes_of inputs nodes (literals node_table.now node_bits.now) in
+    requires { let g = nodes_of inputs nodes (lent_table node_table.now) in
         Admitted g × (u < inputs + 1 + nodes) × (n + 3 ≤ length list.old) × (length list.old ≤ 1000) }
-    ensures { let g = nodes_of inputs nodes (literals node_table.now node_bits.now) in
+    ensures { let g = nodes_of inputs nodes (lent_table node_table.now) in
         Grown 3 u (reaches g 1 u) n result list.old list.new }
 {
     if u <= inputs {
         return n;
     }
     let at = 3 * wide(u - inputs - 1);
-    let a = through_one(inputs, nodes, node_table, node_bits, list, n, at);
-    let b = through_one(inputs, nodes, node_table, node_bits, list, a, at + 1);
-    if is_mark_at(node_table, node_bits, at + 2) {
+    let a = through_one(inputs, nodes, node_table, list, n, at);
+    let b = through_one(inputs, nodes, node_table, list, a, at + 1);
+    if node_table.is_mark_at(at + 2) {
         return b;
     }
-    through_one(inputs, nodes, node_table, node_bits, list, b, at + 2)
+    through_one(inputs, nodes, node_table, list, b, at + 2)
 }
 
 fn through_two(
     inputs: u32,
     nodes: u32,
-    node_table: &[u32],
-    node_bits: &[u64],
+    node_table: &Table,
     list: &mut [u32],
     n: usize,
     j: usize,
 ) -> usize
-    requires { let g = nodes_of inputs nodes (literals node_table.now node_bits.now) in
+    requires { let g = nodes_of inputs nodes (lent_table node_table.now) in
         Admitted g × (j < 3 * nodes) × (is_edge g j ≡ true) × (n + 4 ≤ length list.old) × (length list.old ≤ 1000) }
-    ensures { let g = nodes_of inputs nodes (literals node_table.now node_bits.now) in
+    ensures { let g = nodes_of inputs nodes (lent_table node_table.now) in
         Grown 4 (inputs + 1 + j / 3) (through g 1 j) n result list.old list.new }
 {
-    let x = index_at(node_table, node_bits, j);
+    let x = node_table.index_at(j);
     let m = add(list, n, x);
-    reach_one(inputs, nodes, node_table, node_bits, list, m, x)
+    reach_one(inputs, nodes, node_table, list, m, x)
 }
 
 // Within two words.
 pub fn reach_two(
     inputs: u32,
     nodes: u32,
-    node_table: &[u32],
-    node_bits: &[u64],
+    node_table: &Table,
     list: &mut [u32],
     n: usize,
     u: u32,
 ) -> usize
-    requires { let g = nodes_of inputs nodes (literals node_table.now node_bits.now) in
+    requires { let g = nodes_of inputs nodes (lent_table node_table.now) in
         Admitted g × (u < inputs + 1 + nodes) × (n + 12 ≤ length list.old) × (length list.old ≤ 1000) }
-    ensures { let g = nodes_of inputs nodes (literals node_table.now node_bits.now) in
+    ensures { let g = nodes_of inputs nodes (lent_table node_table.now) in
         Grown 12 u (reaches g 2 u) n result list.old list.new }
 {
     if u <= inputs {
         return n;
     }
     let at = 3 * wide(u - inputs - 1);
-    let a = through_two(inputs, nodes, node_table, node_bits, list, n, at);
-    let b = through_two(inputs, nodes, node_table, node_bits, list, a, at + 1);
-    if is_mark_at(node_table, node_bits, at + 2) {
+    let a = through_two(inputs, nodes, node_table, list, n, at);
+    let b = through_two(inputs, nodes, node_table, list, a, at + 1);
+    if node_table.is_mark_at(at + 2) {
         return b;
     }
-    through_two(inputs, nodes, node_table, node_bits, list, b, at + 2)
+    through_two(inputs, nodes, node_table, list, b, at + 2)
 }
 
 fn through_three(
     inputs: u32,
     nodes: u32,
-    node_table: &[u32],
-    node_bits: &[u64],
+    node_table: &Table,
     list: &mut [u32],
     n: usize,
     j: usize,
 ) -> usize
-    requires { let g = nodes_of inputs nodes (literals node_table.now node_bits.now) in
+    requires { let g = nodes_of inputs nodes (lent_table node_table.now) in
         Admitted g × (j < 3 * nodes) × (is_edge g j ≡ true) × (n + 13 ≤ length list.old) × (length list.old ≤ 1000) }
-    ensures { let g = nodes_of inputs nodes (literals node_table.now node_bits.now) in
+    ensures { let g = nodes_of inputs nodes (lent_table node_table.now) in
         Grown 13 (inputs + 1 + j / 3) (through g 2 j) n result list.old list.new }
 {
-    let x = index_at(node_table, node_bits, j);
+    let x = node_table.index_at(j);
     let m = add(list, n, x);
-    reach_two(inputs, nodes, node_table, node_bits, list, m, x)
+    reach_two(inputs, nodes, node_table, list, m, x)
 }
 
 // Within three words.
 pub fn reach_three(
     inputs: u32,
     nodes: u32,
-    node_table: &[u32],
-    node_bits: &[u64],
+    node_table: &Table,
     list: &mut [u32],
     n: usize,
     u: u32,
 ) -> usize
-    requires { let g = nodes_of inputs nodes (literals node_table.now node_bits.now) in
+    requires { let g = nodes_of inputs nodes (lent_table node_table.now) in
         Admitted g × (u < inputs + 1 + nodes) × (n + 39 ≤ length list.old) × (length list.old ≤ 1000) }
-    ensures { let g = nodes_of inputs nodes (literals node_table.now node_bits.now) in
+    ensures { let g = nodes_of inputs nodes (lent_table node_table.now) in
         Grown 39 u (reaches g 3 u) n result list.old list.new }
 {
     if u <= inputs {
         return n;
     }
     let at = 3 * wide(u - inputs - 1);
-    let a = through_three(inputs, nodes, node_table, node_bits, list, n, at);
-    let b = through_three(inputs, nodes, node_table, node_bits, list, a, at + 1);
-    if is_mark_at(node_table, node_bits, at + 2) {
+    let a = through_three(inputs, nodes, node_table, list, n, at);
+    let b = through_three(inputs, nodes, node_table, list, a, at + 1);
+    if node_table.is_mark_at(at + 2) {
         return b;
     }
-    through_three(inputs, nodes, node_table, node_bits, list, b, at + 2)
+    through_three(inputs, nodes, node_table, list, b, at + 2)
 }

@@ -8,11 +8,12 @@ ghost use Rattle.hidden.specs.Find.{is_plain, passed};
 ghost use Rattle.finder.specs.Signs.{Signed};
 ghost use Rattle.finder.specs.Trying.{Gives};
 ghost use Rattle.finder.specs.Passing.{Clean, Becomes, Changed, Stepped};
+ghost use Rattle.graph.specs.Tables.{lent_table};
 
 use crate::down::set_down;
 use crate::signs::set_sign;
 use crate::trying::{NONE, Trial, try_near};
-use graph::table::{index_at, is_mark_at};
+use graph::table::Table;
 use majority_call::making;
 use moves::words::wide;
 use trees::fields::store;
@@ -40,19 +41,19 @@ fn differ(x: u32, y: u32, z: u32) -> bool
 }
 
 // Whether node v is a majority of such.
-fn is_plain(inputs: u32, nodes: u32, node_table: &[u32], node_bits: &[u64], v: usize) -> bool
-    requires { let g = nodes_of inputs nodes (literals node_table.now node_bits.now) in
+fn is_plain(inputs: u32, nodes: u32, node_table: &Table, v: usize) -> bool
+    requires { let g = nodes_of inputs nodes (lent_table node_table.now) in
         Admitted g × (v < nodes) }
-    ensures { let g = nodes_of inputs nodes (literals node_table.now node_bits.now) in
+    ensures { let g = nodes_of inputs nodes (lent_table node_table.now) in
         result ≡ is_plain g v }
 {
     let at = 3 * v;
-    if is_mark_at(node_table, node_bits, at + 2) {
+    if node_table.is_mark_at(at + 2) {
         return false;
     }
-    let x = index_at(node_table, node_bits, at);
-    let y = index_at(node_table, node_bits, at + 1);
-    let z = index_at(node_table, node_bits, at + 2);
+    let x = node_table.index_at(at);
+    let y = node_table.index_at(at + 1);
+    let z = node_table.index_at(at + 2);
     differ(x, y, z)
 }
 
@@ -88,11 +89,11 @@ fn make_found(
 }
 
 // The words of node v: locked and plain ones stay. What scratch has of the node itself is forgotten.
-fn change_node(
+fn change_node<'x>(
     inputs: u32,
     nodes: u32,
-    node_table: &mut [u32],
-    node_bits: &mut [u64],
+    node_table: &'x mut [u32],
+    node_bits: &'x mut [u64],
     locks: &[u8],
     scratch: &mut [u32],
     v: u32,
@@ -103,24 +104,28 @@ fn change_node(
         let ns' = literals node_table.new node_bits.new in
         Changed g locks.now v ns' scratch.new }
 {
+    let table = Table {
+        indices: node_table,
+        bits: node_bits,
+    };
     let w = wide(v);
     if locks[w] == 1 {
         return;
     }
-    if is_plain(inputs, nodes, node_table, node_bits, w) {
+    if is_plain(inputs, nodes, &table, w) {
         return;
     }
-    let found = try_near(inputs, nodes, node_table, node_bits, scratch, v);
+    let found = try_near(inputs, nodes, &table, scratch, v);
     make_found(inputs, nodes, node_table, node_bits, w, found);
     store(scratch, w, 2, 0);
 }
 
 // Passes node v: its signature, then its words, then its way down. A node that is made has the values it had.
-fn pass_node(
+fn pass_node<'x>(
     inputs: u32,
     nodes: u32,
-    node_table: &mut [u32],
-    node_bits: &mut [u64],
+    node_table: &'x mut [u32],
+    node_bits: &'x mut [u64],
     locks: &[u8],
     scratch: &mut [u32],
     v: u32,
@@ -132,9 +137,17 @@ fn pass_node(
         Stepped g locks.now v ns' scratch.new }
 {
     let w = wide(v);
-    set_sign(inputs, nodes, node_table, node_bits, scratch, w);
+    let before = Table {
+        indices: node_table,
+        bits: node_bits,
+    };
+    set_sign(inputs, nodes, &before, scratch, w);
     change_node(inputs, nodes, node_table, node_bits, locks, scratch, v);
-    set_down(inputs, nodes, node_table, node_bits, scratch, w);
+    let after = Table {
+        indices: node_table,
+        bits: node_bits,
+    };
+    set_down(inputs, nodes, &after, scratch, w);
 }
 
 // All of them, by rising index.
@@ -152,9 +165,7 @@ pub fn pass(
         let h = nodes_of inputs nodes (literals node_table.new node_bits.new) in
         h ≡ passed g locks.now nodes }
 {
-    let mut v: u32 = 0;
-    while v < nodes {
+    for v in 0..nodes {
         pass_node(inputs, nodes, node_table, node_bits, locks, scratch, v);
-        v += 1;
     }
 }

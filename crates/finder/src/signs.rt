@@ -2,13 +2,14 @@
 // somehow, no two of these differ from it at once under any assignment; so most triples are passed over without valuing a node.
 ghost use Rattle.std.specs.Prelude.{◌≡◌, true, ℕ, ◌+◌, ◌-◌, ◌*◌, ◌/◌, ◌%◌, ◌≤◌, ◌<◌, length};
 ghost use Rattle.graph.specs.Admission.{Admitted};
-ghost use Rattle.graph.specs.Literals.{bit, literals};
+ghost use Rattle.graph.specs.Literals.{bit};
 ghost use Rattle.graph.specs.Value.{majority};
 ghost use Rattle.evaluation.specs.Inner.{nodes_of};
 ghost use Rattle.finder.specs.Signs.{input_sign, sign_of, TurnedWord, NodeSign, SignSet, Never₃, Votes};
+ghost use Rattle.graph.specs.Tables.{lent_table};
 
 use graph::literal::{MARK, index_of};
-use graph::table::{edge_at, word_at};
+use graph::table::Table;
 use trees::fields::{read, store};
 
 const ONES: u32 = 4294967295;
@@ -61,23 +62,16 @@ fn majority_sign(x: u32, y: u32, z: u32) -> u32
 }
 
 // The signature of node v, from those of the indices that it names.
-fn node_sign(
-    inputs: u32,
-    nodes: u32,
-    node_table: &[u32],
-    node_bits: &[u64],
-    scratch: &[u32],
-    v: usize,
-) -> u32
-    requires { let g = nodes_of inputs nodes (literals node_table.now node_bits.now) in
+fn node_sign(inputs: u32, nodes: u32, node_table: &Table, scratch: &[u32], v: usize) -> u32
+    requires { let g = nodes_of inputs nodes (lent_table node_table.now) in
         Admitted g × (8 * nodes ≤ length scratch.now) × (v < nodes) }
-    ensures { let g = nodes_of inputs nodes (literals node_table.now node_bits.now) in
+    ensures { let g = nodes_of inputs nodes (lent_table node_table.now) in
         NodeSign g v scratch.now result }
 {
     let at = 3 * v;
-    let third = word_at(node_table, node_bits, at + 2);
-    let x = literal_sign(inputs, scratch, edge_at(node_table, node_bits, at));
-    let y = literal_sign(inputs, scratch, edge_at(node_table, node_bits, at + 1));
+    let third = node_table.word_at(at + 2);
+    let x = literal_sign(inputs, scratch, node_table.edge_at(at));
+    let y = literal_sign(inputs, scratch, node_table.edge_at(at + 1));
     if third == MARK {
         return x ^ y;
     }
@@ -86,20 +80,13 @@ fn node_sign(
 }
 
 // Stores it.
-pub fn set_sign(
-    inputs: u32,
-    nodes: u32,
-    node_table: &[u32],
-    node_bits: &[u64],
-    scratch: &mut [u32],
-    v: usize,
-)
-    requires { let g = nodes_of inputs nodes (literals node_table.now node_bits.now) in
+pub fn set_sign(inputs: u32, nodes: u32, node_table: &Table, scratch: &mut [u32], v: usize)
+    requires { let g = nodes_of inputs nodes (lent_table node_table.now) in
         Admitted g × (8 * nodes ≤ length scratch.old) × (v < nodes) }
-    ensures { let g = nodes_of inputs nodes (literals node_table.now node_bits.now) in
+    ensures { let g = nodes_of inputs nodes (lent_table node_table.now) in
         SignSet g v scratch.old scratch.new }
 {
-    let w = node_sign(inputs, nodes, node_table, node_bits, scratch, v);
+    let w = node_sign(inputs, nodes, node_table, scratch, v);
     store(scratch, v, 7, w);
 }
 

@@ -1,7 +1,7 @@
 // The triples of a rising list tried at a node, in order: which is the first that gives a majority. Tables are only read.
 ghost use Rattle.std.specs.Prelude.{◌≡◌, false, [], ℕ, suc, ◌+◌, ◌*◌, ◌≤◌, ◌<◌, length, take};
 ghost use Rattle.graph.specs.Admission.{Admitted};
-ghost use Rattle.graph.specs.Literals.{bit, literals};
+ghost use Rattle.graph.specs.Literals.{bit};
 ghost use Rattle.evaluation.specs.Inner.{nodes_of};
 ghost use Rattle.hidden.specs.Majority.{is_majority};
 ghost use Rattle.hidden.specs.Truth.{triple, truth};
@@ -11,12 +11,14 @@ ghost use Rattle.majority_call.specs.Valuing.{Facts};
 ghost use Rattle.finder.specs.Signs.{Signed};
 ghost use Rattle.finder.specs.Meeting.{Tells, ThirdsMet, WaysKnown};
 ghost use Rattle.finder.specs.Trying.{Ready, SignsRead, Tried, Sought};
+ghost use Rattle.graph.specs.Tables.{lent_table};
 
 use crate::barred::nothing_to_find;
 use crate::following::gather_ways;
 use crate::masks::{allowed_places, spread, thirds, too_few};
 use crate::nearness::reach_three;
 use crate::signs::{could_be, sign_of};
+use graph::table::Table;
 use majority_call::{making, valuing};
 use moves::words::wide;
 use trees::fields::read;
@@ -36,22 +38,19 @@ pub struct Trial {
 fn tried(
     inputs: u32,
     nodes: u32,
-    node_table: &[u32],
-    node_bits: &[u64],
+    node_table: &Table,
     scratch: &mut [u32],
     one: u32,
     two: u32,
     three: u32,
     v: usize,
 ) -> u32
-    requires { let g = nodes_of inputs nodes (literals node_table.now node_bits.now) in
+    requires { let g = nodes_of inputs nodes (lent_table node_table.now) in
         Admitted g × (8 * nodes ≤ length scratch.old) × (v < nodes) × Facts g scratch.old × Rising (triple one two three) (inputs + 1 + v) }
-    ensures { let g = nodes_of inputs nodes (literals node_table.now node_bits.now) in
+    ensures { let g = nodes_of inputs nodes (lent_table node_table.now) in
         Tried g (triple one two three) v result scratch.old scratch.new }
 {
-    let byte = valuing::truth(
-        inputs, nodes, node_table, node_bits, scratch, one, two, three, v,
-    );
+    let byte = valuing::truth(inputs, nodes, node_table, scratch, one, two, three, v);
     if byte == valuing::LEAK {
         return NONE;
     }
@@ -65,8 +64,7 @@ fn tried(
 fn tried_if_fit(
     inputs: u32,
     nodes: u32,
-    node_table: &[u32],
-    node_bits: &[u64],
+    node_table: &Table,
     scratch: &mut [u32],
     one: u32,
     two: u32,
@@ -76,17 +74,15 @@ fn tried_if_fit(
     x: u32,
     y: u32,
 ) -> u32
-    requires { let g = nodes_of inputs nodes (literals node_table.now node_bits.now) in
+    requires { let g = nodes_of inputs nodes (lent_table node_table.now) in
         let t = triple one two three in
         Admitted g × (8 * nodes ≤ length scratch.old) × (v < nodes) × Facts g scratch.old × Rising t (inputs + 1 + v) × SignsRead g v one two w x y scratch.old }
-    ensures { let g = nodes_of inputs nodes (literals node_table.now node_bits.now) in
+    ensures { let g = nodes_of inputs nodes (lent_table node_table.now) in
         Tried g (triple one two three) v result scratch.old scratch.new }
 {
     let z = sign_of(inputs, scratch, three);
     if could_be(w, x, y, z) {
-        return tried(
-            inputs, nodes, node_table, node_bits, scratch, one, two, three, v,
-        );
+        return tried(inputs, nodes, node_table, scratch, one, two, three, v);
     }
     NONE
 }
@@ -95,8 +91,7 @@ fn tried_if_fit(
 fn tried_if_met(
     inputs: u32,
     nodes: u32,
-    node_table: &[u32],
-    node_bits: &[u64],
+    node_table: &Table,
     scratch: &mut [u32],
     one: u32,
     two: u32,
@@ -108,17 +103,17 @@ fn tried_if_met(
     met: u64,
     c: usize,
 ) -> u32
-    requires { let g = nodes_of inputs nodes (literals node_table.now node_bits.now) in
+    requires { let g = nodes_of inputs nodes (lent_table node_table.now) in
         let t = triple one two three in
         Admitted g × (8 * nodes ≤ length scratch.old) × (v < nodes) × Facts g scratch.old × Rising t (inputs + 1 + v) × SignsRead g v one two w x y scratch.old × (c < 64) × (bit c met ≡ 0 → is_majority (truth g t (inputs + 1 + v)) ≡ false) }
-    ensures { let g = nodes_of inputs nodes (literals node_table.now node_bits.now) in
+    ensures { let g = nodes_of inputs nodes (lent_table node_table.now) in
         Tried g (triple one two three) v result scratch.old scratch.new }
 {
     if (met >> c) % 2 == 0 {
         return NONE;
     }
     tried_if_fit(
-        inputs, nodes, node_table, node_bits, scratch, one, two, three, v, w, x, y,
+        inputs, nodes, node_table, scratch, one, two, three, v, w, x, y,
     )
 }
 
@@ -126,8 +121,7 @@ fn tried_if_met(
 fn try_thirds(
     inputs: u32,
     nodes: u32,
-    node_table: &[u32],
-    node_bits: &[u64],
+    node_table: &Table,
     scratch: &mut [u32],
     list: &[u32],
     m: usize,
@@ -136,9 +130,9 @@ fn try_thirds(
     v: usize,
     met: u64,
 ) -> Trial
-    requires { let g = nodes_of inputs nodes (literals node_table.now node_bits.now) in
+    requires { let g = nodes_of inputs nodes (lent_table node_table.now) in
         Ready g v m list.now scratch.old × (a < b) × (b < m) × (m ≤ 39) × ThirdsMet g v m list.now a b met }
-    ensures { let g = nodes_of inputs nodes (literals node_table.now node_bits.now) in
+    ensures { let g = nodes_of inputs nodes (lent_table node_table.now) in
         let l = take m list.now in
         let t = triple result.one result.two result.three in
         Sought g v (left₃ l a b (suc b)) (left₂ l a (suc b)) result.byte t scratch.old scratch.new }
@@ -148,11 +142,10 @@ fn try_thirds(
     let w = read(scratch, v, 7);
     let x = sign_of(inputs, scratch, one);
     let y = sign_of(inputs, scratch, two);
-    let mut c = b + 1;
-    while c < m {
+    for c in b + 1..m {
         let three = list[c];
         let byte = tried_if_met(
-            inputs, nodes, node_table, node_bits, scratch, one, two, three, v, w, x, y, met, c,
+            inputs, nodes, node_table, scratch, one, two, three, v, w, x, y, met, c,
         );
         if byte < NONE {
             return Trial {
@@ -162,7 +155,6 @@ fn try_thirds(
                 three: three,
             };
         }
-        c += 1;
     }
     Trial {
         byte: NONE,
@@ -176,8 +168,7 @@ fn try_thirds(
 fn try_pair(
     inputs: u32,
     nodes: u32,
-    node_table: &[u32],
-    node_bits: &[u64],
+    node_table: &Table,
     scratch: &mut [u32],
     list: &[u32],
     m: usize,
@@ -188,9 +179,9 @@ fn try_pair(
     b: usize,
     v: usize,
 ) -> Trial
-    requires { let g = nodes_of inputs nodes (literals node_table.now node_bits.now) in
+    requires { let g = nodes_of inputs nodes (lent_table node_table.now) in
         Ready g v m list.now scratch.old × (a < b) × (b < m) × WaysKnown g v m list.now allowed n ways.now }
-    ensures { let g = nodes_of inputs nodes (literals node_table.now node_bits.now) in
+    ensures { let g = nodes_of inputs nodes (lent_table node_table.now) in
         let l = take m list.now in
         let t = triple result.one result.two result.three in
         Sought g v (left₃ l a b (suc b)) (left₂ l a (suc b)) result.byte t scratch.old scratch.new }
@@ -204,17 +195,14 @@ fn try_pair(
             three: 0,
         };
     }
-    try_thirds(
-        inputs, nodes, node_table, node_bits, scratch, list, m, a, b, v, met,
-    )
+    try_thirds(inputs, nodes, node_table, scratch, list, m, a, b, v, met)
 }
 
 // Those with the index at place a.
 fn try_seconds(
     inputs: u32,
     nodes: u32,
-    node_table: &[u32],
-    node_bits: &[u64],
+    node_table: &Table,
     scratch: &mut [u32],
     list: &[u32],
     m: usize,
@@ -224,22 +212,20 @@ fn try_seconds(
     a: usize,
     v: usize,
 ) -> Trial
-    requires { let g = nodes_of inputs nodes (literals node_table.now node_bits.now) in
+    requires { let g = nodes_of inputs nodes (lent_table node_table.now) in
         Ready g v m list.now scratch.old × (a < m) × WaysKnown g v m list.now allowed n ways.now }
-    ensures { let g = nodes_of inputs nodes (literals node_table.now node_bits.now) in
+    ensures { let g = nodes_of inputs nodes (lent_table node_table.now) in
         let l = take m list.now in
         let t = triple result.one result.two result.three in
         Sought g v (left₁ l a) (left₁ l (suc a)) result.byte t scratch.old scratch.new }
 {
-    let mut b = a + 1;
-    while b < m {
+    for b in a + 1..m {
         let found = try_pair(
-            inputs, nodes, node_table, node_bits, scratch, list, m, allowed, ways, n, a, b, v,
+            inputs, nodes, node_table, scratch, list, m, allowed, ways, n, a, b, v,
         );
         if found.byte < NONE {
             return found;
         }
-        b += 1;
     }
     Trial {
         byte: NONE,
@@ -253,8 +239,7 @@ fn try_seconds(
 fn try_triples(
     inputs: u32,
     nodes: u32,
-    node_table: &[u32],
-    node_bits: &[u64],
+    node_table: &Table,
     scratch: &mut [u32],
     list: &[u32],
     m: usize,
@@ -263,21 +248,19 @@ fn try_triples(
     n: usize,
     v: usize,
 ) -> Trial
-    requires { let g = nodes_of inputs nodes (literals node_table.now node_bits.now) in
+    requires { let g = nodes_of inputs nodes (lent_table node_table.now) in
         Ready g v m list.now scratch.old × WaysKnown g v m list.now allowed n ways.now }
-    ensures { let g = nodes_of inputs nodes (literals node_table.now node_bits.now) in
+    ensures { let g = nodes_of inputs nodes (lent_table node_table.now) in
         let t = triple result.one result.two result.three in
         Sought g v (triples (take m list.now)) [] result.byte t scratch.old scratch.new }
 {
-    let mut a: usize = 0;
-    while a < m {
+    for a in 0..m {
         let found = try_seconds(
-            inputs, nodes, node_table, node_bits, scratch, list, m, allowed, ways, n, a, v,
+            inputs, nodes, node_table, scratch, list, m, allowed, ways, n, a, v,
         );
         if found.byte < NONE {
             return found;
         }
-        a += 1;
     }
     Trial {
         byte: NONE,
@@ -288,22 +271,15 @@ fn try_triples(
 }
 
 // All that are near node v.
-pub fn try_near(
-    inputs: u32,
-    nodes: u32,
-    node_table: &[u32],
-    node_bits: &[u64],
-    scratch: &mut [u32],
-    v: u32,
-) -> Trial
-    requires { let g = nodes_of inputs nodes (literals node_table.now node_bits.now) in
+pub fn try_near(inputs: u32, nodes: u32, node_table: &Table, scratch: &mut [u32], v: u32) -> Trial
+    requires { let g = nodes_of inputs nodes (lent_table node_table.now) in
         Admitted g × (8 * nodes ≤ length scratch.old) × (v < nodes) × Facts g scratch.old × Signed g (v + 1) scratch.old × Tells g scratch.old }
-    ensures { let g = nodes_of inputs nodes (literals node_table.now node_bits.now) in
+    ensures { let g = nodes_of inputs nodes (lent_table node_table.now) in
         let t = triple result.one result.two result.three in
         Sought g v (triples (near g (inputs + 1 + v))) [] result.byte t scratch.old scratch.new }
 {
     let w = wide(v);
-    if nothing_to_find(inputs, nodes, node_table, node_bits, w) {
+    if nothing_to_find(inputs, nodes, node_table, w) {
         return Trial {
             byte: NONE,
             one: 0,
@@ -313,8 +289,8 @@ pub fn try_near(
     }
     let mut list = [0u32; 39];
     let u = inputs + 1 + v;
-    let m = reach_three(inputs, nodes, node_table, node_bits, &mut list, 0, u);
-    let allowed = allowed_places(inputs, nodes, node_table, node_bits, &list, m, w);
+    let m = reach_three(inputs, nodes, node_table, &mut list, 0, u);
+    let allowed = allowed_places(inputs, nodes, node_table, &list, m, w);
     if too_few(m, allowed) {
         return Trial {
             byte: NONE,
@@ -325,7 +301,7 @@ pub fn try_near(
     }
     let mut ways = [0u64; 27];
     let n = gather_ways(
-        inputs, nodes, node_table, node_bits, scratch, &list, m, w, allowed, &mut ways,
+        inputs, nodes, node_table, scratch, &list, m, w, allowed, &mut ways,
     );
     if spread(&ways, n, allowed) {
         return Trial {
@@ -336,6 +312,6 @@ pub fn try_near(
         };
     }
     try_triples(
-        inputs, nodes, node_table, node_bits, scratch, &list, m, allowed, &ways, n, w,
+        inputs, nodes, node_table, scratch, &list, m, allowed, &ways, n, w,
     )
 }

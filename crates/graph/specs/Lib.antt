@@ -2,6 +2,7 @@ pub mod Words
 pub mod Finite
 pub mod Graph
 pub mod Literals
+pub mod Tables
 pub mod Inner
 pub mod Turned
 pub mod Value

@@ -5,11 +5,12 @@ ghost use Rattle.graph.specs.Graph.{graph_of, mark};
 ghost use Rattle.graph.specs.Admission.{room_number, word_number, output_number, stray_number, literal_number, locks_number, content_number, tables_number, admission_number};
 ghost use Rattle.graph.specs.Answer.{number_of};
 ghost use Rattle.graph.specs.Inner.{over_at, high_node, fault_at, Counts, IsRefusal};
-ghost use Rattle.graph.specs.Literals.{index_at, graph_in, held, literals};
+ghost use Rattle.graph.specs.Literals.{index_at, held, literals};
+ghost use Rattle.graph.specs.Tables.{lent_graph, lent_table};
 
-use crate::Refusal;
 use crate::literal::MARK;
-use crate::table::{bit_at, ones_from, raw_at, room_of, thirds_at};
+use crate::table::{Table, bit_at, ones_from, raw_at, room_of, thirds_at};
+use crate::{Lent, Refusal};
 
 // By the limits, by the literals that the lent tables hold, and by the lock bytes.
 pub fn room_number(
@@ -93,41 +94,42 @@ fn node_faults(last: u32, table: &[u32], at: usize, b: u32) -> u32
 
 // How many words are at fault, four nodes a turn with a sum for each, and the bits of their third words as they stand: the compiler makes vectors
 // of that. So a mark with its bit counts for more than 1.
-pub fn four_faults(inputs: u32, nodes: u32, node_table: &[u32], node_bits: &[u64]) -> u32
-    requires { (inputs ≤ 4096) × (nodes ≤ 100000) × (3 * nodes ≤ length node_table.now) × (3 * nodes ≤ 64 * length node_bits.now) }
-    ensures { Counts (sum (12 * (nodes / 4)) (fault_at inputs node_table.now node_bits.now)) result × (result ≤ 300000000) }
+pub fn four_faults(inputs: u32, nodes: u32, node_table: &Table) -> u32
+    requires { (inputs ≤ 4096) × (nodes ≤ 100000) × (3 * nodes ≤ length node_table.now.indices.now) × (3 * nodes ≤ 64 * length node_table.now.bits.now) }
+    ensures { Counts (sum (12 * (nodes / 4)) (fault_at inputs node_table.now.indices.now node_table.now.bits.now)) result × (result ≤ 300000000) }
 {
     let turns = nodes as usize / 4;
     let mut first: u32 = 0;
     let mut second: u32 = 0;
     let mut third: u32 = 0;
     let mut fourth: u32 = 0;
-    let mut j: usize = 0;
-    while j < turns {
+    for j in 0..turns {
         let at = 12 * j;
         let last = inputs + 4 * j as u32;
-        let b = thirds_at(node_bits, at);
-        first += node_faults(last, node_table, at, b / 4 % 2 * 4);
-        second += node_faults(last + 1, node_table, at + 3, b / 32 % 2 * 32);
-        third += node_faults(last + 2, node_table, at + 6, b / 256 % 2 * 256);
-        fourth += node_faults(last + 3, node_table, at + 9, b / 2048 % 2 * 2048);
-        j += 1;
+        let b = thirds_at(node_table.bits, at);
+        first += node_faults(last, node_table.indices, at, b / 4 % 2 * 4);
+        second += node_faults(last + 1, node_table.indices, at + 3, b / 32 % 2 * 32);
+        third += node_faults(last + 2, node_table.indices, at + 6, b / 256 % 2 * 256);
+        fourth += node_faults(last + 3, node_table.indices, at + 9, b / 2048 % 2 * 2048);
     }
     first + second + third + fourth
 }
 
 // How many words of the nodes after the last four are.
-pub fn rest_faults(inputs: u32, nodes: u32, node_table: &[u32], node_bits: &[u64]) -> u32
-    requires { (inputs ≤ 4096) × (nodes ≤ 100000) × (3 * nodes ≤ length node_table.now) × (3 * nodes ≤ 64 * length node_bits.now) }
-    ensures { let f = fault_at inputs node_table.now node_bits.now in
+pub fn rest_faults(inputs: u32, nodes: u32, node_table: &Table) -> u32
+    requires { (inputs ≤ 4096) × (nodes ≤ 100000) × (3 * nodes ≤ length node_table.now.indices.now) × (3 * nodes ≤ 64 * length node_table.now.bits.now) }
+    ensures { let f = fault_at inputs node_table.now.indices.now node_table.now.bits.now in
         (sum (12 * (nodes / 4)) f + result ≡ sum (3 * nodes) f) × (result ≤ 300000000) }
 {
     let mut c: u32 = 0;
-    let mut v: u32 = 4 * (nodes / 4);
-    while v < nodes {
+    for v in (4 * (nodes / 4))..nodes {
         let at = 3 * v as usize;
-        c += node_faults(inputs + v, node_table, at, bit_at(node_bits, at + 2));
-        v += 1;
+        c += node_faults(
+            inputs + v,
+            node_table.indices,
+            at,
+            bit_at(node_table.bits, at + 2),
+        );
     }
     c
 }
@@ -142,13 +144,13 @@ fn if_any(count: u32) -> u32
     0
 }
 
-pub fn nodes_number(inputs: u32, nodes: u32, node_table: &[u32], node_bits: &[u64]) -> u32
-    requires { (inputs ≤ 4096) × (nodes ≤ 100000) × (3 * nodes ≤ held (literals node_table.now node_bits.now)) }
-    ensures { let ns = literals node_table.now node_bits.now in
+pub fn nodes_number(inputs: u32, nodes: u32, node_table: &Table) -> u32
+    requires { (inputs ≤ 4096) × (nodes ≤ 100000) × (3 * nodes ≤ held (lent_table node_table.now)) }
+    ensures { let ns = lent_table node_table.now in
         ((o : ℕ) (os : List ℕ) → result ≡ first_of (3 * nodes) (word_number (graph_of inputs nodes o ns os))) }
 {
-    let fours = four_faults(inputs, nodes, node_table, node_bits);
-    let rest = rest_faults(inputs, nodes, node_table, node_bits);
+    let fours = four_faults(inputs, nodes, node_table);
+    let rest = rest_faults(inputs, nodes, node_table);
     if_any(fours + rest)
 }
 
@@ -158,26 +160,18 @@ pub fn high_outputs(last: u32, outputs: u32, output_table: &[u32]) -> u32
     ensures { result ≡ sum outputs (over_at (last + 1) output_table.now) }
 {
     let mut c: u32 = 0;
-    let mut j: u32 = 0;
-    while j < outputs {
+    for j in 0..outputs {
         c += above(raw_at(output_table, j as usize), last);
-        j += 1;
     }
     c
 }
 
-pub fn outputs_number(
-    inputs: u32,
-    nodes: u32,
-    outputs: u32,
-    output_table: &[u32],
-    output_bits: &[u64],
-) -> u32
-    requires { (inputs ≤ 4096) × (nodes ≤ 100000) × (outputs ≤ 4096) × (outputs ≤ held (literals output_table.now output_bits.now)) }
-    ensures { let os = literals output_table.now output_bits.now in
+pub fn outputs_number(inputs: u32, nodes: u32, outputs: u32, output_table: &Table) -> u32
+    requires { (inputs ≤ 4096) × (nodes ≤ 100000) × (outputs ≤ 4096) × (outputs ≤ held (lent_table output_table.now)) }
+    ensures { let os = lent_table output_table.now in
         ((ns : List ℕ) → result ≡ first_of outputs (output_number (graph_of inputs nodes outputs ns os))) }
 {
-    if_any(high_outputs(inputs + nodes, outputs, output_table))
+    if_any(high_outputs(inputs + nodes, outputs, output_table.indices))
 }
 
 // A bit is set past the last of n literals, in its word.
@@ -194,55 +188,31 @@ pub fn stray_number(n: usize, bits: &[u64]) -> u32
     0
 }
 
-pub fn words_number(
-    inputs: u32,
-    nodes: u32,
-    outputs: u32,
-    node_table: &[u32],
-    node_bits: &[u64],
-    output_table: &[u32],
-    output_bits: &[u64],
-) -> u32
-    requires { let ns = literals node_table.now node_bits.now in
-        let os = literals output_table.now output_bits.now in
-        (inputs ≤ 4096) × (nodes ≤ 100000) × (outputs ≤ 4096) × (3 * nodes ≤ held ns) × (outputs ≤ held os) }
-    ensures { result ≡ first (first_of (3 * nodes) (word_number (graph_in inputs nodes outputs node_table.now node_bits.now output_table.now output_bits.now))) (first_of outputs (output_number (graph_in inputs nodes outputs node_table.now node_bits.now output_table.now output_bits.now))) }
+pub fn words_number(lent: &Lent) -> u32
+    requires { let ns = lent_table lent.now.node_table in
+        let os = lent_table lent.now.output_table in
+        (lent.now.inputs ≤ 4096) × (lent.now.nodes ≤ 100000) × (lent.now.outputs ≤ 4096) × (3 * lent.now.nodes ≤ held ns) × (lent.now.outputs ≤ held os) }
+    ensures { result ≡ first (first_of (3 * lent.now.nodes) (word_number (lent_graph lent.now))) (first_of lent.now.outputs (output_number (lent_graph lent.now))) }
 {
-    let k = nodes_number(inputs, nodes, node_table, node_bits);
+    let k = nodes_number(lent.inputs, lent.nodes, &lent.node_table);
     if k != 0 {
         return k;
     }
-    outputs_number(inputs, nodes, outputs, output_table, output_bits)
+    outputs_number(lent.inputs, lent.nodes, lent.outputs, &lent.output_table)
 }
 
 // By the bits past the last literals, then by the literals.
-pub fn literal_number(
-    inputs: u32,
-    nodes: u32,
-    outputs: u32,
-    node_table: &[u32],
-    node_bits: &[u64],
-    output_table: &[u32],
-    output_bits: &[u64],
-) -> u32
-    requires { let ns = literals node_table.now node_bits.now in
-        let os = literals output_table.now output_bits.now in
-        (inputs ≤ 4096) × (nodes ≤ 100000) × (outputs ≤ 4096) × (3 * nodes ≤ held ns) × (outputs ≤ held os) }
-    ensures { result ≡ literal_number (graph_in inputs nodes outputs node_table.now node_bits.now output_table.now output_bits.now) }
+pub fn literal_number(lent: &Lent) -> u32
+    requires { let ns = lent_table lent.now.node_table in
+        let os = lent_table lent.now.output_table in
+        (lent.now.inputs ≤ 4096) × (lent.now.nodes ≤ 100000) × (lent.now.outputs ≤ 4096) × (3 * lent.now.nodes ≤ held ns) × (lent.now.outputs ≤ held os) }
+    ensures { result ≡ literal_number (lent_graph lent.now) }
 {
     let strays = first_fault(
-        stray_number(3 * nodes as usize, node_bits),
-        stray_number(outputs as usize, output_bits),
+        stray_number(3 * lent.nodes as usize, lent.node_table.bits),
+        stray_number(lent.outputs as usize, lent.output_table.bits),
     );
-    let words = words_number(
-        inputs,
-        nodes,
-        outputs,
-        node_table,
-        node_bits,
-        output_table,
-        output_bits,
-    );
+    let words = words_number(lent);
     first_fault(strays, words)
 }
 
@@ -262,10 +232,8 @@ pub fn locks_number(nodes: u32, locks: &[u8]) -> u32
 {
     let end = nodes as usize;
     let mut most: u8 = 0;
-    let mut v: usize = 0;
-    while v < end {
+    for v in 0..end {
         most = greater(most, locks[v]);
-        v += 1;
     }
     if 1 < most {
         return 13;
@@ -274,89 +242,36 @@ pub fn locks_number(nodes: u32, locks: &[u8]) -> u32
 }
 
 // By all literals, then by all locks.
-pub fn content_number(
-    inputs: u32,
-    nodes: u32,
-    outputs: u32,
-    node_table: &[u32],
-    node_bits: &[u64],
-    output_table: &[u32],
-    output_bits: &[u64],
-    locks: &[u8],
-) -> u32
-    requires { tables_number (graph_in inputs nodes outputs node_table.now node_bits.now output_table.now output_bits.now) locks.now ≡ 0 }
-    ensures { result ≡ content_number (graph_in inputs nodes outputs node_table.now node_bits.now output_table.now output_bits.now) locks.now }
+pub fn content_number(lent: &Lent) -> u32
+    requires { tables_number (lent_graph lent.now) lent.now.locks.now ≡ 0 }
+    ensures { result ≡ content_number (lent_graph lent.now) lent.now.locks.now }
 {
-    let literals = literal_number(
-        inputs,
-        nodes,
-        outputs,
-        node_table,
-        node_bits,
-        output_table,
-        output_bits,
-    );
-    first_fault(literals, locks_number(nodes, locks))
+    let literals = literal_number(lent);
+    first_fault(literals, locks_number(lent.nodes, lent.locks))
 }
 
 // By the limits and by what is lent.
-pub fn tables_number(
-    inputs: u32,
-    nodes: u32,
-    outputs: u32,
-    node_table: &[u32],
-    node_bits: &[u64],
-    output_table: &[u32],
-    output_bits: &[u64],
-    locks: &[u8],
-) -> u32
-    ensures { result ≡ tables_number (graph_in inputs nodes outputs node_table.now node_bits.now output_table.now output_bits.now) locks.now }
+pub fn tables_number(lent: &Lent) -> u32
+    ensures { result ≡ tables_number (lent_graph lent.now) lent.now.locks.now }
 {
     room_number(
-        inputs,
-        nodes,
-        outputs,
-        room_of(node_table, node_bits),
-        room_of(output_table, output_bits),
-        locks.len(),
+        lent.inputs,
+        lent.nodes,
+        lent.outputs,
+        room_of(lent.node_table.indices, lent.node_table.bits),
+        room_of(lent.output_table.indices, lent.output_table.bits),
+        lent.locks.len(),
     )
 }
 
-pub fn admission_number(
-    inputs: u32,
-    nodes: u32,
-    outputs: u32,
-    node_table: &[u32],
-    node_bits: &[u64],
-    output_table: &[u32],
-    output_bits: &[u64],
-    locks: &[u8],
-) -> u32
-    ensures { result ≡ admission_number (graph_in inputs nodes outputs node_table.now node_bits.now output_table.now output_bits.now) locks.now }
+pub fn admission_number(lent: &Lent) -> u32
+    ensures { result ≡ admission_number (lent_graph lent.now) lent.now.locks.now }
 {
-    let room = tables_number(
-        inputs,
-        nodes,
-        outputs,
-        node_table,
-        node_bits,
-        output_table,
-        output_bits,
-        locks,
-    );
+    let room = tables_number(lent);
     if room != 0 {
         return room;
     }
-    content_number(
-        inputs,
-        nodes,
-        outputs,
-        node_table,
-        node_bits,
-        output_table,
-        output_bits,
-        locks,
-    )
+    content_number(lent)
 }
 
 // The first of two faults; 0 is none.

@@ -4,7 +4,7 @@ ghost use Rattle.std.specs.Prelude.{◌≡◌, [], ◌∷◌};
 ghost use Rattle.graph.specs.Count.{C};
 ghost use Rattle.graph.specs.Admission.{admission_number};
 ghost use Rattle.graph.specs.Answer.{accepted, unless, admission_answer, count_answer};
-ghost use Rattle.graph.specs.Literals.{before, graph_before};
+ghost use Rattle.graph.specs.Tables.{lent_graph};
 
 pub mod decimal;
 pub mod edges;
@@ -12,6 +12,8 @@ pub mod faults;
 pub mod literal;
 pub mod signed;
 pub mod table;
+
+use table::Table;
 
 // Why a call is refused: the causes of document 01's table, in its order, then those of document 02.
 #[derive(Clone, Copy)]
@@ -37,6 +39,17 @@ pub enum Refusal {
     StagesDiffer,
 }
 
+// A graph as its owner lends it, with its locks.
+#[derive(Clone, Copy)]
+pub struct Lent<'a> {
+    pub inputs: u32,
+    pub nodes: u32,
+    pub outputs: u32,
+    pub node_table: Table<'a>,
+    pub output_table: Table<'a>,
+    pub locks: &'a [u8],
+}
+
 // What the admission check answers.
 #[derive(Clone, Copy)]
 pub enum Admission {
@@ -52,28 +65,10 @@ pub enum Count {
 }
 
 // Whether a graph in lent tables is one, with its locks, by its limits, its slices' lengths, its literals and its lock bytes, in that order.
-pub fn admit_graph(
-    inputs: u32,
-    nodes: u32,
-    outputs: u32,
-    node_table: &[u32],
-    node_bits: &[u64],
-    output_table: &[u32],
-    output_bits: &[u64],
-    locks: &[u8],
-) -> Admission
-    ensures { admission_answer result ≡ unless (admission_number (graph_before inputs nodes outputs node_table node_bits output_table output_bits) (before locks)) (accepted []) }
+pub fn admit_graph(lent: &Lent) -> Admission
+    ensures { admission_answer result ≡ unless (admission_number (lent_graph lent.now) lent.now.locks.now) (accepted []) }
 {
-    let k = faults::admission_number(
-        inputs,
-        nodes,
-        outputs,
-        node_table,
-        node_bits,
-        output_table,
-        output_bits,
-        locks,
-    );
+    let k = faults::admission_number(lent);
     if k != 0 {
         return Admission::Refused(faults::refused_by(k));
     }
@@ -81,38 +76,12 @@ pub fn admit_graph(
 }
 
 // How many edges are complemented: document 01's C.
-pub fn complemented_edges(
-    inputs: u32,
-    nodes: u32,
-    outputs: u32,
-    node_table: &[u32],
-    node_bits: &[u64],
-    output_table: &[u32],
-    output_bits: &[u64],
-    locks: &[u8],
-) -> Count
-    ensures { count_answer result ≡ unless (admission_number (graph_before inputs nodes outputs node_table node_bits output_table output_bits) (before locks)) (accepted (C (graph_before inputs nodes outputs node_table node_bits output_table output_bits) ∷ [])) }
+pub fn complemented_edges(lent: &Lent) -> Count
+    ensures { count_answer result ≡ unless (admission_number (lent_graph lent.now) lent.now.locks.now) (accepted (C (lent_graph lent.now) ∷ [])) }
 {
-    let k = faults::admission_number(
-        inputs,
-        nodes,
-        outputs,
-        node_table,
-        node_bits,
-        output_table,
-        output_bits,
-        locks,
-    );
+    let k = faults::admission_number(lent);
     if k != 0 {
         return Count::Refused(faults::refused_by(k));
     }
-    Count::Edges(edges::complemented(
-        inputs,
-        nodes,
-        outputs,
-        node_table,
-        node_bits,
-        output_table,
-        output_bits,
-    ))
+    Count::Edges(edges::complemented(lent))
 }

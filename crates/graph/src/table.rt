@@ -6,6 +6,7 @@ ghost use Rattle.graph.specs.Graph.{index, mark};
 ghost use Rattle.graph.specs.Inner.{Names, IsWord, Readable, Turnable, three_turns, three_bits, Twelve, Thirds, begun, word_put, words_put, BitPut};
 ghost use Rattle.graph.specs.Literals.{bit, bit_at, index_at, literal_of, literals, held, bit_of, words_for, strays, ones_in, filled};
 ghost use Rattle.graph.specs.Turned.{turned_table, only};
+ghost use Rattle.graph.specs.Tables.{lent_table};
 
 use crate::literal::MARK;
 
@@ -19,6 +20,89 @@ pub fn room_of(table: &[u32], bits: &[u64]) -> usize
         return 64 * words;
     }
     places
+}
+
+// Literals as they are lent: indices in one slice, and their complement bits in words of 64 beside it.
+#[derive(Clone, Copy)]
+pub struct Table<'a> {
+    pub indices: &'a [u32],
+    pub bits: &'a [u64],
+}
+
+impl Table<'_> {
+    // The same where there is a bit too, as what it says of the table.
+    pub fn index_at(&self, j: usize) -> u32
+        requires { j < held (lent_table self.now) }
+        ensures { Names (slice_index (lent_table self.now) j) result }
+    {
+        raw_at(self.indices, j)
+    }
+
+    // Whether the mark stands there, and no literal.
+    pub fn is_mark_at(&self, j: usize) -> bool
+        requires { (j < held (lent_table self.now)) × IsWord (slice_index (lent_table self.now) j) }
+        ensures { result ≡ (slice_index (lent_table self.now) j == mark) }
+    {
+        raw_at(self.indices, j) == MARK
+    }
+
+    // The bit of what stands there, 0 at a mark: no index is looked at.
+    pub fn odd_at(&self, j: usize) -> u32
+        requires { j < held (lent_table self.now) }
+        ensures { (result ≡ bit_of (slice_index (lent_table self.now) j)) × (result ≤ 1) }
+    {
+        bit_at(self.bits, j)
+    }
+
+    // The literal there, or the mark.
+    pub fn word_at(&self, j: usize) -> u32
+        requires { (j < held (lent_table self.now)) × (slice_index (lent_table self.now) j < 4294967296) }
+        ensures { result ≡ slice_index (lent_table self.now) j }
+    {
+        joined(raw_at(self.indices, j), bit_at(self.bits, j))
+    }
+
+    // The same where it is no mark.
+    pub fn edge_at(&self, j: usize) -> u32
+        requires { (j < held (lent_table self.now)) × (index (slice_index (lent_table self.now) j) < 2147483647) }
+        ensures { result ≡ slice_index (lent_table self.now) j }
+    {
+        2 * raw_at(self.indices, j) + bit_at(self.bits, j)
+    }
+
+    // The bits of the words of node v, the first lowest: by one shift, unless they lie in two words of bits.
+    pub fn three_at(&self, v: usize) -> u32
+        requires { Readable (lent_table self.now) v }
+        ensures { result ≡ three_bits (lent_table self.now) v }
+    {
+        let at = 3 * v;
+        if at % 64 < 62 {
+            return ((self.bits[at / 64] >> (at % 64)) % 8) as u32;
+        }
+        bit_at(self.bits, at) + 2 * bit_at(self.bits, at + 1) + 4 * bit_at(self.bits, at + 2)
+    }
+
+    // The same of four nodes, those of node v lowest.
+    pub fn twelve_at(&self, v: usize) -> u32
+        requires { let l = lent_table self.now in
+            Readable l v × Readable l (v + 1) × Readable l (v + 2) × Readable l (v + 3) }
+        ensures { Twelve (lent_table self.now) v result }
+    {
+        let at = 3 * v;
+        if at % 64 < 53 {
+            return ((self.bits[at / 64] >> (at % 64)) % 4096) as u32;
+        }
+        let low = self.three_at(v) + 8 * self.three_at(v + 1);
+        low + 64 * self.three_at(v + 2) + 512 * self.three_at(v + 3)
+    }
+
+    // Word k of node v, whose words have these bits.
+    pub fn word_of(&self, v: usize, k: usize, three: u32) -> u32
+        requires { Readable (lent_table self.now) v × (k ≤ 2) × (three ≡ three_bits (lent_table self.now) v) }
+        ensures { result ≡ slice_index (lent_table self.now) (3 * v + k) }
+    {
+        joined(raw_at(self.indices, 3 * v + k), (three >> k) % 2)
+    }
 }
 
 // How many words the bits of n places take.
@@ -56,10 +140,8 @@ pub fn ones_in(words: usize, bits: &[u64]) -> u32
     ensures { (result ≡ ones_in words bits.now) × (result ≡ sum (64 * words) (bit_at bits.now)) × (result ≤ 64 * words) }
 {
     let mut c: u32 = 0;
-    let mut k: usize = 0;
-    while k < words {
+    for k in 0..words {
         c += u64::count_ones(bits[k]);
-        k += 1;
     }
     c
 }
@@ -118,80 +200,6 @@ pub fn raw_at(table: &[u32], j: usize) -> u32
     ensures { result ≡ index_at table.now j }
 {
     table[j]
-}
-
-// The same where there is a bit too, as what it says of the table.
-pub fn index_at(table: &[u32], bits: &[u64], j: usize) -> u32
-    requires { j < held (literals table.now bits.now) }
-    ensures { Names (slice_index (literals table.now bits.now) j) result }
-{
-    raw_at(table, j)
-}
-
-// Whether the mark stands there, and no literal.
-pub fn is_mark_at(table: &[u32], bits: &[u64], j: usize) -> bool
-    requires { (j < held (literals table.now bits.now)) × IsWord (slice_index (literals table.now bits.now) j) }
-    ensures { result ≡ (slice_index (literals table.now bits.now) j == mark) }
-{
-    raw_at(table, j) == MARK
-}
-
-// The bit of what stands there, 0 at a mark: no index is looked at.
-pub fn odd_at(table: &[u32], bits: &[u64], j: usize) -> u32
-    requires { j < held (literals table.now bits.now) }
-    ensures { (result ≡ bit_of (slice_index (literals table.now bits.now) j)) × (result ≤ 1) }
-{
-    bit_at(bits, j)
-}
-
-// The literal there, or the mark.
-pub fn word_at(table: &[u32], bits: &[u64], j: usize) -> u32
-    requires { (j < held (literals table.now bits.now)) × (slice_index (literals table.now bits.now) j < 4294967296) }
-    ensures { result ≡ slice_index (literals table.now bits.now) j }
-{
-    joined(raw_at(table, j), bit_at(bits, j))
-}
-
-// The same where it is no mark.
-pub fn edge_at(table: &[u32], bits: &[u64], j: usize) -> u32
-    requires { (j < held (literals table.now bits.now)) × (index (slice_index (literals table.now bits.now) j) < 2147483647) }
-    ensures { result ≡ slice_index (literals table.now bits.now) j }
-{
-    2 * raw_at(table, j) + bit_at(bits, j)
-}
-
-// The bits of the words of node v, the first lowest: by one shift, unless they lie in two words of bits.
-pub fn three_at(table: &[u32], bits: &[u64], v: usize) -> u32
-    requires { Readable (literals table.now bits.now) v }
-    ensures { result ≡ three_bits (literals table.now bits.now) v }
-{
-    let at = 3 * v;
-    if at % 64 < 62 {
-        return ((bits[at / 64] >> (at % 64)) % 8) as u32;
-    }
-    bit_at(bits, at) + 2 * bit_at(bits, at + 1) + 4 * bit_at(bits, at + 2)
-}
-
-// The same of four nodes, those of node v lowest.
-pub fn twelve_at(table: &[u32], bits: &[u64], v: usize) -> u32
-    requires { let l = literals table.now bits.now in
-        Readable l v × Readable l (v + 1) × Readable l (v + 2) × Readable l (v + 3) }
-    ensures { Twelve (literals table.now bits.now) v result }
-{
-    let at = 3 * v;
-    if at % 64 < 53 {
-        return ((bits[at / 64] >> (at % 64)) % 4096) as u32;
-    }
-    let low = three_at(table, bits, v) + 8 * three_at(table, bits, v + 1);
-    low + 64 * three_at(table, bits, v + 2) + 512 * three_at(table, bits, v + 3)
-}
-
-// Word k of node v, whose words have these bits.
-pub fn word_of(table: &[u32], bits: &[u64], v: usize, k: usize, three: u32) -> u32
-    requires { Readable (literals table.now bits.now) v × (k ≤ 2) × (three ≡ three_bits (literals table.now bits.now) v) }
-    ensures { result ≡ slice_index (literals table.now bits.now) (3 * v + k) }
-{
-    joined(raw_at(table, 3 * v + k), (three >> k) % 2)
 }
 
 // Turns it t times. What is turned names an index below the mark's. Whether anything is turned is not tested: a sweep in which it cannot be
@@ -342,10 +350,8 @@ fn copy_indices(n: usize, table: &[u32], to: &mut [u32])
     requires { (n ≤ length table.now) × (n ≤ length to.old) }
     ensures { to.new ≡ tab n (λ j. slice_index table.now j) ++ drop n to.old }
 {
-    let mut j: usize = 0;
-    while j < n {
+    for j in 0..n {
         to[j] = table[j];
-        j += 1;
     }
 }
 
@@ -354,29 +360,21 @@ fn copy_bits(n: usize, bits: &[u64], to: &mut [u64])
     requires { (n ≤ length bits.now) × (n ≤ length to.old) }
     ensures { to.new ≡ tab n (λ j. slice_index bits.now j) ++ drop n to.old }
 {
-    let mut j: usize = 0;
-    while j < n {
+    for j in 0..n {
         to[j] = bits[j];
-        j += 1;
     }
 }
 
 // Copies what stands at the places of the first so many words of bits.
-pub fn copy_words(
-    words: usize,
-    table: &[u32],
-    bits: &[u64],
-    to_table: &mut [u32],
-    to_bits: &mut [u64],
-)
+pub fn copy_words(words: usize, table: &Table, to_table: &mut [u32], to_bits: &mut [u64])
     requires { let room = held (literals to_table.old to_bits.old) in
-        (words ≤ 100000) × (64 * words ≤ held (literals table.now bits.now)) × (64 * words ≤ room) }
-    ensures { let l = literals table.now bits.now in
+        (words ≤ 100000) × (64 * words ≤ held (lent_table table.now)) × (64 * words ≤ room) }
+    ensures { let l = lent_table table.now in
         let before = literals to_table.old to_bits.old in
         literals to_table.new to_bits.new ≡ filled (tab (64 * words) (λ j. slice_index l j)) before }
 {
-    copy_indices(64 * words, table, to_table);
-    copy_bits(words, bits, to_bits);
+    copy_indices(64 * words, table.indices, to_table);
+    copy_bits(words, table.bits, to_bits);
 }
 
 // The byte at place k of a slice of bytes, as a word.

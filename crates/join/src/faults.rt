@@ -1,69 +1,38 @@
 // Which number refuses a join, 0 being none.
 ghost use Rattle.std.specs.Prelude.{◌≡◌};
-ghost use Rattle.graph.specs.Literals.{before, graph_before};
 ghost use Rattle.join.specs.Join.{join_number};
+ghost use Rattle.graph.specs.Tables.{lent_graph};
 
+use graph::Lent;
 use graph::faults::{admission_number, room_number};
 
 // The first graph whole, the second whole, the edges that meet, then the limits and slices of the joined graph.
 pub fn join_number(
-    inputs: u32,
-    nodes: u32,
-    outputs: u32,
-    node_table: &[u32],
-    node_bits: &[u64],
-    output_table: &[u32],
-    output_bits: &[u64],
-    locks: &[u8],
-    second_inputs: u32,
-    second_nodes: u32,
-    second_outputs: u32,
-    second_node_table: &[u32],
-    second_node_bits: &[u64],
-    second_output_table: &[u32],
-    second_output_bits: &[u64],
-    second_locks: &[u8],
+    first: &Lent,
+    second: &Lent,
     node_room: usize,
     output_room: usize,
     lock_room: usize,
 ) -> u32
-    ensures { let g = graph_before inputs nodes outputs node_table node_bits output_table output_bits in
-        let h = graph_before second_inputs second_nodes second_outputs second_node_table second_node_bits second_output_table second_output_bits in
-        result ≡ join_number g (before locks) h (before second_locks) node_room output_room lock_room }
+    ensures { let g = lent_graph first.now in
+        let h = lent_graph second.now in
+        result ≡ join_number g first.now.locks.now h second.now.locks.now node_room output_room lock_room }
 {
-    let first = admission_number(
-        inputs,
-        nodes,
-        outputs,
-        node_table,
-        node_bits,
-        output_table,
-        output_bits,
-        locks,
-    );
-    if first != 0 {
-        return first;
+    let one = admission_number(first);
+    if one != 0 {
+        return one;
     }
-    let second = admission_number(
-        second_inputs,
-        second_nodes,
-        second_outputs,
-        second_node_table,
-        second_node_bits,
-        second_output_table,
-        second_output_bits,
-        second_locks,
-    );
-    if second != 0 {
-        return second;
+    let other = admission_number(second);
+    if other != 0 {
+        return other;
     }
-    if outputs != second_inputs {
+    if first.outputs != second.inputs {
         return 19;
     }
     room_number(
-        inputs,
-        nodes + second_nodes,
-        second_outputs,
+        first.inputs,
+        first.nodes + second.nodes,
+        second.outputs,
         node_room,
         output_room,
         lock_room,

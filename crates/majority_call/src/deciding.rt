@@ -9,6 +9,7 @@ ghost use Rattle.hidden.specs.Call.{majority_answer, majority_outcome};
 ghost use Rattle.hidden.specs.Inner.{Rising};
 
 use crate::{making, valuing};
+use graph::table::Table;
 use hidden::Majority;
 use moves::words::wide;
 use trees::fields::clear;
@@ -34,7 +35,17 @@ pub fn decide(
     clear(wide(nodes), scratch);
     let v = wide(node - inputs - 1);
     let byte = valuing::truth(
-        inputs, nodes, node_table, node_bits, scratch, one, two, three, v,
+        inputs,
+        nodes,
+        &Table {
+            indices: node_table,
+            bits: node_bits,
+        },
+        scratch,
+        one,
+        two,
+        three,
+        v,
     );
     if byte == valuing::LEAK {
         return Majority::NotCovered;

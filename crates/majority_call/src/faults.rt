@@ -1,9 +1,10 @@
 // Which of the numbers 3, 4, 5, 13, 7, 16 and 8 refuses a majority call; 0 is none.
 ghost use Rattle.std.specs.Prelude.{◌≡◌};
-ghost use Rattle.graph.specs.Literals.{graph_in};
 ghost use Rattle.hidden.specs.Truth.{triple};
 ghost use Rattle.hidden.specs.Call.{triple_fault, majority_number};
+ghost use Rattle.graph.specs.Tables.{lent_graph};
 
+use graph::Lent;
 use graph::faults::{admission_number, first_fault};
 use moves::faults::{locked_fault, node_fault};
 use tree_call::faults::scratch_fault;
@@ -27,38 +28,15 @@ fn triple_fault(one: u32, two: u32, three: u32, node: u32) -> u32
     0
 }
 
-pub fn majority_number(
-    inputs: u32,
-    nodes: u32,
-    outputs: u32,
-    node_table: &[u32],
-    node_bits: &[u64],
-    output_table: &[u32],
-    output_bits: &[u64],
-    locks: &[u8],
-    node: u32,
-    one: u32,
-    two: u32,
-    three: u32,
-    length: usize,
-) -> u32
-    ensures { let g = graph_in inputs nodes outputs node_table.now node_bits.now output_table.now output_bits.now in
-        result ≡ majority_number g locks.now length (triple one two three) node }
+pub fn majority_number(lent: &Lent, node: u32, one: u32, two: u32, three: u32, length: usize) -> u32
+    ensures { let g = lent_graph lent.now in
+        result ≡ majority_number g lent.now.locks.now length (triple one two three) node }
 {
-    let admission = admission_number(
-        inputs,
-        nodes,
-        outputs,
-        node_table,
-        node_bits,
-        output_table,
-        output_bits,
-        locks,
-    );
+    let admission = admission_number(lent);
     if admission != 0 {
         return admission;
     }
-    let index = node_fault(inputs, nodes, node);
+    let index = node_fault(lent.inputs, lent.nodes, node);
     if index != 0 {
         return index;
     }
@@ -66,7 +44,7 @@ pub fn majority_number(
     if named != 0 {
         return named;
     }
-    let lock = locked_fault(locks[(node - inputs - 1) as usize], 1);
-    let room = scratch_fault(nodes, length);
+    let lock = locked_fault(lent.locks[(node - lent.inputs - 1) as usize], 1);
+    let room = scratch_fault(lent.nodes, length);
     first_fault(lock, room)
 }

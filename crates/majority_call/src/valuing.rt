@@ -3,15 +3,15 @@
 ghost use Rattle.std.specs.Prelude.{◌≡◌, ◌+◌, ◌-◌, ◌*◌, ◌/◌, ◌≤◌, ◌<◌, length, cond, false};
 ghost use Rattle.state.specs.State.{field};
 ghost use Rattle.graph.specs.Admission.{Admitted};
-ghost use Rattle.graph.specs.Literals.{literals};
 ghost use Rattle.evaluation.specs.Inner.{nodes_of};
 ghost use Rattle.hidden.specs.Truth.{triple};
 ghost use Rattle.hidden.specs.Ways.{Misses};
 ghost use Rattle.majority_call.specs.Valuing.{is_valued, kept_at, known_at, exclusive_of, voted_of, Looked, Asked, Stored4, Valued, Truth};
+ghost use Rattle.graph.specs.Tables.{lent_table};
 
 use crate::bytes;
 use graph::literal::{MARK, index_of};
-use graph::table::{edge_at, word_at};
+use graph::table::Table;
 use moves::words::{narrow, wide};
 use trees::fields::{read, store};
 
@@ -140,24 +140,23 @@ fn majority_of(a: u32, b: u32, c: u32, x: u32, y: u32, z: u32) -> u32
 fn look(
     inputs: u32,
     nodes: u32,
-    node_table: &[u32],
-    node_bits: &[u64],
+    node_table: &Table,
     scratch: &[u32],
     one: u32,
     two: u32,
     three: u32,
     v: usize,
 ) -> u32
-    requires { let g = nodes_of inputs nodes (literals node_table.now node_bits.now) in
+    requires { let g = nodes_of inputs nodes (lent_table node_table.now) in
         let t = triple one two three in
         Admitted g × (8 * nodes ≤ length scratch.now) × (v < nodes) × Asked g scratch.now t × Misses t (inputs + 1 + v) }
-    ensures { let g = nodes_of inputs nodes (literals node_table.now node_bits.now) in
+    ensures { let g = nodes_of inputs nodes (lent_table node_table.now) in
         Looked g scratch.now (triple one two three) v result }
 {
     let at = 3 * v;
-    let third = word_at(node_table, node_bits, at + 2);
-    let x = edge_at(node_table, node_bits, at);
-    let y = edge_at(node_table, node_bits, at + 1);
+    let third = node_table.word_at(at + 2);
+    let x = node_table.edge_at(at);
+    let y = node_table.edge_at(at + 1);
     let a = known_at(inputs, scratch, one, two, three, index_of(x));
     let b = known_at(inputs, scratch, one, two, three, index_of(y));
     if third == MARK {
@@ -182,31 +181,26 @@ fn keep(scratch: &mut [u32], one: u32, two: u32, three: u32, v: usize, value: u3
 fn value_one(
     inputs: u32,
     nodes: u32,
-    node_table: &[u32],
-    node_bits: &[u64],
+    node_table: &Table,
     scratch: &mut [u32],
     one: u32,
     two: u32,
     three: u32,
     start: usize,
 ) -> usize
-    requires { let g = nodes_of inputs nodes (literals node_table.now node_bits.now) in
+    requires { let g = nodes_of inputs nodes (lent_table node_table.now) in
         let t = triple one two three in
         Admitted g × (8 * nodes ≤ length scratch.old) × (start < nodes) × Asked g scratch.old t × Misses t (inputs + 1 + start) × (is_valued scratch.old t start ≡ false) }
-    ensures { let g = nodes_of inputs nodes (literals node_table.now node_bits.now) in
+    ensures { let g = nodes_of inputs nodes (lent_table node_table.now) in
         Valued g (triple one two three) start result scratch.old scratch.new }
 {
     let mut v = start;
-    let mut seen = look(
-        inputs, nodes, node_table, node_bits, scratch, one, two, three, v,
-    );
+    let mut seen = look(inputs, nodes, node_table, scratch, one, two, three, v);
     while UNKNOWN <= seen {
         let next = (seen - UNKNOWN - inputs - 1) as usize;
         store(scratch, next, 1, narrow(v));
         v = next;
-        seen = look(
-            inputs, nodes, node_table, node_bits, scratch, one, two, three, v,
-        );
+        seen = look(inputs, nodes, node_table, scratch, one, two, three, v);
     }
     keep(scratch, one, two, three, v, seen);
     v
@@ -216,31 +210,26 @@ fn value_one(
 pub fn truth(
     inputs: u32,
     nodes: u32,
-    node_table: &[u32],
-    node_bits: &[u64],
+    node_table: &Table,
     scratch: &mut [u32],
     one: u32,
     two: u32,
     three: u32,
     u: usize,
 ) -> u32
-    requires { let g = nodes_of inputs nodes (literals node_table.now node_bits.now) in
+    requires { let g = nodes_of inputs nodes (lent_table node_table.now) in
         let t = triple one two three in
         Admitted g × (8 * nodes ≤ length scratch.old) × (u < nodes) × Asked g scratch.old t × (three < inputs + 1 + u) }
-    ensures { let g = nodes_of inputs nodes (literals node_table.now node_bits.now) in
+    ensures { let g = nodes_of inputs nodes (lent_table node_table.now) in
         Truth g (triple one two three) u result scratch.old scratch.new }
 {
     if is_valued(scratch, one, two, three, u) {
         return read(scratch, u, 5);
     }
-    let mut v = value_one(
-        inputs, nodes, node_table, node_bits, scratch, one, two, three, u,
-    );
+    let mut v = value_one(inputs, nodes, node_table, scratch, one, two, three, u);
     while v != u {
         let p = wide(read(scratch, v, 1));
-        v = value_one(
-            inputs, nodes, node_table, node_bits, scratch, one, two, three, p,
-        );
+        v = value_one(inputs, nodes, node_table, scratch, one, two, three, p);
     }
     read(scratch, u, 5)
 }

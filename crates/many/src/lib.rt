@@ -11,19 +11,21 @@ mod faults;
 pub mod making;
 mod walk;
 
+use graph::Lent;
+use graph::table::Table;
 use moves::Gain;
 
 // Entry k is the node list[k] with the move bytes[k]; bytes past the list are not read. The whole list is tested before a word is
 // turned.
-pub fn many(
+pub fn many<'x>(
     inputs: u32,
     nodes: u32,
     outputs: u32,
-    node_table: &[u32],
-    node_bits: &mut [u64],
-    output_table: &[u32],
-    output_bits: &mut [u64],
-    locks: &[u8],
+    node_table: &'x [u32],
+    node_bits: &'x mut [u64],
+    output_table: &'x [u32],
+    output_bits: &'x mut [u64],
+    locks: &'x [u8],
     list: &[u32],
     bytes: &[u8],
 ) -> Gain
@@ -31,18 +33,21 @@ pub fn many(
         let h = graph_in inputs nodes outputs node_table.now node_bits.new output_table.now output_bits.new in
         outcome (gain_answer result) h ≡ many_call g locks.now list.now bytes.now }
 {
-    let number = faults::many_number(
+    let lent = Lent {
         inputs,
         nodes,
         outputs,
-        node_table,
-        node_bits,
-        output_table,
-        output_bits,
+        node_table: Table {
+            indices: node_table,
+            bits: node_bits,
+        },
+        output_table: Table {
+            indices: output_table,
+            bits: output_bits,
+        },
         locks,
-        list,
-        bytes,
-    );
+    };
+    let number = faults::many_number(&lent, list, bytes);
     if number != 0 {
         return Gain::Refused(graph::faults::refused_by(number));
     }

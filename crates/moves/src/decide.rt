@@ -265,10 +265,8 @@ pub fn best_numbered(named: NodeNumbers, node: NodeNumbers, which: [u32; 3]) -> 
     let all = named.moves * node.moves;
     let saving = saving_numbered(named, node, which, 0);
     let mut best = Combination { number: 0, saving };
-    let mut c: u32 = 1;
-    while c < all {
+    for c in 1..all {
         best = if_more(named, node, which, best, c);
-        c += 1;
     }
     best
 }

@@ -3,12 +3,13 @@ ghost use Rattle.std.specs.Prelude.{◌≡◌, ℕ, ◌+◌, ◌<◌, ◌≤◌,
 ghost use Rattle.graph.specs.Finite.{if_less, if_equal};
 ghost use Rattle.graph.specs.Graph.{graph_of};
 ghost use Rattle.graph.specs.Inner.{Readable};
-ghost use Rattle.graph.specs.Literals.{literals};
 ghost use Rattle.moves.specs.Rows.{arity};
 ghost use Rattle.moves.specs.Call.{node_fault, move_number};
+ghost use Rattle.graph.specs.Tables.{lent_table};
 
 use crate::rows;
 use graph::faults::first_fault;
+use graph::table::Table;
 
 pub fn node_fault(inputs: u32, nodes: u32, node: u32) -> u32
     requires { (inputs ≤ 4096) × (nodes ≤ 100000) }
@@ -53,12 +54,12 @@ pub fn locked_fault(lock: u8, m: u32) -> u32
 }
 
 // Which of both refuses move m at node v, counted from 0; 0 is none.
-pub fn move_number(node_table: &[u32], node_bits: &[u64], locks: &[u8], v: usize, m: u32) -> u32
-    requires { Readable (literals node_table.now node_bits.now) v × (v < length locks.now) }
-    ensures { let ns = literals node_table.now node_bits.now in
+pub fn move_number(node_table: &Table, locks: &[u8], v: usize, m: u32) -> u32
+    requires { Readable (lent_table node_table.now) v × (v < length locks.now) }
+    ensures { let ns = lent_table node_table.now in
         ((i n o : ℕ) (os : List ℕ) → v < n → result ≡ move_number (graph_of i n o ns os) locks.now (i + 1 + v) m) }
 {
-    let lacked = move_fault(rows::is_xor(node_table, node_bits, v), m);
+    let lacked = move_fault(rows::is_xor(node_table, v), m);
     let locked = locked_fault(locks[v], m);
     first_fault(lacked, locked)
 }

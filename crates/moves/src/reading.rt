@@ -1,12 +1,14 @@
 // The readers of an index, and how many of them are complemented.
 ghost use Rattle.std.specs.Prelude.{◌≡◌, ◌+◌, ◌*◌, ◌<◌, ◌≤◌, length};
 ghost use Rattle.graph.specs.Admission.{Admitted};
-ghost use Rattle.graph.specs.Literals.{graph_in, held, literals};
+ghost use Rattle.graph.specs.Literals.{held};
 ghost use Rattle.moves.specs.Decide.{Tallied, Read, numbers_of};
+ghost use Rattle.graph.specs.Tables.{lent_graph, lent_table};
 
 use crate::decide::NodeNumbers;
 use crate::{rows, words};
-use graph::table;
+use graph::table::Table;
+use graph::{Lent, table};
 
 // How many words of a table name an index, and how many of these are complemented.
 #[derive(Clone, Copy)]
@@ -24,50 +26,39 @@ pub struct Readers {
 }
 
 // A tally of the words before place j, with the word there: its bit is looked at only where it names the index.
-fn tally_at(table: &[u32], bits: &[u64], j: usize, u: u32, t: Tally) -> Tally
-    requires { let l = literals table.now bits.now in
+fn tally_at(table: &Table, j: usize, u: u32, t: Tally) -> Tally
+    requires { let l = lent_table table.now in
         (j < held l) × (j < 300000) × (u < 2147483647) × Tallied l j u t.count t.odd }
-    ensures { Tallied (literals table.now bits.now) (j + 1) u result.count result.odd }
+    ensures { Tallied (lent_table table.now) (j + 1) u result.count result.odd }
 {
-    if table::index_at(table, bits, j) == u {
+    if table.index_at(j) == u {
         return Tally {
             count: t.count + 1,
-            odd: t.odd + table::odd_at(table, bits, j),
+            odd: t.odd + table.odd_at(j),
         };
     }
     t
 }
 
-pub fn count_names(table: &[u32], bits: &[u64], n: usize, u: u32) -> Tally
-    requires { (n ≤ held (literals table.now bits.now)) × (n ≤ 300000) × (u < 2147483647) }
-    ensures { Tallied (literals table.now bits.now) n u result.count result.odd }
+pub fn count_names(table: &Table, n: usize, u: u32) -> Tally
+    requires { (n ≤ held (lent_table table.now)) × (n ≤ 300000) × (u < 2147483647) }
+    ensures { Tallied (lent_table table.now) n u result.count result.odd }
 {
     let mut t = Tally { count: 0, odd: 0 };
-    let mut j: usize = 0;
-    while j < n {
-        t = tally_at(table, bits, j, u, t);
-        j += 1;
+    for j in 0..n {
+        t = tally_at(table, j, u, t);
     }
     t
 }
 
-pub fn readers_of(
-    inputs: u32,
-    nodes: u32,
-    outputs: u32,
-    node_table: &[u32],
-    node_bits: &[u64],
-    output_table: &[u32],
-    output_bits: &[u64],
-    u: u32,
-) -> Readers
-    requires { let ns = literals node_table.now node_bits.now in
-        let os = literals output_table.now output_bits.now in
-        (nodes ≤ 100000) × (outputs ≤ 4096) × (3 * nodes ≤ held ns) × (outputs ≤ held os) × (u < 2147483647) }
-    ensures { Read (graph_in inputs nodes outputs node_table.now node_bits.now output_table.now output_bits.now) u result.all result.in_nodes result.odd }
+pub fn readers_of(lent: &Lent, u: u32) -> Readers
+    requires { let ns = lent_table lent.now.node_table in
+        let os = lent_table lent.now.output_table in
+        (lent.now.nodes ≤ 100000) × (lent.now.outputs ≤ 4096) × (3 * lent.now.nodes ≤ held ns) × (lent.now.outputs ≤ held os) × (u < 2147483647) }
+    ensures { Read (lent_graph lent.now) u result.all result.in_nodes result.odd }
 {
-    let a = count_names(node_table, node_bits, 3 * nodes as usize, u);
-    let b = count_names(output_table, output_bits, outputs as usize, u);
+    let a = count_names(&lent.node_table, 3 * lent.nodes as usize, u);
+    let b = count_names(&lent.output_table, lent.outputs as usize, u);
     Readers {
         all: a.count + b.count,
         in_nodes: a.count,
@@ -76,35 +67,16 @@ pub fn readers_of(
 }
 
 // The numbers of node v.
-pub fn numbers_of(
-    inputs: u32,
-    nodes: u32,
-    outputs: u32,
-    node_table: &[u32],
-    node_bits: &[u64],
-    output_table: &[u32],
-    output_bits: &[u64],
-    locks: &[u8],
-    v: u32,
-) -> NodeNumbers
-    requires { Admitted (graph_in inputs nodes outputs node_table.now node_bits.now output_table.now output_bits.now) × (v < nodes) × (nodes ≤ length locks.now) }
-    ensures { result ≡ numbers_of (graph_in inputs nodes outputs node_table.now node_bits.now output_table.now output_bits.now) locks.now v }
+pub fn numbers_of(lent: &Lent, v: u32) -> NodeNumbers
+    requires { Admitted (lent_graph lent.now) × (v < lent.now.nodes) × (lent.now.nodes ≤ length lent.now.locks.now) }
+    ensures { result ≡ numbers_of (lent_graph lent.now) lent.now.locks.now v }
 {
     let at = v as usize;
-    let all = readers_of(
-        inputs,
-        nodes,
-        outputs,
-        node_table,
-        node_bits,
-        output_table,
-        output_bits,
-        inputs + 1 + v,
-    );
+    let all = readers_of(lent, lent.inputs + 1 + v);
     NodeNumbers {
-        xor: rows::is_xor(node_table, node_bits, at),
-        moves: rows::moves_at(node_table, node_bits, locks, at),
-        costs: words::own_costs(node_table, node_bits, at),
+        xor: rows::is_xor(&lent.node_table, at),
+        moves: rows::moves_at(&lent.node_table, lent.locks, at),
+        costs: words::own_costs(&lent.node_table, at),
         readers: all.all,
         odd: all.odd,
     }

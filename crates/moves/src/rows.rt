@@ -2,10 +2,11 @@
 ghost use Rattle.std.specs.Prelude.{◌≡◌, ℕ, ◌+◌, ◌<◌, ◌≤◌, List, [], length, slice_index, slice_index_or};
 ghost use Rattle.graph.specs.Graph.{graph_of, is_xor};
 ghost use Rattle.graph.specs.Inner.{Readable};
-ghost use Rattle.graph.specs.Literals.{literals};
 ghost use Rattle.moves.specs.Rows.{rows, first_row, arity, flag, moves_at};
+ghost use Rattle.graph.specs.Tables.{lent_table};
 
 use graph::table;
+use graph::table::Table;
 
 // Whether words 1 to 3, and every reader, are turned: a majority's two rows, then an XOR's four.
 const ROWS: [[u32; 4]; 6] = [
@@ -25,24 +26,24 @@ pub fn row_flag(row: usize, k: usize) -> u32
 }
 
 // A third word that is the mark makes an XOR.
-pub fn is_xor(node_table: &[u32], node_bits: &[u64], v: usize) -> bool
-    requires { Readable (literals node_table.now node_bits.now) v }
-    ensures { (i n o : ℕ) (os : List ℕ) → result ≡ is_xor (graph_of i n o (literals node_table.now node_bits.now) os) v }
+pub fn is_xor(node_table: &Table, v: usize) -> bool
+    requires { Readable (lent_table node_table.now) v }
+    ensures { (i n o : ℕ) (os : List ℕ) → result ≡ is_xor (graph_of i n o (lent_table node_table.now) os) v }
 {
     let at = 3 * v + 2;
-    table::is_mark_at(node_table, node_bits, at)
+    node_table.is_mark_at(at)
 }
 
 // How many moves node v has: one where it is locked.
-pub fn moves_at(node_table: &[u32], node_bits: &[u64], locks: &[u8], v: usize) -> u32
-    requires { Readable (literals node_table.now node_bits.now) v × (v < length locks.now) }
-    ensures { let ns = literals node_table.now node_bits.now in
+pub fn moves_at(node_table: &Table, locks: &[u8], v: usize) -> u32
+    requires { Readable (lent_table node_table.now) v × (v < length locks.now) }
+    ensures { let ns = lent_table node_table.now in
         ((i n o : ℕ) (os : List ℕ) → v < n → result ≡ moves_at (graph_of i n o ns os) locks.now (i + 1 + v)) }
 {
     if locks[v] == 1 {
         return 1;
     }
-    if is_xor(node_table, node_bits, v) {
+    if is_xor(node_table, v) {
         return 4;
     }
     2

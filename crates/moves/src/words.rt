@@ -3,11 +3,13 @@ ghost use Rattle.std.specs.Prelude.{◌≡◌, ℕ, ◌+◌, ◌-◌, ◌<◌, �
 ghost use Rattle.graph.specs.Finite.{if_equal};
 ghost use Rattle.graph.specs.Graph.{graph_of, index};
 ghost use Rattle.graph.specs.Inner.{Readable};
-ghost use Rattle.graph.specs.Literals.{held, literals};
+ghost use Rattle.graph.specs.Literals.{held};
 ghost use Rattle.moves.specs.Decide.{bits_add, own_costs, naming};
+ghost use Rattle.graph.specs.Tables.{lent_table};
 
 use crate::rows;
 use graph::table;
+use graph::table::Table;
 
 // What words with the bits x, y and z add, each as it stands and turned. An XOR's third is the mark, which adds nothing.
 pub fn costs_of(x: u32, y: u32, z: u32, xor: bool) -> [u32; 6]
@@ -21,38 +23,38 @@ pub fn costs_of(x: u32, y: u32, z: u32, xor: bool) -> [u32; 6]
 }
 
 // What the words of node v add.
-pub fn own_costs(node_table: &[u32], node_bits: &[u64], v: usize) -> [u32; 6]
-    requires { Readable (literals node_table.now node_bits.now) v }
-    ensures { (i n o : ℕ) (os : List ℕ) → result ≡ own_costs (graph_of i n o (literals node_table.now node_bits.now) os) v }
+pub fn own_costs(node_table: &Table, v: usize) -> [u32; 6]
+    requires { Readable (lent_table node_table.now) v }
+    ensures { (i n o : ℕ) (os : List ℕ) → result ≡ own_costs (graph_of i n o (lent_table node_table.now) os) v }
 {
     let at = 3 * v;
-    let xor = rows::is_xor(node_table, node_bits, v);
-    let x = table::odd_at(node_table, node_bits, at);
-    let y = table::odd_at(node_table, node_bits, at + 1);
-    let z = table::odd_at(node_table, node_bits, at + 2);
+    let xor = rows::is_xor(node_table, v);
+    let x = node_table.odd_at(at);
+    let y = node_table.odd_at(at + 1);
+    let z = node_table.odd_at(at + 2);
     costs_of(x, y, z, xor)
 }
 
 // 1 where the word at place j names index u.
-pub fn names_at(table: &[u32], bits: &[u64], j: usize, u: u32) -> u32
-    requires { (j < held (literals table.now bits.now)) × (u < 2147483647) }
-    ensures { result ≡ if_equal (index (slice_index (literals table.now bits.now) j)) u 1 0 }
+pub fn names_at(table: &Table, j: usize, u: u32) -> u32
+    requires { (j < held (lent_table table.now)) × (u < 2147483647) }
+    ensures { result ≡ if_equal (index (slice_index (lent_table table.now) j)) u 1 0 }
 {
-    if table::index_at(table, bits, j) == u {
+    if table.index_at(j) == u {
         return 1;
     }
     0
 }
 
 // Which words of node v name index u.
-pub fn which_name(node_table: &[u32], node_bits: &[u64], v: usize, u: u32) -> [u32; 3]
-    requires { Readable (literals node_table.now node_bits.now) v × (u < 2147483647) }
-    ensures { (i n o : ℕ) (os : List ℕ) → result ≡ naming (graph_of i n o (literals node_table.now node_bits.now) os) v u }
+pub fn which_name(node_table: &Table, v: usize, u: u32) -> [u32; 3]
+    requires { Readable (lent_table node_table.now) v × (u < 2147483647) }
+    ensures { (i n o : ℕ) (os : List ℕ) → result ≡ naming (graph_of i n o (lent_table node_table.now) os) v u }
 {
     let at = 3 * v;
-    let x = names_at(node_table, node_bits, at, u);
-    let y = names_at(node_table, node_bits, at + 1, u);
-    let z = names_at(node_table, node_bits, at + 2, u);
+    let x = names_at(node_table, at, u);
+    let y = names_at(node_table, at + 1, u);
+    let z = names_at(node_table, at + 2, u);
     [x, y, z]
 }
 

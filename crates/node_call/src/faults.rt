@@ -3,42 +3,25 @@ ghost use Rattle.std.specs.Prelude.{◌≡◌, cond, ◌&&◌, List, ℕ, ◌+�
 ghost use Rattle.graph.specs.Finite.{first};
 ghost use Rattle.graph.specs.Graph.{graph_of};
 ghost use Rattle.graph.specs.Inner.{Readable};
-ghost use Rattle.graph.specs.Literals.{graph_in, literals};
 ghost use Rattle.moves.specs.Call.{is_node, move_number, node_number, pair_number, trial_number};
+ghost use Rattle.graph.specs.Tables.{lent_graph, lent_table};
 
 use crate::rewrite;
+use graph::Lent;
 use graph::faults::first_fault;
+use graph::table::Table;
 use moves::faults::move_number;
 use moves::rows;
 
-pub fn node_number(
-    inputs: u32,
-    nodes: u32,
-    outputs: u32,
-    node_table: &[u32],
-    node_bits: &[u64],
-    output_table: &[u32],
-    output_bits: &[u64],
-    locks: &[u8],
-    node: u32,
-) -> u32
-    ensures { let g = graph_in inputs nodes outputs node_table.now node_bits.now output_table.now output_bits.now in
-        result ≡ node_number g locks.now node }
+pub fn node_number(lent: &Lent, node: u32) -> u32
+    ensures { let g = lent_graph lent.now in
+        result ≡ node_number g lent.now.locks.now node }
 {
-    let number = graph::faults::admission_number(
-        inputs,
-        nodes,
-        outputs,
-        node_table,
-        node_bits,
-        output_table,
-        output_bits,
-        locks,
-    );
+    let number = graph::faults::admission_number(lent);
     if number != 0 {
         return number;
     }
-    moves::faults::node_fault(inputs, nodes, node)
+    moves::faults::node_fault(lent.inputs, lent.nodes, node)
 }
 
 // A majority has three words, an XOR two.
@@ -60,98 +43,52 @@ pub fn word_fault(xor: bool, word: u32) -> u32
     7
 }
 
-pub fn pair_number(
-    inputs: u32,
-    nodes: u32,
-    outputs: u32,
-    node_table: &[u32],
-    node_bits: &[u64],
-    output_table: &[u32],
-    output_bits: &[u64],
-    locks: &[u8],
-    node: u32,
-    word: u32,
-) -> u32
-    ensures { let g = graph_in inputs nodes outputs node_table.now node_bits.now output_table.now output_bits.now in
-        result ≡ pair_number g locks.now node word }
+pub fn pair_number(lent: &Lent, node: u32, word: u32) -> u32
+    ensures { let g = lent_graph lent.now in
+        result ≡ pair_number g lent.now.locks.now node word }
 {
-    let number = node_number(
-        inputs,
-        nodes,
-        outputs,
-        node_table,
-        node_bits,
-        output_table,
-        output_bits,
-        locks,
-        node,
-    );
+    let number = node_number(lent, node);
     if number != 0 {
         return number;
     }
-    let v = node - (inputs + 1);
-    word_fault(rows::is_xor(node_table, node_bits, v as usize), word)
+    let v = node - (lent.inputs + 1);
+    word_fault(rows::is_xor(&lent.node_table, v as usize), word)
 }
 
 // Of move a at the index `named`, where it is a node's, and then of move m at the node above it.
 pub fn moves_number(
     inputs: u32,
-    node_table: &[u32],
-    node_bits: &[u64],
+    node_table: &Table,
     locks: &[u8],
     named: u32,
     node: u32,
     a: u32,
     m: u32,
 ) -> u32
-    requires { let l = literals node_table.now node_bits.now in
+    requires { let l = lent_table node_table.now in
         (inputs < node) × (node ≤ 200000) × (named < node) × ((v : ℕ) → inputs + 1 + v ≤ node → Readable l v × (v < length locks.now)) }
-    ensures { let l = literals node_table.now node_bits.now in
+    ensures { let l = lent_table node_table.now in
         let ls = locks.now in
         ((n o : ℕ) (os : List ℕ) → node < inputs + 1 + n → let g = graph_of inputs n o l os in result ≡ first (cond (is_node g named) (move_number g ls named a) 0) (move_number g ls node m)) }
 {
     let v = node - (inputs + 1);
-    let own = move_number(node_table, node_bits, locks, v as usize, m);
+    let own = move_number(node_table, locks, v as usize, m);
     if named <= inputs {
         return own;
     }
     let p = named - (inputs + 1);
-    let below = move_number(node_table, node_bits, locks, p as usize, a);
+    let below = move_number(node_table, locks, p as usize, a);
     first_fault(below, own)
 }
 
-pub fn trial_number(
-    inputs: u32,
-    nodes: u32,
-    outputs: u32,
-    node_table: &[u32],
-    node_bits: &[u64],
-    output_table: &[u32],
-    output_bits: &[u64],
-    locks: &[u8],
-    node: u32,
-    word: u32,
-    a: u32,
-    m: u32,
-) -> u32
-    ensures { let g = graph_in inputs nodes outputs node_table.now node_bits.now output_table.now output_bits.now in
-        result ≡ trial_number g locks.now node word a m }
+pub fn trial_number(lent: &Lent, node: u32, word: u32, a: u32, m: u32) -> u32
+    ensures { let g = lent_graph lent.now in
+        result ≡ trial_number g lent.now.locks.now node word a m }
 {
-    let number = pair_number(
-        inputs,
-        nodes,
-        outputs,
-        node_table,
-        node_bits,
-        output_table,
-        output_bits,
-        locks,
-        node,
-        word,
-    );
+    let number = pair_number(lent, node, word);
     if number != 0 {
         return number;
     }
-    let named = rewrite::named_by(inputs, node_table, node_bits, node, word);
-    moves_number(inputs, node_table, node_bits, locks, named, node, a, m)
+    let named = rewrite::named_by(lent.inputs, &lent.node_table, node, word);
+    moves_number(lent.inputs, &lent.node_table, lent.locks, named, node, a, m)
 }

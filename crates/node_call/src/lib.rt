@@ -4,41 +4,48 @@ ghost use Rattle.std.specs.Prelude.{◌≡◌};
 ghost use Rattle.graph.specs.Answer.{outcome};
 ghost use Rattle.graph.specs.Literals.{graph_in};
 ghost use Rattle.moves.specs.Call.{saving_answer, node_call, pair_call, gain_answer, trial_call};
+ghost use Rattle.graph.specs.Tables.{lent_graph};
 
 mod faults;
 mod rewrite;
 mod trying;
 pub mod write;
 
+use graph::Lent;
+use graph::table::Table;
 use moves::{Gain, Saving};
 
 // The node call: the move of a node with the least C, the lowest number among equals.
-pub fn node_call(
+pub fn node_call<'x>(
     inputs: u32,
     nodes: u32,
     outputs: u32,
-    node_table: &[u32],
-    node_bits: &mut [u64],
-    output_table: &[u32],
-    output_bits: &mut [u64],
-    locks: &[u8],
+    node_table: &'x [u32],
+    node_bits: &'x mut [u64],
+    output_table: &'x [u32],
+    output_bits: &'x mut [u64],
+    locks: &'x [u8],
     node: u32,
 ) -> Saving
     ensures { let g = graph_in inputs nodes outputs node_table.now node_bits.old output_table.now output_bits.old in
         let h = graph_in inputs nodes outputs node_table.now node_bits.new output_table.now output_bits.new in
         outcome (saving_answer result) h ≡ node_call g locks.now node }
 {
-    let number = faults::node_number(
+    let lent = Lent {
         inputs,
         nodes,
         outputs,
-        node_table,
-        node_bits,
-        output_table,
-        output_bits,
+        node_table: Table {
+            indices: node_table,
+            bits: node_bits,
+        },
+        output_table: Table {
+            indices: output_table,
+            bits: output_bits,
+        },
         locks,
-        node,
-    );
+    };
+    let number = faults::node_number(&lent, node);
     if number != 0 {
         return Saving::Refused(graph::faults::refused_by(number));
     }
@@ -58,15 +65,15 @@ pub fn node_call(
 
 // The pair call: of all moves at the node that a word names and at the node itself, those with the least C, the lowest move at
 // the named node first among equals. A word that names no node changes nothing.
-pub fn pair_call(
+pub fn pair_call<'x>(
     inputs: u32,
     nodes: u32,
     outputs: u32,
-    node_table: &[u32],
-    node_bits: &mut [u64],
-    output_table: &[u32],
-    output_bits: &mut [u64],
-    locks: &[u8],
+    node_table: &'x [u32],
+    node_bits: &'x mut [u64],
+    output_table: &'x [u32],
+    output_bits: &'x mut [u64],
+    locks: &'x [u8],
     node: u32,
     word: u32,
 ) -> Saving
@@ -74,18 +81,21 @@ pub fn pair_call(
         let h = graph_in inputs nodes outputs node_table.now node_bits.new output_table.now output_bits.new in
         outcome (saving_answer result) h ≡ pair_call g locks.now node word }
 {
-    let number = faults::pair_number(
+    let lent = Lent {
         inputs,
         nodes,
         outputs,
-        node_table,
-        node_bits,
-        output_table,
-        output_bits,
+        node_table: Table {
+            indices: node_table,
+            bits: node_bits,
+        },
+        output_table: Table {
+            indices: output_table,
+            bits: output_bits,
+        },
         locks,
-        node,
-        word,
-    );
+    };
+    let number = faults::pair_number(&lent, node, word);
     if number != 0 {
         return Saving::Refused(graph::faults::refused_by(number));
     }
@@ -105,52 +115,13 @@ pub fn pair_call(
 
 // A trial: what a move at the node that a word names and a move at the node itself would save. Nothing is changed. A move that either
 // node cannot have is refused.
-pub fn trial(
-    inputs: u32,
-    nodes: u32,
-    outputs: u32,
-    node_table: &[u32],
-    node_bits: &[u64],
-    output_table: &[u32],
-    output_bits: &[u64],
-    locks: &[u8],
-    node: u32,
-    word: u32,
-    named_move: u32,
-    node_move: u32,
-) -> Gain
-    ensures { let g = graph_in inputs nodes outputs node_table.now node_bits.now output_table.now output_bits.now in
-        gain_answer result ≡ trial_call g locks.now node word named_move node_move }
+pub fn trial(lent: &Lent, node: u32, word: u32, named_move: u32, node_move: u32) -> Gain
+    ensures { let g = lent_graph lent.now in
+        gain_answer result ≡ trial_call g lent.now.locks.now node word named_move node_move }
 {
-    let number = faults::trial_number(
-        inputs,
-        nodes,
-        outputs,
-        node_table,
-        node_bits,
-        output_table,
-        output_bits,
-        locks,
-        node,
-        word,
-        named_move,
-        node_move,
-    );
+    let number = faults::trial_number(lent, node, word, named_move, node_move);
     if number != 0 {
         return Gain::Refused(graph::faults::refused_by(number));
     }
-    Gain::Whole(trying::named_saving(
-        inputs,
-        nodes,
-        outputs,
-        node_table,
-        node_bits,
-        output_table,
-        output_bits,
-        locks,
-        node,
-        word,
-        named_move,
-        node_move,
-    ))
+    Gain::Whole(trying::named_saving(lent, node, word, named_move, node_move))
 }

@@ -3,23 +3,25 @@ ghost use Rattle.std.specs.Prelude.{◌≡◌, List, [], ◌∷◌, ℕ, ◌+◌
 ghost use Rattle.graph.specs.Admission.{Admitted};
 ghost use Rattle.graph.specs.Answer.{outcome};
 ghost use Rattle.graph.specs.Graph.{graph_of, index};
-ghost use Rattle.graph.specs.Literals.{graph_in, held, literals};
+ghost use Rattle.graph.specs.Literals.{graph_in, held};
 ghost use Rattle.moves.specs.Call.{saving_answer, rewrite, pair_number, named_by, pair_rewrite};
+ghost use Rattle.graph.specs.Tables.{lent_table};
 
 use crate::write;
-use graph::table;
+use graph::table::Table;
+use graph::{Lent, table};
 use moves::{Saving, decide, gains, reading, words};
 
 // The best move of node v, counted from 0; what it saves.
-pub fn rewrite_node(
+pub fn rewrite_node<'x>(
     inputs: u32,
     nodes: u32,
     outputs: u32,
-    node_table: &[u32],
-    node_bits: &mut [u64],
-    output_table: &[u32],
-    output_bits: &mut [u64],
-    locks: &[u8],
+    node_table: &'x [u32],
+    node_bits: &'x mut [u64],
+    output_table: &'x [u32],
+    output_bits: &'x mut [u64],
+    locks: &'x [u8],
     v: u32,
 ) -> Saving
     requires { let g = graph_in inputs nodes outputs node_table.now node_bits.old output_table.now output_bits.old in
@@ -28,17 +30,21 @@ pub fn rewrite_node(
         let h = graph_in inputs nodes outputs node_table.now node_bits.new output_table.now output_bits.new in
         outcome (saving_answer result) h ≡ rewrite g locks.now ((inputs + 1 + v) ∷ []) }
 {
-    let n = reading::numbers_of(
+    let lent = Lent {
         inputs,
         nodes,
         outputs,
-        node_table,
-        node_bits,
-        output_table,
-        output_bits,
+        node_table: Table {
+            indices: node_table,
+            bits: node_bits,
+        },
+        output_table: Table {
+            indices: output_table,
+            bits: output_bits,
+        },
         locks,
-        v,
-    );
+    };
+    let n = reading::numbers_of(&lent, v);
     let z = n.costs;
     let m = decide::first_least(n.xor, n.moves, z, n.readers, n.odd);
     let before = decide::move_cost(n.xor, z, n.readers, n.odd, 0);
@@ -59,15 +65,15 @@ pub fn rewrite_node(
 }
 
 // The best moves of node p and of node v above it, both counted from 0; what they save.
-pub fn rewrite_pair(
+pub fn rewrite_pair<'x>(
     inputs: u32,
     nodes: u32,
     outputs: u32,
-    node_table: &[u32],
-    node_bits: &mut [u64],
-    output_table: &[u32],
-    output_bits: &mut [u64],
-    locks: &[u8],
+    node_table: &'x [u32],
+    node_bits: &'x mut [u64],
+    output_table: &'x [u32],
+    output_bits: &'x mut [u64],
+    locks: &'x [u8],
     p: u32,
     v: u32,
 ) -> Saving
@@ -77,29 +83,30 @@ pub fn rewrite_pair(
         let h = graph_in inputs nodes outputs node_table.now node_bits.new output_table.now output_bits.new in
         outcome (saving_answer result) h ≡ rewrite g locks.now ((inputs + 1 + p) ∷ (inputs + 1 + v) ∷ []) }
 {
-    let named = reading::numbers_of(
+    let lent = Lent {
         inputs,
         nodes,
         outputs,
-        node_table,
-        node_bits,
-        output_table,
-        output_bits,
+        node_table: Table {
+            indices: node_table,
+            bits: node_bits,
+        },
+        output_table: Table {
+            indices: output_table,
+            bits: output_bits,
+        },
         locks,
-        p,
+    };
+    let named = reading::numbers_of(&lent, p);
+    let node = reading::numbers_of(&lent, v);
+    let which = words::which_name(
+        &Table {
+            indices: node_table,
+            bits: node_bits,
+        },
+        v as usize,
+        inputs + 1 + p,
     );
-    let node = reading::numbers_of(
-        inputs,
-        nodes,
-        outputs,
-        node_table,
-        node_bits,
-        output_table,
-        output_bits,
-        locks,
-        v,
-    );
-    let which = words::which_name(node_table, node_bits, v as usize, inputs + 1 + p);
     let best = decide::best_pair(named, node, which);
     let k = best.named;
     let m = best.node;
@@ -121,16 +128,16 @@ pub fn rewrite_pair(
 }
 
 // The index that a word of a node names.
-pub fn named_by(inputs: u32, node_table: &[u32], node_bits: &[u64], node: u32, word: u32) -> u32
-    requires { let l = literals node_table.now node_bits.now in
+pub fn named_by(inputs: u32, node_table: &Table, node: u32, word: u32) -> u32
+    requires { let l = lent_table node_table.now in
         let j = 3 * (node - (inputs + 1)) + (word - 1) in
         (inputs < node) × (node ≤ 200000) × (1 ≤ word) × (word ≤ 3) × (j < held l) × (index (get_or l j 0) < 2147483647) }
-    ensures { let l = literals node_table.now node_bits.now in
+    ensures { let l = lent_table node_table.now in
         ((n o : ℕ) (os : List ℕ) → result ≡ named_by (graph_of inputs n o l os) node word) }
 {
     let v = node - (inputs + 1);
     let at = 3 * v as usize + (word - 1) as usize;
-    table::index_at(node_table, node_bits, at)
+    node_table.index_at(at)
 }
 
 // The best moves of a node and of the node that one of its words names, if it names one; what they save.
@@ -152,7 +159,15 @@ pub fn rewrite_named(
         let h = graph_in inputs nodes outputs node_table.now node_bits.new output_table.now output_bits.new in
         outcome (saving_answer result) h ≡ pair_rewrite g locks.now node word }
 {
-    let named = named_by(inputs, node_table, node_bits, node, word);
+    let named = named_by(
+        inputs,
+        &Table {
+            indices: node_table,
+            bits: node_bits,
+        },
+        node,
+        word,
+    );
     if named <= inputs {
         return Saving::Saved { own: 0, others: 0 };
     }

@@ -10,6 +10,7 @@ ghost use Rattle.moves.specs.Rows.{arity, kind_moves};
 ghost use Rattle.node_call.specs.Write.{own_turns, read_turns, readers_after};
 
 use graph::table;
+use graph::table::Table;
 use moves::rows;
 
 // Turns the words of node v as move m of its kind says.
@@ -31,7 +32,13 @@ fn turn_reader(table: &[u32], bits: &mut [u64], j: usize, u: u32, t: u32)
     ensures { let l = literals table.now bits.old in
         literals table.now bits.new ≡ turned_table l (only j (read_turns u t j (get_or l j 0))) }
 {
-    if table::index_at(table, bits, j) == u {
+    if (Table {
+        indices: table,
+        bits,
+    })
+    .index_at(j)
+        == u
+    {
         table::turn_word(table, bits, j, t);
     }
 }
@@ -45,10 +52,8 @@ pub fn turn_readers(table: &[u32], bits: &mut [u64], n: usize, u: u32, t: u32)
     if t == 0 {
         return;
     }
-    let mut j: usize = 0;
-    while j < n {
+    for j in 0..n {
         turn_reader(table, bits, j, u, t);
-        j += 1;
     }
 }
 
@@ -70,7 +75,13 @@ pub fn write_move(
         let h = graph_in inputs nodes outputs node_table.now node_bits.new output_table.now output_bits.new in
         h ≡ apply g (at none (inputs + 1 + v) m) }
 {
-    let xor = rows::is_xor(node_table, node_bits, v as usize);
+    let xor = rows::is_xor(
+        &Table {
+            indices: node_table,
+            bits: node_bits,
+        },
+        v as usize,
+    );
     let u = inputs + 1 + v;
     let t = rows::flag_of(xor, m, 3);
     turn_own(node_table, node_bits, v as usize, xor, m);

@@ -1,10 +1,11 @@
 // The moves of a decided tree, read out of scratch.
 ghost use Rattle.std.specs.Prelude.{◌≡◌, true, ◌+◌, ◌≤◌, ◌<◌, length};
-ghost use Rattle.graph.specs.Literals.{graph_in};
 ghost use Rattle.moves.specs.Tree.{is_root};
 ghost use Rattle.state.specs.State.{stands, Ordered};
 ghost use Rattle.preview.specs.Telling.{Cleared, MovesStored, Told};
+ghost use Rattle.graph.specs.Tables.{lent_graph};
 
+use graph::Lent;
 use graph::literal::MARK;
 use moves::words::{narrow, wide};
 use trees::fields::read;
@@ -14,10 +15,8 @@ pub fn clear(nodes: u32, bytes: &mut [u8])
     ensures { Cleared nodes bytes.old bytes.new }
 {
     let n = wide(nodes);
-    let mut v: usize = 0;
-    while v < n {
+    for v in 0..n {
         bytes[v] = 0;
-        v += 1;
     }
 }
 
@@ -29,22 +28,11 @@ pub fn byte(x: u32) -> u8
 }
 
 // The moves of the tree of node `root`, along the links.
-pub fn tell(
-    inputs: u32,
-    nodes: u32,
-    outputs: u32,
-    node_table: &[u32],
-    node_bits: &[u64],
-    output_table: &[u32],
-    output_bits: &[u64],
-    root: usize,
-    bytes: &mut [u8],
-    scratch: &[u32],
-)
-    requires { let g = graph_in inputs nodes outputs node_table.now node_bits.now output_table.now output_bits.now in
-        Ordered g scratch.now × (root < nodes) × (is_root g (inputs + 1 + root) ≡ true) × MovesStored (stands g scratch.now) (inputs + 1 + root) scratch.now × (nodes ≤ length bytes.old) }
-    ensures { let g = graph_in inputs nodes outputs node_table.now node_bits.now output_table.now output_bits.now in
-        Told (stands g scratch.now) (inputs + 1 + root) scratch.now bytes.old bytes.new }
+pub fn tell(lent: &Lent, root: usize, bytes: &mut [u8], scratch: &[u32])
+    requires { let g = lent_graph lent.now in
+        Ordered g scratch.now × (root < lent.now.nodes) × (is_root g (lent.now.inputs + 1 + root) ≡ true) × MovesStored (stands g scratch.now) (lent.now.inputs + 1 + root) scratch.now × (lent.now.nodes ≤ length bytes.old) }
+    ensures { let g = lent_graph lent.now in
+        Told (stands g scratch.now) (lent.now.inputs + 1 + root) scratch.now bytes.old bytes.new }
 {
     let mut v = narrow(root);
     while v != MARK {

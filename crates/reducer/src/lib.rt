@@ -29,6 +29,9 @@ ghost use Rattle.promises.specs.Demand.{with_locks, left};
 ghost use Rattle.replay.specs.Replay.{lent, decode, replay_call, answers_after, DemandMet};
 ghost use Rattle.reducer.specs.Interface.{field_answer, SavingLeft, GainLeft, GraphLeft, TextLeft, FoundLeft, ClassLeft, FiguresLeft};
 
+use graph::Lent;
+use graph::table::Table;
+
 // Where the payload of the field at the front starts, and its length.
 #[unsafe(no_mangle)]
 pub extern "C" fn reducer_field(bytes: &[u8], payload: &mut [usize; 2]) -> u32
@@ -130,22 +133,34 @@ pub extern "C" fn reducer_join(
         GraphLeft o result joined_node_table joined_node_bits joined_output_table joined_output_bits joined_locks numbers }
 {
     let answer = join::join(
-        inputs,
-        nodes,
-        outputs,
-        node_table,
-        node_bits,
-        output_table,
-        output_bits,
-        locks,
-        second_inputs,
-        second_nodes,
-        second_outputs,
-        second_node_table,
-        second_node_bits,
-        second_output_table,
-        second_output_bits,
-        second_locks,
+        &Lent {
+            inputs,
+            nodes,
+            outputs,
+            node_table: Table {
+                indices: node_table,
+                bits: node_bits,
+            },
+            output_table: Table {
+                indices: output_table,
+                bits: output_bits,
+            },
+            locks,
+        },
+        &Lent {
+            inputs: second_inputs,
+            nodes: second_nodes,
+            outputs: second_outputs,
+            node_table: Table {
+                indices: second_node_table,
+                bits: second_node_bits,
+            },
+            output_table: Table {
+                indices: second_output_table,
+                bits: second_output_bits,
+            },
+            locks: second_locks,
+        },
         joined_node_table,
         joined_node_bits,
         joined_output_table,
@@ -175,14 +190,20 @@ pub extern "C" fn reducer_write(
         TextLeft o result buffer length }
 {
     let answer = tagged_file::write(
-        inputs,
-        nodes,
-        outputs,
-        node_table,
-        node_bits,
-        output_table,
-        output_bits,
-        locks,
+        &Lent {
+            inputs,
+            nodes,
+            outputs,
+            node_table: Table {
+                indices: node_table,
+                bits: node_bits,
+            },
+            output_table: Table {
+                indices: output_table,
+                bits: output_bits,
+            },
+            locks,
+        },
         buffer,
     );
     *length = answers::told::written_told(answer, *length);
@@ -212,14 +233,20 @@ pub extern "C" fn reducer_export(
         ScratchKept o.answer scratch.old scratch.new }
 {
     let answer = aiger_export::export(
-        inputs,
-        nodes,
-        outputs,
-        node_table,
-        node_bits,
-        output_table,
-        output_bits,
-        locks,
+        &Lent {
+            inputs,
+            nodes,
+            outputs,
+            node_table: Table {
+                indices: node_table,
+                bits: node_bits,
+            },
+            output_table: Table {
+                indices: output_table,
+                bits: output_bits,
+            },
+            locks,
+        },
         scratch,
         buffer,
     );
@@ -251,14 +278,20 @@ pub extern "C" fn reducer_evaluate(
         scratch.old scratch.new }
 {
     answers::told::evaluated_number(evaluation::evaluate(
-        inputs,
-        nodes,
-        outputs,
-        node_table,
-        node_bits,
-        output_table,
-        output_bits,
-        locks,
+        &Lent {
+            inputs,
+            nodes,
+            outputs,
+            node_table: Table {
+                indices: node_table,
+                bits: node_bits,
+            },
+            output_table: Table {
+                indices: output_table,
+                bits: output_bits,
+            },
+            locks,
+        },
         input_words,
         scratch,
         results,
@@ -288,14 +321,20 @@ pub extern "C" fn reducer_assignment(
         ScratchKept a scratch.old scratch.new }
 {
     let answer = assignment::find_assignment(
-        inputs,
-        nodes,
-        outputs,
-        node_table,
-        node_bits,
-        output_table,
-        output_bits,
-        locks,
+        &Lent {
+            inputs,
+            nodes,
+            outputs,
+            node_table: Table {
+                indices: node_table,
+                bits: node_bits,
+            },
+            output_table: Table {
+                indices: output_table,
+                bits: output_bits,
+            },
+            locks,
+        },
         wanted,
         scratch,
     );
@@ -320,16 +359,20 @@ pub extern "C" fn reducer_count(
         let a = unless (admission_number g (before locks)) (accepted (C g ∷ [])) in
         (result ≡ a.number) × (count.new ≡ told_one a count.old) }
 {
-    let answer = graph::complemented_edges(
+    let answer = graph::complemented_edges(&Lent {
         inputs,
         nodes,
         outputs,
-        node_table,
-        node_bits,
-        output_table,
-        output_bits,
+        node_table: Table {
+            indices: node_table,
+            bits: node_bits,
+        },
+        output_table: Table {
+            indices: output_table,
+            bits: output_bits,
+        },
         locks,
-    );
+    });
     *count = answers::told::count_told(answer, *count);
     answers::told::count_number(answer)
 }
@@ -426,14 +469,20 @@ pub extern "C" fn reducer_trial(
         (result ≡ a.number) × (gain.new ≡ told_gain a gain.old) }
 {
     let answer = node_call::trial(
-        inputs,
-        nodes,
-        outputs,
-        node_table,
-        node_bits,
-        output_table,
-        output_bits,
-        locks,
+        &Lent {
+            inputs,
+            nodes,
+            outputs,
+            node_table: Table {
+                indices: node_table,
+                bits: node_bits,
+            },
+            output_table: Table {
+                indices: output_table,
+                bits: output_bits,
+            },
+            locks,
+        },
         node,
         word,
         named_move,
@@ -587,14 +636,20 @@ pub extern "C" fn reducer_preview(
         ScratchKept a scratch.old scratch.new }
 {
     let answer = preview::preview(
-        inputs,
-        nodes,
-        outputs,
-        node_table,
-        node_bits,
-        output_table,
-        output_bits,
-        locks,
+        &Lent {
+            inputs,
+            nodes,
+            outputs,
+            node_table: Table {
+                indices: node_table,
+                bits: node_bits,
+            },
+            output_table: Table {
+                indices: output_table,
+                bits: output_bits,
+            },
+            locks,
+        },
         root,
         moves,
         scratch,
@@ -735,8 +790,10 @@ pub extern "C" fn reducer_majority(
         outputs,
         node_table,
         node_bits,
-        output_table,
-        output_bits,
+        &Table {
+            indices: output_table,
+            bits: output_bits,
+        },
         locks,
         node,
         first,
@@ -869,22 +926,34 @@ pub extern "C" fn reducer_compare(
         (result ≡ o.answer.number) × (moves.new ≡ o.moves) × (difference.new ≡ told o.answer difference.old) }
 {
     let answer = compare::compare(
-        inputs,
-        nodes,
-        outputs,
-        node_table,
-        node_bits,
-        output_table,
-        output_bits,
-        locks,
-        second_inputs,
-        second_nodes,
-        second_outputs,
-        second_node_table,
-        second_node_bits,
-        second_output_table,
-        second_output_bits,
-        second_locks,
+        &Lent {
+            inputs,
+            nodes,
+            outputs,
+            node_table: Table {
+                indices: node_table,
+                bits: node_bits,
+            },
+            output_table: Table {
+                indices: output_table,
+                bits: output_bits,
+            },
+            locks,
+        },
+        &Lent {
+            inputs: second_inputs,
+            nodes: second_nodes,
+            outputs: second_outputs,
+            node_table: Table {
+                indices: second_node_table,
+                bits: second_node_bits,
+            },
+            output_table: Table {
+                indices: second_output_table,
+                bits: second_output_bits,
+            },
+            locks: second_locks,
+        },
         moves,
     );
     *difference = answers::told::comparison_told(answer, *difference);

@@ -10,6 +10,7 @@ ghost use Rattle.replay.specs.Replay.{lent, part, three_at, moving_of, call_of, 
 ghost use Rattle.replay.specs.Inner.{Answers, Tells};
 
 use crate::faults::lesser;
+use graph::table::Table;
 
 // What a call of the list answers, and how many nodes it leaves. A call that may rewire has what it answers in `own`.
 #[derive(Clone, Copy)]
@@ -241,22 +242,21 @@ pub fn entry_at(list: &[u32], place: usize) -> u32
 }
 
 // A majority call of the three entries of `list` from `start` on.
-pub fn three_call(
+pub fn three_call<'x>(
     inputs: u32,
     nodes: u32,
     outputs: u32,
-    node_table: &mut [u32],
-    node_bits: &mut [u64],
-    output_table: &[u32],
-    output_bits: &[u64],
-    locks: &[u8],
+    node_table: &'x mut [u32],
+    node_bits: &'x mut [u64],
+    output_table: &Table<'x>,
+    locks: &'x [u8],
     list: &[u32],
     node: u32,
     start: u32,
     scratch: &mut [u32],
 ) -> CallAnswer
-    ensures { let g = graph_in inputs nodes outputs node_table.old node_bits.old output_table.now output_bits.now in
-        let k = graph_in inputs nodes outputs node_table.new node_bits.new output_table.now output_bits.now in
+    ensures { let g = graph_in inputs nodes outputs node_table.old node_bits.old output_table.now.indices.now output_table.now.bits.now in
+        let k = graph_in inputs nodes outputs node_table.new node_bits.new output_table.now.indices.now output_table.now.bits.now in
         let c = majority_at node (three_at start list.now) scratch.old in
         Tells (with_locks g locks.now) c (with_locks k locks.now) result }
 {
@@ -272,7 +272,6 @@ pub fn three_call(
             node_table,
             node_bits,
             output_table,
-            output_bits,
             locks,
             node,
             one,
@@ -395,8 +394,10 @@ pub fn one_call(
             outputs,
             node_table,
             node_bits,
-            output_table,
-            output_bits,
+            &Table {
+                indices: output_table,
+                bits: output_bits,
+            },
             locks,
             list,
             node,

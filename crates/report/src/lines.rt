@@ -4,14 +4,15 @@ ghost use Rattle.std.specs.Prelude.{◌≡◌, ◌++◌, ℕ, ◌+◌, ◌*◌, 
 ghost use Rattle.std.proofs.lemmas.List.Edits.{sets};
 ghost use Rattle.graph.specs.Admission.{Admitted};
 ghost use Rattle.graph.specs.Answer.{number_of};
-ghost use Rattle.graph.specs.Literals.{graph_in, held, literals};
+ghost use Rattle.graph.specs.Literals.{held};
 ghost use Rattle.tagged_file.specs.Write.{in_order};
 ghost use Rattle.report.specs.Report.{sizes_line, counts_line, node_line, output_line, node_line_at, output_line_at, settled_text, refused_text, line1};
+ghost use Rattle.graph.specs.Tables.{lent_graph, lent_table};
 
 use crate::text;
-use graph::Refusal;
 use graph::literal::MARK;
-use graph::table::word_at;
+use graph::table::Table;
+use graph::{Lent, Refusal};
 
 pub fn put_node(buffer: &mut [u8], at: usize, index: u32, x: u32, y: u32, z: u32) -> usize
     requires { at + 54 ≤ length buffer.old }
@@ -35,13 +36,12 @@ pub fn put_nodes(
     start: usize,
     inputs: u32,
     nodes: u32,
-    node_table: &[u32],
-    node_bits: &[u64],
+    node_table: &Table,
 ) -> usize
-    requires fact { let ns = literals node_table.now node_bits.now in
+    requires fact { let ns = lent_table node_table.now in
         (inputs ≤ 4096) × (nodes ≤ 100000) × (3 * nodes ≤ held ns) × ((j : ℕ) → j < 3 * nodes → get_or ns j 0 < 4294967296) }
     requires nodes_in_bounds { start + 54 * nodes ≤ length buffer.old }
-    ensures { let ns = literals node_table.now node_bits.now in
+    ensures { let ns = lent_table node_table.now in
         (result ≡ start + length (in_order (node_line_at inputs ns) 0 nodes)) × (result ≤ start + 54 * nodes) × (buffer.new ≡ sets buffer.old start (in_order (node_line_at inputs ns) 0 nodes)) }
 {
     let mut at = start;
@@ -54,9 +54,9 @@ pub fn put_nodes(
             buffer,
             at,
             index,
-            word_at(node_table, node_bits, word),
-            word_at(node_table, node_bits, word + 1),
-            word_at(node_table, node_bits, word + 2),
+            node_table.word_at(word),
+            node_table.word_at(word + 1),
+            node_table.word_at(word + 2),
         );
         index += 1;
         v += 1;
@@ -65,24 +65,18 @@ pub fn put_nodes(
     at
 }
 
-pub fn put_outputs(
-    buffer: &mut [u8],
-    start: usize,
-    outputs: u32,
-    output_table: &[u32],
-    output_bits: &[u64],
-) -> usize
-    requires fact { let os = literals output_table.now output_bits.now in
+pub fn put_outputs(buffer: &mut [u8], start: usize, outputs: u32, output_table: &Table) -> usize
+    requires fact { let os = lent_table output_table.now in
         (outputs ≤ held os) × ((j : ℕ) → j < outputs → get_or os j 0 < 4294967296) }
     requires outputs_in_bounds { start + 15 * outputs ≤ length buffer.old }
-    ensures { let os = literals output_table.now output_bits.now in
+    ensures { let os = lent_table output_table.now in
         (result ≡ start + length (in_order (output_line_at os) 0 outputs)) × (result ≤ start + 15 * outputs) × (buffer.new ≡ sets buffer.old start (in_order (output_line_at os) 0 outputs)) }
 {
     let mut at = start;
     let mut v = 0;
     let mut left = outputs;
     while 0 < left {
-        at = put_output(buffer, at, word_at(output_table, output_bits, v));
+        at = put_output(buffer, at, output_table.word_at(v));
         v += 1;
         left -= 1;
     }
@@ -125,27 +119,23 @@ pub fn put_head(
 }
 
 // The whole text of a settled graph.
-pub fn put_settled(
-    inputs: u32,
-    nodes: u32,
-    outputs: u32,
-    node_table: &[u32],
-    node_bits: &[u64],
-    output_table: &[u32],
-    output_bits: &[u64],
-    rounds: u32,
-    before: u32,
-    after: u32,
-    buffer: &mut [u8],
-) -> usize
-    requires admitted { Admitted (graph_in inputs nodes outputs node_table.now node_bits.now output_table.now output_bits.now) }
-    requires output_bits_in_bounds { 128 + 18 * (held (literals node_table.now node_bits.now) + held (literals output_table.now output_bits.now)) ≤ length buffer.old }
-    ensures { let g = graph_in inputs nodes outputs node_table.now node_bits.now output_table.now output_bits.now in
+pub fn put_settled(lent: &Lent, rounds: u32, before: u32, after: u32, buffer: &mut [u8]) -> usize
+    requires admitted { Admitted (lent_graph lent.now) }
+    requires output_bits_in_bounds { 128 + 18 * (held (lent_table lent.now.node_table) + held (lent_table lent.now.output_table)) ≤ length buffer.old }
+    ensures { let g = lent_graph lent.now in
         (result ≡ length (settled_text rounds before after g)) × (result ≤ length buffer.old) × (buffer.new ≡ sets buffer.old 0 (settled_text rounds before after g)) }
 {
-    let first = put_head(buffer, inputs, nodes, outputs, rounds, before, after);
-    let middle = put_nodes(buffer, first, inputs, nodes, node_table, node_bits);
-    put_outputs(buffer, middle, outputs, output_table, output_bits)
+    let first = put_head(
+        buffer,
+        lent.inputs,
+        lent.nodes,
+        lent.outputs,
+        rounds,
+        before,
+        after,
+    );
+    let middle = put_nodes(buffer, first, lent.inputs, lent.nodes, &lent.node_table);
+    put_outputs(buffer, middle, lent.outputs, &lent.output_table)
 }
 
 // The one line of a refusal.

@@ -6,17 +6,19 @@ ghost use Rattle.tagged_file.specs.Load.{load_call};
 ghost use Rattle.report.specs.Report.{report_outcome, printed, settled_with, settled_file};
 
 use crate::lines;
+use graph::Lent;
+use graph::table::Table;
 
 // Settles a loaded graph, and puts the text of that.
-pub fn put_settling(
+pub fn put_settling<'x>(
     inputs: u32,
     nodes: u32,
     outputs: u32,
-    node_table: &[u32],
-    node_bits: &mut [u64],
-    output_table: &[u32],
-    output_bits: &mut [u64],
-    locks: &[u8],
+    node_table: &'x [u32],
+    node_bits: &'x mut [u64],
+    output_table: &'x [u32],
+    output_bits: &'x mut [u64],
+    locks: &'x [u8],
     scratch: &mut [u32],
     buffer: &mut [u8],
 ) -> usize
@@ -40,19 +42,23 @@ pub fn put_settling(
             before,
             after,
             ..
-        } => lines::put_settled(
-            inputs,
-            nodes,
-            outputs,
-            node_table,
-            node_bits,
-            output_table,
-            output_bits,
-            rounds,
-            before,
-            after,
-            buffer,
-        ),
+        } => {
+            let lent = Lent {
+                inputs,
+                nodes,
+                outputs,
+                node_table: Table {
+                    indices: node_table,
+                    bits: node_bits,
+                },
+                output_table: Table {
+                    indices: output_table,
+                    bits: output_bits,
+                },
+                locks,
+            };
+            lines::put_settled(&lent, rounds, before, after, buffer)
+        }
         settling::Settled::Refused(refusal) => lines::put_refused(buffer, refusal),
     }
 }

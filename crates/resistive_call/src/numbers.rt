@@ -1,14 +1,14 @@
 // The numbers of a node's words with what stands in scratch: costs below the node that is decided, moves above it.
 ghost use Rattle.std.specs.Prelude.{◌≡◌, true, [], ◌∷◌, ◌≢◌, ℕ, ◌+◌, ◌*◌, ◌≤◌, ◌<◌};
 ghost use Rattle.graph.specs.Graph.{mark, is_edge};
-ghost use Rattle.graph.specs.Literals.{graph_in};
 ghost use Rattle.moves.specs.Rows.{flag};
 ghost use Rattle.resistive.specs.Family.{stored};
 ghost use Rattle.state.specs.State.{field, Ordered};
 ghost use Rattle.resistive_call.specs.Keys.{turn_cost, word_at, word_keys};
+ghost use Rattle.graph.specs.Tables.{lent_graph};
 
 use graph::literal::MARK;
-use graph::table;
+use graph::{Lent, table};
 use moves::decide::given_costs;
 use moves::rows;
 use moves::words::{narrow, which_name, wide};
@@ -42,28 +42,16 @@ pub fn turns_readers(xor: bool, m: u32) -> u32
 
 // What both turns of index u cost while node v is decided, v itself turned s times, in one word as costs are stored. Of an index that does
 // not choose the other turn is out of the question: it costs 304,100.
-pub fn turns_of(
-    inputs: u32,
-    nodes: u32,
-    outputs: u32,
-    node_table: &[u32],
-    node_bits: &[u64],
-    output_table: &[u32],
-    output_bits: &[u64],
-    v: usize,
-    s: u32,
-    u: u32,
-    scratch: &[u32],
-) -> u32
-    requires { let g = graph_in inputs nodes outputs node_table.now node_bits.now output_table.now output_bits.now in
-        Ordered g scratch.now × (v < nodes) × (s ≤ 1) × (u < inputs + 1 + nodes) }
-    ensures { let g = graph_in inputs nodes outputs node_table.now node_bits.now output_table.now output_bits.now in
+pub fn turns_of(lent: &Lent, v: usize, s: u32, u: u32, scratch: &[u32]) -> u32
+    requires { let g = lent_graph lent.now in
+        Ordered g scratch.now × (v < lent.now.nodes) × (s ≤ 1) × (u < lent.now.inputs + 1 + lent.now.nodes) }
+    ensures { let g = lent_graph lent.now in
         ((t : ℕ) → t < 2 → stored result t ≡ turn_cost g scratch.now v s u t) }
 {
-    if u <= inputs {
+    if u <= lent.inputs {
         return 608200;
     }
-    let w = wide(u - (inputs + 1));
+    let w = wide(u - (lent.inputs + 1));
     if read(scratch, w, 3) == MARK {
         return 608200;
     }
@@ -74,133 +62,45 @@ pub fn turns_of(
     if w == v {
         return 608200 + s;
     }
-    608200 + turns_readers(rows::is_xor(node_table, node_bits, w), x)
+    608200 + turns_readers(rows::is_xor(&lent.node_table, w), x)
 }
 
 // What it costs that word k + 1 of node w ends with the bit 0, or 1.
-pub fn word_keys(
-    inputs: u32,
-    nodes: u32,
-    outputs: u32,
-    node_table: &[u32],
-    node_bits: &[u64],
-    output_table: &[u32],
-    output_bits: &[u64],
-    w: usize,
-    k: usize,
-    v: usize,
-    s: u32,
-    scratch: &[u32],
-) -> [u32; 2]
-    requires { let g = graph_in inputs nodes outputs node_table.now node_bits.now output_table.now output_bits.now in
-        Ordered g scratch.now × (w < nodes) × (k < 3) × (is_edge g (3 * w + k) ≡ true) × (v < nodes) × (s ≤ 1) }
-    ensures { let g = graph_in inputs nodes outputs node_table.now node_bits.now output_table.now output_bits.now in
+pub fn word_keys(lent: &Lent, w: usize, k: usize, v: usize, s: u32, scratch: &[u32]) -> [u32; 2]
+    requires { let g = lent_graph lent.now in
+        Ordered g scratch.now × (w < lent.now.nodes) × (k < 3) × (is_edge g (3 * w + k) ≡ true) × (v < lent.now.nodes) × (s ≤ 1) }
+    ensures { let g = lent_graph lent.now in
         result ≡ word_at g scratch.now v s (3 * w + k) 0 ∷ word_at g scratch.now v s (3 * w + k) 1 ∷ [] }
 {
-    let x = table::edge_at(node_table, node_bits, 3 * w + k);
-    let c = turns_of(
-        inputs,
-        nodes,
-        outputs,
-        node_table,
-        node_bits,
-        output_table,
-        output_bits,
-        v,
-        s,
-        x / 2,
-        scratch,
-    );
+    let x = lent.node_table.edge_at(3 * w + k);
+    let c = turns_of(lent, v, s, x / 2, scratch);
     let b = x % 2;
     [stored_cost(c, b), stored_cost(c, 1 - b)]
 }
 
 // Those of all words of node w. An XOR's third is the mark, which has no bit.
-pub fn numbers_at(
-    inputs: u32,
-    nodes: u32,
-    outputs: u32,
-    node_table: &[u32],
-    node_bits: &[u64],
-    output_table: &[u32],
-    output_bits: &[u64],
-    w: usize,
-    v: usize,
-    s: u32,
-    scratch: &[u32],
-) -> [u32; 6]
-    requires { let g = graph_in inputs nodes outputs node_table.now node_bits.now output_table.now output_bits.now in
-        Ordered g scratch.now × (w < nodes) × (v < nodes) × (s ≤ 1) }
-    ensures { let g = graph_in inputs nodes outputs node_table.now node_bits.now output_table.now output_bits.now in
+pub fn numbers_at(lent: &Lent, w: usize, v: usize, s: u32, scratch: &[u32]) -> [u32; 6]
+    requires { let g = lent_graph lent.now in
+        Ordered g scratch.now × (w < lent.now.nodes) × (v < lent.now.nodes) × (s ≤ 1) }
+    ensures { let g = lent_graph lent.now in
         result ≡ word_keys g scratch.now v s w }
 {
-    let x = word_keys(
-        inputs,
-        nodes,
-        outputs,
-        node_table,
-        node_bits,
-        output_table,
-        output_bits,
-        w,
-        0,
-        v,
-        s,
-        scratch,
-    );
-    let y = word_keys(
-        inputs,
-        nodes,
-        outputs,
-        node_table,
-        node_bits,
-        output_table,
-        output_bits,
-        w,
-        1,
-        v,
-        s,
-        scratch,
-    );
-    if rows::is_xor(node_table, node_bits, w) {
+    let x = word_keys(lent, w, 0, v, s, scratch);
+    let y = word_keys(lent, w, 1, v, s, scratch);
+    if rows::is_xor(&lent.node_table, w) {
         return [x[0], x[1], y[0], y[1], 0, 304100];
     }
-    let z = word_keys(
-        inputs,
-        nodes,
-        outputs,
-        node_table,
-        node_bits,
-        output_table,
-        output_bits,
-        w,
-        2,
-        v,
-        s,
-        scratch,
-    );
+    let z = word_keys(lent, w, 2, v, s, scratch);
     [x[0], x[1], y[0], y[1], z[0], z[1]]
 }
 
 // Those of the reader w of node v once v is turned, from those before it: only the word that names v differs.
-pub fn turned_at(
-    inputs: u32,
-    nodes: u32,
-    outputs: u32,
-    node_table: &[u32],
-    node_bits: &[u64],
-    output_table: &[u32],
-    output_bits: &[u64],
-    w: usize,
-    v: usize,
-    z: [u32; 6],
-    scratch: &[u32],
-) -> [u32; 6]
-    requires { let g = graph_in inputs nodes outputs node_table.now node_bits.now output_table.now output_bits.now in
-        Ordered g scratch.now × (w < nodes) × (v < nodes) × (field scratch.now v 3 ≢ mark) × (z ≡ word_keys g scratch.now v 0 w) }
-    ensures { let g = graph_in inputs nodes outputs node_table.now node_bits.now output_table.now output_bits.now in
+pub fn turned_at(lent: &Lent, w: usize, v: usize, z: [u32; 6], scratch: &[u32]) -> [u32; 6]
+    requires { let g = lent_graph lent.now in
+        Ordered g scratch.now × (w < lent.now.nodes) × (v < lent.now.nodes) × (field scratch.now v 3 ≢ mark) × (z ≡ word_keys g scratch.now v 0 w) }
+    ensures { let g = lent_graph lent.now in
         result ≡ word_keys g scratch.now v 1 w }
 {
-    let which = which_name(node_table, node_bits, w, inputs + 1 + narrow(v));
+    let which = which_name(&lent.node_table, w, lent.inputs + 1 + narrow(v));
     given_costs(z, which, 1)
 }

@@ -9,7 +9,9 @@ ghost use Rattle.moves.specs.Compose.{IsRoot};
 ghost use Rattle.resistive.specs.Resistive.{best_still};
 
 use crate::deciding::decide_still;
+use graph::Lent;
 use graph::edges::complemented;
+use graph::table::Table;
 use moves::Saving;
 use moves::gains::{Odds, saved_by};
 use moves::words::wide;
@@ -17,15 +19,15 @@ use tree_call::writing::write_tree;
 use trees::start::fill_scratch;
 
 // What the call saves.
-pub fn rewrite_still(
+pub fn rewrite_still<'x>(
     inputs: u32,
     nodes: u32,
     outputs: u32,
-    node_table: &[u32],
-    node_bits: &mut [u64],
-    output_table: &[u32],
-    output_bits: &mut [u64],
-    locks: &[u8],
+    node_table: &'x [u32],
+    node_bits: &'x mut [u64],
+    output_table: &'x [u32],
+    output_bits: &'x mut [u64],
+    locks: &'x [u8],
     root: u32,
     scratch: &mut [u32],
 ) -> Saving
@@ -35,38 +37,24 @@ pub fn rewrite_still(
         let k = graph_in inputs nodes outputs node_table.now node_bits.new output_table.now output_bits.new in
         outcome (saving_answer result) k ≡ rewrite_by g (tree g root) (best_still g locks.now root) }
 {
-    let before = complemented(
+    let lent = Lent {
         inputs,
         nodes,
         outputs,
-        node_table,
-        node_bits,
-        output_table,
-        output_bits,
-    );
-    fill_scratch(
-        inputs,
-        nodes,
-        outputs,
-        node_table,
-        node_bits,
-        output_table,
-        output_bits,
-        scratch,
-    );
-    let v = wide(root - (inputs + 1));
-    decide_still(
-        inputs,
-        nodes,
-        outputs,
-        node_table,
-        node_bits,
-        output_table,
-        output_bits,
+        node_table: Table {
+            indices: node_table,
+            bits: node_bits,
+        },
+        output_table: Table {
+            indices: output_table,
+            bits: output_bits,
+        },
         locks,
-        v,
-        scratch,
-    );
+    };
+    let before = complemented(&lent);
+    fill_scratch(&lent, scratch);
+    let v = wide(root - (inputs + 1));
+    decide_still(&lent, v, scratch);
     write_tree(
         inputs,
         nodes,
@@ -79,15 +67,21 @@ pub fn rewrite_still(
         v,
         scratch,
     );
-    let after = complemented(
+    let turned = Lent {
         inputs,
         nodes,
         outputs,
-        node_table,
-        node_bits,
-        output_table,
-        output_bits,
-    );
+        node_table: Table {
+            indices: node_table,
+            bits: node_bits,
+        },
+        output_table: Table {
+            indices: output_table,
+            bits: output_bits,
+        },
+        locks,
+    };
+    let after = complemented(&turned);
     let odds = Odds {
         before: 0,
         after: 0,

@@ -6,9 +6,12 @@ ghost use Rattle.graph.specs.Literals.{graph_in};
 ghost use Rattle.state.specs.State.{stands, Ordered};
 ghost use Rattle.rounds.specs.Inner.{phases};
 ghost use Rattle.settling.specs.Phase.{Room, Phase, AllRounds, SettledTo};
+ghost use Rattle.graph.specs.Tables.{lent_graph};
 
 use crate::phases;
 use crate::phases::Tally;
+use graph::Lent;
+use graph::table::Table;
 
 // The rounds made, with C after them and the sums over all their calls.
 #[derive(Clone, Copy)]
@@ -29,78 +32,23 @@ pub struct Figures {
     pub later: u64,
 }
 
-pub fn one_round(
-    inputs: u32,
-    nodes: u32,
-    outputs: u32,
-    node_table: &[u32],
-    node_bits: &[u64],
-    output_table: &[u32],
-    output_bits: &[u64],
-    locks: &[u8],
-    tally: Tally,
-    scratch: &mut [u32],
-) -> Tally
-    requires { let g = graph_in inputs nodes outputs node_table.now node_bits.now output_table.now output_bits.now in
-        Ordered g scratch.old × (tally.count ≡ C (stands g scratch.old)) × Room tally 100000000000000000 × LockBytes nodes locks.now }
-    ensures { let g = graph_in inputs nodes outputs node_table.now node_bits.now output_table.now output_bits.now in
-        Phase (phases locks.now nodes) 500000 g scratch.old tally scratch.new result }
+pub fn one_round(lent: &Lent, tally: Tally, scratch: &mut [u32]) -> Tally
+    requires { let g = lent_graph lent.now in
+        Ordered g scratch.old × (tally.count ≡ C (stands g scratch.old)) × Room tally 100000000000000000 × LockBytes lent.now.nodes lent.now.locks.now }
+    ensures { let g = lent_graph lent.now in
+        Phase (phases lent.now.locks.now lent.now.nodes) 500000 g scratch.old tally scratch.new result }
 {
-    let a = phases::tree_calls(
-        inputs,
-        nodes,
-        outputs,
-        node_table,
-        node_bits,
-        output_table,
-        output_bits,
-        locks,
-        tally,
-        scratch,
-    );
-    let b = phases::single_calls(
-        inputs,
-        nodes,
-        outputs,
-        node_table,
-        node_bits,
-        output_table,
-        output_bits,
-        locks,
-        a,
-        scratch,
-    );
-    phases::pair_calls(
-        inputs,
-        nodes,
-        outputs,
-        node_table,
-        node_bits,
-        output_table,
-        output_bits,
-        locks,
-        b,
-        scratch,
-    )
+    let a = phases::tree_calls(lent, tally, scratch);
+    let b = phases::single_calls(lent, a, scratch);
+    phases::pair_calls(lent, b, scratch)
 }
 
 // The first round is always made: it starts as if C had just fallen.
-pub fn all_rounds(
-    inputs: u32,
-    nodes: u32,
-    outputs: u32,
-    node_table: &[u32],
-    node_bits: &[u64],
-    output_table: &[u32],
-    output_bits: &[u64],
-    locks: &[u8],
-    count: u32,
-    scratch: &mut [u32],
-) -> RoundsMade
-    requires { let g = graph_in inputs nodes outputs node_table.now node_bits.now output_table.now output_bits.now in
-        Ordered g scratch.old × (count ≡ C (stands g scratch.old)) × LockBytes nodes locks.now }
-    ensures { let g = graph_in inputs nodes outputs node_table.now node_bits.now output_table.now output_bits.now in
-        AllRounds locks.now g scratch.old scratch.new result }
+pub fn all_rounds(lent: &Lent, count: u32, scratch: &mut [u32]) -> RoundsMade
+    requires { let g = lent_graph lent.now in
+        Ordered g scratch.old × (count ≡ C (stands g scratch.old)) × LockBytes lent.now.nodes lent.now.locks.now }
+    ensures { let g = lent_graph lent.now in
+        AllRounds lent.now.locks.now g scratch.old scratch.new result }
 {
     let mut rounds: u32 = 0;
     let mut before = count + 1;
@@ -112,18 +60,7 @@ pub fn all_rounds(
     let mut after = count;
     while after < before {
         before = after;
-        tally = one_round(
-            inputs,
-            nodes,
-            outputs,
-            node_table,
-            node_bits,
-            output_table,
-            output_bits,
-            locks,
-            tally,
-            scratch,
-        );
+        tally = one_round(lent, tally, scratch);
         after = tally.count;
         rounds += 1;
     }
@@ -136,15 +73,15 @@ pub fn all_rounds(
 }
 
 // Settling an admitted graph: scratch is filled, all rounds are made, and the turns that are still pending are written out.
-pub fn settle_admitted(
+pub fn settle_admitted<'x>(
     inputs: u32,
     nodes: u32,
     outputs: u32,
-    node_table: &[u32],
-    node_bits: &mut [u64],
-    output_table: &[u32],
-    output_bits: &mut [u64],
-    locks: &[u8],
+    node_table: &'x [u32],
+    node_bits: &'x mut [u64],
+    output_table: &'x [u32],
+    output_bits: &'x mut [u64],
+    locks: &'x [u8],
     scratch: &mut [u32],
 ) -> Figures
     requires { let g = graph_in inputs nodes outputs node_table.now node_bits.old output_table.now output_bits.old in
@@ -153,37 +90,23 @@ pub fn settle_admitted(
         let k = graph_in inputs nodes outputs node_table.now node_bits.new output_table.now output_bits.new in
         SettledTo locks.now g k result }
 {
-    let before = graph::edges::complemented(
+    let lent = Lent {
         inputs,
         nodes,
         outputs,
-        node_table,
-        node_bits,
-        output_table,
-        output_bits,
-    );
-    trees::start::fill_scratch(
-        inputs,
-        nodes,
-        outputs,
-        node_table,
-        node_bits,
-        output_table,
-        output_bits,
-        scratch,
-    );
-    let made = all_rounds(
-        inputs,
-        nodes,
-        outputs,
-        node_table,
-        node_bits,
-        output_table,
-        output_bits,
+        node_table: Table {
+            indices: node_table,
+            bits: node_bits,
+        },
+        output_table: Table {
+            indices: output_table,
+            bits: output_bits,
+        },
         locks,
-        before,
-        scratch,
-    );
+    };
+    let before = graph::edges::complemented(&lent);
+    trees::start::fill_scratch(&lent, scratch);
+    let made = all_rounds(&lent, before, scratch);
     state::writing::write_out(
         inputs,
         nodes,

@@ -11,7 +11,8 @@ mod all;
 mod faults;
 mod phases;
 
-use graph::signed;
+use graph::table::Table;
+use graph::{Lent, signed};
 
 // What settling answers.
 #[derive(Clone, Copy)]
@@ -47,15 +48,15 @@ fn settled_by(figures: all::Figures) -> Settled
 }
 
 // Rounds of tree, node and pair calls, until one does not lower C.
-pub fn settle(
+pub fn settle<'x>(
     inputs: u32,
     nodes: u32,
     outputs: u32,
-    node_table: &[u32],
-    node_bits: &mut [u64],
-    output_table: &[u32],
-    output_bits: &mut [u64],
-    locks: &[u8],
+    node_table: &'x [u32],
+    node_bits: &'x mut [u64],
+    output_table: &'x [u32],
+    output_bits: &'x mut [u64],
+    locks: &'x [u8],
     scratch: &mut [u32],
 ) -> Settled
     ensures call { let g = graph_in inputs nodes outputs node_table.now node_bits.old output_table.now output_bits.old in
@@ -63,17 +64,21 @@ pub fn settle(
         outcome (settled_answer result) k ≡ settle_call g locks.now (length scratch.old) }
     ensures scratch { ScratchKept (settled_answer result) scratch.old scratch.new }
 {
-    let refusal = faults::settle_number(
+    let lent = Lent {
         inputs,
         nodes,
         outputs,
-        node_table,
-        node_bits,
-        output_table,
-        output_bits,
+        node_table: Table {
+            indices: node_table,
+            bits: node_bits,
+        },
+        output_table: Table {
+            indices: output_table,
+            bits: output_bits,
+        },
         locks,
-        scratch.len(),
-    );
+    };
+    let refusal = faults::settle_number(&lent, scratch.len());
     if refusal != 0 {
         return Settled::Refused(graph::faults::refused_by(refusal));
     }

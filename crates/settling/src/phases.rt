@@ -2,12 +2,13 @@
 ghost use Rattle.std.specs.Prelude.{◌≡◌, ◌+◌, ◌*◌, ◌<◌, length};
 ghost use Rattle.graph.specs.Admission.{LockBytes};
 ghost use Rattle.graph.specs.Count.{C};
-ghost use Rattle.graph.specs.Literals.{graph_in};
 ghost use Rattle.moves.specs.Call.{word_fault};
 ghost use Rattle.state.specs.State.{stands, Ordered};
 ghost use Rattle.rounds.specs.Round.{each, tree_at, node_at, pair_at, pairs_at};
 ghost use Rattle.settling.specs.Phase.{Room, Added, Phase};
+ghost use Rattle.graph.specs.Tables.{lent_graph};
 
+use graph::Lent;
 use graph::literal::MARK;
 use state::moving::Step;
 
@@ -34,298 +35,100 @@ pub fn with_step(tally: Tally, step: Step) -> Tally
 }
 
 // The tree call at node v, where it is a root.
-pub fn tree_call_at(
-    inputs: u32,
-    nodes: u32,
-    outputs: u32,
-    node_table: &[u32],
-    node_bits: &[u64],
-    output_table: &[u32],
-    output_bits: &[u64],
-    locks: &[u8],
-    v: usize,
-    tally: Tally,
-    scratch: &mut [u32],
-) -> Tally
-    requires { let g = graph_in inputs nodes outputs node_table.now node_bits.now output_table.now output_bits.now in
-        Ordered g scratch.old × (v < nodes) × (tally.count ≡ C (stands g scratch.old)) × Room tally 300000000000000000 × LockBytes nodes locks.now }
-    ensures { let g = graph_in inputs nodes outputs node_table.now node_bits.now output_table.now output_bits.now in
-        Phase (tree_at locks.now v) 1 g scratch.old tally scratch.new result }
+pub fn tree_call_at(lent: &Lent, v: usize, tally: Tally, scratch: &mut [u32]) -> Tally
+    requires { let g = lent_graph lent.now in
+        Ordered g scratch.old × (v < lent.now.nodes) × (tally.count ≡ C (stands g scratch.old)) × Room tally 300000000000000000 × LockBytes lent.now.nodes lent.now.locks.now }
+    ensures { let g = lent_graph lent.now in
+        Phase (tree_at lent.now.locks.now v) 1 g scratch.old tally scratch.new result }
 {
     let only = 8 * v + 3;
     if scratch[only] != MARK {
         return tally;
     }
-    let step = trees::making::tree_step(
-        inputs,
-        nodes,
-        outputs,
-        node_table,
-        node_bits,
-        output_table,
-        output_bits,
-        locks,
-        v,
-        tally.count,
-        scratch,
-    );
+    let step = trees::making::tree_step(lent, v, tally.count, scratch);
     with_step(tally, step)
 }
 
 // The tree call at each root by rising index.
-pub fn tree_calls(
-    inputs: u32,
-    nodes: u32,
-    outputs: u32,
-    node_table: &[u32],
-    node_bits: &[u64],
-    output_table: &[u32],
-    output_bits: &[u64],
-    locks: &[u8],
-    tally: Tally,
-    scratch: &mut [u32],
-) -> Tally
-    requires { let g = graph_in inputs nodes outputs node_table.now node_bits.now output_table.now output_bits.now in
-        Ordered g scratch.old × (tally.count ≡ C (stands g scratch.old)) × Room tally 200000000000000000 × LockBytes nodes locks.now }
-    ensures { let g = graph_in inputs nodes outputs node_table.now node_bits.now output_table.now output_bits.now in
-        Phase (each (tree_at locks.now) nodes) nodes g scratch.old tally scratch.new result }
+pub fn tree_calls(lent: &Lent, tally: Tally, scratch: &mut [u32]) -> Tally
+    requires { let g = lent_graph lent.now in
+        Ordered g scratch.old × (tally.count ≡ C (stands g scratch.old)) × Room tally 200000000000000000 × LockBytes lent.now.nodes lent.now.locks.now }
+    ensures { let g = lent_graph lent.now in
+        Phase (each (tree_at lent.now.locks.now) lent.now.nodes) lent.now.nodes g scratch.old tally scratch.new result }
 {
-    let end = nodes as usize;
+    let end = lent.nodes as usize;
     let mut t = tally;
     let mut left = end;
     while 0 < left {
-        t = tree_call_at(
-            inputs,
-            nodes,
-            outputs,
-            node_table,
-            node_bits,
-            output_table,
-            output_bits,
-            locks,
-            end - left,
-            t,
-            scratch,
-        );
+        t = tree_call_at(lent, end - left, t, scratch);
         left -= 1;
     }
     t
 }
 
 // The node call at node v.
-pub fn node_call_at(
-    inputs: u32,
-    nodes: u32,
-    outputs: u32,
-    node_table: &[u32],
-    node_bits: &[u64],
-    output_table: &[u32],
-    output_bits: &[u64],
-    locks: &[u8],
-    v: usize,
-    tally: Tally,
-    scratch: &mut [u32],
-) -> Tally
-    requires { let g = graph_in inputs nodes outputs node_table.now node_bits.now output_table.now output_bits.now in
-        Ordered g scratch.old × (v < nodes) × (tally.count ≡ C (stands g scratch.old)) × Room tally 300000000000000000 × LockBytes nodes locks.now }
-    ensures { let g = graph_in inputs nodes outputs node_table.now node_bits.now output_table.now output_bits.now in
-        Phase (node_at locks.now v) 1 g scratch.old tally scratch.new result }
+pub fn node_call_at(lent: &Lent, v: usize, tally: Tally, scratch: &mut [u32]) -> Tally
+    requires { let g = lent_graph lent.now in
+        Ordered g scratch.old × (v < lent.now.nodes) × (tally.count ≡ C (stands g scratch.old)) × Room tally 300000000000000000 × LockBytes lent.now.nodes lent.now.locks.now }
+    ensures { let g = lent_graph lent.now in
+        Phase (node_at lent.now.locks.now v) 1 g scratch.old tally scratch.new result }
 {
-    let single = state::moving::node_step(
-        inputs,
-        nodes,
-        outputs,
-        node_table,
-        node_bits,
-        output_table,
-        output_bits,
-        locks,
-        v,
-        tally.count,
-        scratch,
-    );
+    let single = state::moving::node_step(lent, v, tally.count, scratch);
     with_step(tally, single)
 }
 
 // The node call at each node by rising index.
-pub fn single_calls(
-    inputs: u32,
-    nodes: u32,
-    outputs: u32,
-    node_table: &[u32],
-    node_bits: &[u64],
-    output_table: &[u32],
-    output_bits: &[u64],
-    locks: &[u8],
-    tally: Tally,
-    scratch: &mut [u32],
-) -> Tally
-    requires { let g = graph_in inputs nodes outputs node_table.now node_bits.now output_table.now output_bits.now in
-        Ordered g scratch.old × (tally.count ≡ C (stands g scratch.old)) × Room tally 200000000000000000 × LockBytes nodes locks.now }
-    ensures { let g = graph_in inputs nodes outputs node_table.now node_bits.now output_table.now output_bits.now in
-        Phase (each (node_at locks.now) nodes) nodes g scratch.old tally scratch.new result }
+pub fn single_calls(lent: &Lent, tally: Tally, scratch: &mut [u32]) -> Tally
+    requires { let g = lent_graph lent.now in
+        Ordered g scratch.old × (tally.count ≡ C (stands g scratch.old)) × Room tally 200000000000000000 × LockBytes lent.now.nodes lent.now.locks.now }
+    ensures { let g = lent_graph lent.now in
+        Phase (each (node_at lent.now.locks.now) lent.now.nodes) lent.now.nodes g scratch.old tally scratch.new result }
 {
-    let end = nodes as usize;
+    let end = lent.nodes as usize;
     let mut t = tally;
-    let mut v: usize = 0;
-    while v < end {
-        t = node_call_at(
-            inputs,
-            nodes,
-            outputs,
-            node_table,
-            node_bits,
-            output_table,
-            output_bits,
-            locks,
-            v,
-            t,
-            scratch,
-        );
-        v += 1;
+    for v in 0..end {
+        t = node_call_at(lent, v, t, scratch);
     }
     t
 }
 
 // The pair call at word k of node v, which has one.
-pub fn pair_call_at(
-    inputs: u32,
-    nodes: u32,
-    outputs: u32,
-    node_table: &[u32],
-    node_bits: &[u64],
-    output_table: &[u32],
-    output_bits: &[u64],
-    locks: &[u8],
-    v: usize,
-    k: usize,
-    tally: Tally,
-    scratch: &mut [u32],
-) -> Tally
-    requires { let g = graph_in inputs nodes outputs node_table.now node_bits.now output_table.now output_bits.now in
-        Ordered g scratch.old × (v < nodes) × (word_fault g (inputs + 1 + v) k ≡ 0) × (tally.count ≡ C (stands g scratch.old)) × Room tally 300000000000000000 × LockBytes nodes locks.now }
-    ensures { let g = graph_in inputs nodes outputs node_table.now node_bits.now output_table.now output_bits.now in
-        Phase (pair_at locks.now v k) 1 g scratch.old tally scratch.new result }
+pub fn pair_call_at(lent: &Lent, v: usize, k: usize, tally: Tally, scratch: &mut [u32]) -> Tally
+    requires { let g = lent_graph lent.now in
+        Ordered g scratch.old × (v < lent.now.nodes) × (word_fault g (lent.now.inputs + 1 + v) k ≡ 0) × (tally.count ≡ C (stands g scratch.old)) × Room tally 300000000000000000 × LockBytes lent.now.nodes lent.now.locks.now }
+    ensures { let g = lent_graph lent.now in
+        Phase (pair_at lent.now.locks.now v k) 1 g scratch.old tally scratch.new result }
 {
-    let step = state::moving::pair_step(
-        inputs,
-        nodes,
-        outputs,
-        node_table,
-        node_bits,
-        output_table,
-        output_bits,
-        locks,
-        v,
-        k,
-        tally.count,
-        scratch,
-    );
+    let step = state::moving::pair_step(lent, v, k, tally.count, scratch);
     with_step(tally, step)
 }
 
 // At the words of node v in order; an XOR has two.
-pub fn pair_calls_at(
-    inputs: u32,
-    nodes: u32,
-    outputs: u32,
-    node_table: &[u32],
-    node_bits: &[u64],
-    output_table: &[u32],
-    output_bits: &[u64],
-    locks: &[u8],
-    v: usize,
-    tally: Tally,
-    scratch: &mut [u32],
-) -> Tally
-    requires { let g = graph_in inputs nodes outputs node_table.now node_bits.now output_table.now output_bits.now in
-        Ordered g scratch.old × (v < nodes) × (tally.count ≡ C (stands g scratch.old)) × Room tally 250000000000000000 × LockBytes nodes locks.now }
-    ensures { let g = graph_in inputs nodes outputs node_table.now node_bits.now output_table.now output_bits.now in
-        Phase (pairs_at locks.now v) 3 g scratch.old tally scratch.new result }
+pub fn pair_calls_at(lent: &Lent, v: usize, tally: Tally, scratch: &mut [u32]) -> Tally
+    requires { let g = lent_graph lent.now in
+        Ordered g scratch.old × (v < lent.now.nodes) × (tally.count ≡ C (stands g scratch.old)) × Room tally 250000000000000000 × LockBytes lent.now.nodes lent.now.locks.now }
+    ensures { let g = lent_graph lent.now in
+        Phase (pairs_at lent.now.locks.now v) 3 g scratch.old tally scratch.new result }
 {
-    let a = pair_call_at(
-        inputs,
-        nodes,
-        outputs,
-        node_table,
-        node_bits,
-        output_table,
-        output_bits,
-        locks,
-        v,
-        1,
-        tally,
-        scratch,
-    );
-    let b = pair_call_at(
-        inputs,
-        nodes,
-        outputs,
-        node_table,
-        node_bits,
-        output_table,
-        output_bits,
-        locks,
-        v,
-        2,
-        a,
-        scratch,
-    );
-    if moves::rows::is_xor(node_table, node_bits, v) {
+    let a = pair_call_at(lent, v, 1, tally, scratch);
+    let b = pair_call_at(lent, v, 2, a, scratch);
+    if moves::rows::is_xor(&lent.node_table, v) {
         return b;
     }
-    pair_call_at(
-        inputs,
-        nodes,
-        outputs,
-        node_table,
-        node_bits,
-        output_table,
-        output_bits,
-        locks,
-        v,
-        3,
-        b,
-        scratch,
-    )
+    pair_call_at(lent, v, 3, b, scratch)
 }
 
 // At each node by rising index.
-pub fn pair_calls(
-    inputs: u32,
-    nodes: u32,
-    outputs: u32,
-    node_table: &[u32],
-    node_bits: &[u64],
-    output_table: &[u32],
-    output_bits: &[u64],
-    locks: &[u8],
-    tally: Tally,
-    scratch: &mut [u32],
-) -> Tally
-    requires { let g = graph_in inputs nodes outputs node_table.now node_bits.now output_table.now output_bits.now in
-        Ordered g scratch.old × (tally.count ≡ C (stands g scratch.old)) × Room tally 200000000000000000 × LockBytes nodes locks.now }
-    ensures { let g = graph_in inputs nodes outputs node_table.now node_bits.now output_table.now output_bits.now in
-        Phase (each (pairs_at locks.now) nodes) (3 * nodes) g scratch.old tally scratch.new result }
+pub fn pair_calls(lent: &Lent, tally: Tally, scratch: &mut [u32]) -> Tally
+    requires { let g = lent_graph lent.now in
+        Ordered g scratch.old × (tally.count ≡ C (stands g scratch.old)) × Room tally 200000000000000000 × LockBytes lent.now.nodes lent.now.locks.now }
+    ensures { let g = lent_graph lent.now in
+        Phase (each (pairs_at lent.now.locks.now) lent.now.nodes) (3 * lent.now.nodes) g scratch.old tally scratch.new result }
 {
-    let end = nodes as usize;
+    let end = lent.nodes as usize;
     let mut t = tally;
-    let mut v: usize = 0;
-    while v < end {
-        t = pair_calls_at(
-            inputs,
-            nodes,
-            outputs,
-            node_table,
-            node_bits,
-            output_table,
-            output_bits,
-            locks,
-            v,
-            t,
-            scratch,
-        );
-        v += 1;
+    for v in 0..end {
+        t = pair_calls_at(lent, v, t, scratch);
     }
     t
 }

@@ -1,14 +1,14 @@
 // A move made in scratch: the node's own bits, and all its readers by its pending bit.
 ghost use Rattle.std.specs.Prelude.{◌≡◌, true, false, ◌+◌, ◌-◌, ◌*◌, ◌≤◌, ◌<◌};
 ghost use Rattle.graph.specs.Graph.{is_edge};
-ghost use Rattle.graph.specs.Literals.{graph_in};
 ghost use Rattle.moves.specs.Rows.{kind_moves};
 ghost use Rattle.moves.specs.Apply.{none, at, apply};
 ghost use Rattle.state.specs.State.{stands, Ordered};
 ghost use Rattle.state.specs.Step.{word_turned, readers_turned, Became};
+ghost use Rattle.graph.specs.Tables.{lent_graph};
 
 use crate::{flags, now};
-use graph::table;
+use graph::{Lent, table};
 use moves::rows;
 
 // How many of d complemented readers are left once a reader with the bit b has been turned.
@@ -23,99 +23,43 @@ pub fn adjusted(b: u32, d: u32) -> u32
 }
 
 // Turns word k + 1 of node v; the node that it names, if any, has one complemented reader more or less.
-pub fn turn_word(
-    inputs: u32,
-    nodes: u32,
-    outputs: u32,
-    node_table: &[u32],
-    node_bits: &[u64],
-    output_table: &[u32],
-    output_bits: &[u64],
-    v: usize,
-    k: usize,
-    scratch: &mut [u32],
-)
-    requires { let g = graph_in inputs nodes outputs node_table.now node_bits.now output_table.now output_bits.now in
-        Ordered g scratch.old × (v < nodes) × (k < 3) × (is_edge g (3 * v + k) ≡ true) }
-    ensures { let g = graph_in inputs nodes outputs node_table.now node_bits.now output_table.now output_bits.now in
+pub fn turn_word(lent: &Lent, v: usize, k: usize, scratch: &mut [u32])
+    requires { let g = lent_graph lent.now in
+        Ordered g scratch.old × (v < lent.now.nodes) × (k < 3) × (is_edge g (3 * v + k) ≡ true) }
+    ensures { let g = lent_graph lent.now in
         Became scratch.old g scratch.new (word_turned (stands g scratch.old) (3 * v + k) 1) }
 {
-    let shown = now::bit_now(
-        inputs,
-        nodes,
-        outputs,
-        node_table,
-        node_bits,
-        output_table,
-        output_bits,
-        v,
-        k,
-        scratch,
-    );
-    let u = table::index_at(node_table, node_bits, 3 * v + k);
+    let shown = now::bit_now(lent, v, k, scratch);
+    let u = lent.node_table.index_at(3 * v + k);
     let at = 8 * v + 2;
     scratch[at] = flags::flipped(scratch[at], 1 + k);
-    if u <= inputs {
+    if u <= lent.inputs {
         return;
     }
-    let w = u - (inputs + 1);
+    let w = u - (lent.inputs + 1);
     let to = 8 * w as usize + 1;
     scratch[to] = adjusted(shown, scratch[to]);
 }
 
 // The same, f times: 0 or 1.
-pub fn turn_word_by(
-    inputs: u32,
-    nodes: u32,
-    outputs: u32,
-    node_table: &[u32],
-    node_bits: &[u64],
-    output_table: &[u32],
-    output_bits: &[u64],
-    v: usize,
-    k: usize,
-    f: u32,
-    scratch: &mut [u32],
-)
-    requires { let g = graph_in inputs nodes outputs node_table.now node_bits.now output_table.now output_bits.now in
-        Ordered g scratch.old × (v < nodes) × (k < 3) × (is_edge g (3 * v + k) ≡ false → f ≡ 0) × (f ≤ 1) }
-    ensures { let g = graph_in inputs nodes outputs node_table.now node_bits.now output_table.now output_bits.now in
+pub fn turn_word_by(lent: &Lent, v: usize, k: usize, f: u32, scratch: &mut [u32])
+    requires { let g = lent_graph lent.now in
+        Ordered g scratch.old × (v < lent.now.nodes) × (k < 3) × (is_edge g (3 * v + k) ≡ false → f ≡ 0) × (f ≤ 1) }
+    ensures { let g = lent_graph lent.now in
         Became scratch.old g scratch.new (word_turned (stands g scratch.old) (3 * v + k) f) }
 {
     if f == 0 {
         return;
     }
-    turn_word(
-        inputs,
-        nodes,
-        outputs,
-        node_table,
-        node_bits,
-        output_table,
-        output_bits,
-        v,
-        k,
-        scratch,
-    );
+    turn_word(lent, v, k, scratch);
 }
 
 // Turns all readers of node v f times, 0 or 1: the complemented ones are then the others.
-pub fn turn_readers(
-    inputs: u32,
-    nodes: u32,
-    outputs: u32,
-    node_table: &[u32],
-    node_bits: &[u64],
-    output_table: &[u32],
-    output_bits: &[u64],
-    v: usize,
-    f: u32,
-    scratch: &mut [u32],
-)
-    requires { let g = graph_in inputs nodes outputs node_table.now node_bits.now output_table.now output_bits.now in
-        Ordered g scratch.old × (v < nodes) × (f ≤ 1) }
-    ensures { let g = graph_in inputs nodes outputs node_table.now node_bits.now output_table.now output_bits.now in
-        Became scratch.old g scratch.new (readers_turned (stands g scratch.old) (inputs + 1 + v) f) }
+pub fn turn_readers(lent: &Lent, v: usize, f: u32, scratch: &mut [u32])
+    requires { let g = lent_graph lent.now in
+        Ordered g scratch.old × (v < lent.now.nodes) × (f ≤ 1) }
+    ensures { let g = lent_graph lent.now in
+        Became scratch.old g scratch.new (readers_turned (stands g scratch.old) (lent.now.inputs + 1 + v) f) }
 {
     if f == 0 {
         return;
@@ -128,77 +72,19 @@ pub fn turn_readers(
 }
 
 // Makes the move m at node v.
-pub fn turn_node(
-    inputs: u32,
-    nodes: u32,
-    outputs: u32,
-    node_table: &[u32],
-    node_bits: &[u64],
-    output_table: &[u32],
-    output_bits: &[u64],
-    v: usize,
-    m: u32,
-    scratch: &mut [u32],
-)
-    requires { let g = graph_in inputs nodes outputs node_table.now node_bits.now output_table.now output_bits.now in
-        Ordered g scratch.old × (v < nodes) × (m < kind_moves g (inputs + 1 + v)) }
-    ensures { let g = graph_in inputs nodes outputs node_table.now node_bits.now output_table.now output_bits.now in
-        Became scratch.old g scratch.new (apply (stands g scratch.old) (at none (inputs + 1 + v) m)) }
+pub fn turn_node(lent: &Lent, v: usize, m: u32, scratch: &mut [u32])
+    requires { let g = lent_graph lent.now in
+        Ordered g scratch.old × (v < lent.now.nodes) × (m < kind_moves g (lent.now.inputs + 1 + v)) }
+    ensures { let g = lent_graph lent.now in
+        Became scratch.old g scratch.new (apply (stands g scratch.old) (at none (lent.now.inputs + 1 + v) m)) }
 {
-    let xor = rows::is_xor(node_table, node_bits, v);
+    let xor = rows::is_xor(&lent.node_table, v);
     let f = rows::flag_of(xor, m, 0);
-    turn_word_by(
-        inputs,
-        nodes,
-        outputs,
-        node_table,
-        node_bits,
-        output_table,
-        output_bits,
-        v,
-        0,
-        f,
-        scratch,
-    );
+    turn_word_by(lent, v, 0, f, scratch);
     let f = rows::flag_of(xor, m, 1);
-    turn_word_by(
-        inputs,
-        nodes,
-        outputs,
-        node_table,
-        node_bits,
-        output_table,
-        output_bits,
-        v,
-        1,
-        f,
-        scratch,
-    );
+    turn_word_by(lent, v, 1, f, scratch);
     let f = rows::flag_of(xor, m, 2);
-    turn_word_by(
-        inputs,
-        nodes,
-        outputs,
-        node_table,
-        node_bits,
-        output_table,
-        output_bits,
-        v,
-        2,
-        f,
-        scratch,
-    );
+    turn_word_by(lent, v, 2, f, scratch);
     let f = rows::flag_of(xor, m, 3);
-    turn_readers(
-        inputs,
-        nodes,
-        outputs,
-        node_table,
-        node_bits,
-        output_table,
-        output_bits,
-        v,
-        f,
-        scratch,
-    );
+    turn_readers(lent, v, f, scratch);
 }

@@ -7,6 +7,7 @@ ghost use Rattle.state.specs.State.{pending_at, due_in, kept_bit, bit_now, stand
 
 use crate::flags;
 use graph::table;
+use graph::table::Table;
 use moves::words::{nearest, node_of};
 
 // What `pending_of` tells, for a sweep: hardly a turn is pending.
@@ -83,10 +84,8 @@ pub fn write_nodes(inputs: u32, nodes: u32, table: &[u32], bits: &mut [u64], scr
 {
     let end = nodes as usize;
     let mut got: u64 = 0;
-    let mut v: usize = 0;
-    while v < end {
+    for v in 0..end {
         got = write_node(inputs, nodes, table, bits, v, got, scratch);
-        v += 1;
     }
     table::put_last(bits, 3 * end, got);
 }
@@ -97,7 +96,11 @@ fn write_output(inputs: u32, nodes: u32, table: &[u32], bits: &mut [u64], j: usi
     ensures { let l = literals table.now bits.old in
         literals table.now bits.new ≡ turned_table l (only j (due_in inputs nodes scratch.now l j)) }
 {
-    let u = table::index_at(table, bits, j);
+    let u = Table {
+        indices: table,
+        bits,
+    }
+    .index_at(j);
     let t = due_of(inputs, nodes, u, scratch);
     table::turn_word(table, bits, j, t);
 }
@@ -115,10 +118,8 @@ pub fn write_outputs(
     ensures { let l = literals table.now bits.old in
         literals table.now bits.new ≡ turned_table l (up_to count (due_in inputs nodes scratch.now l)) }
 {
-    let mut j: usize = 0;
-    while j < count {
+    for j in 0..count {
         write_output(inputs, nodes, table, bits, j, scratch);
-        j += 1;
     }
 }
 

@@ -5,11 +5,13 @@ ghost use Rattle.graph.specs.Finite.{if_equal};
 ghost use Rattle.graph.specs.Graph.{index, mark};
 ghost use Rattle.graph.specs.Admission.{Admitted};
 ghost use Rattle.graph.specs.Inner.{Readable, AllReadable};
-ghost use Rattle.graph.specs.Literals.{graph_in, held, literals};
+ghost use Rattle.graph.specs.Literals.{held};
 ghost use Rattle.tagged_file.specs.Write.{big, field_of, lock_field, node_field_at, output_field_at, lock_field_at, in_order, file_of};
+ghost use Rattle.graph.specs.Tables.{lent_graph, lent_table};
 
+use graph::Lent;
 use graph::literal::MARK;
-use graph::table::{edge_at, three_at, word_of};
+use graph::table::Table;
 
 pub fn put_number(buffer: &mut [u8], at: usize, number: u32)
     requires { at + 4 ≤ length buffer.old }
@@ -82,24 +84,18 @@ pub fn last_number(y: u32, z: u32) -> u32
 
 // Node v; returns the place after its field. Each word is read when it is put, so that the bytes of a number are one store. The last number
 // is put where the payload ends, an XOR's second one a second time, so that nothing jumps on the kind.
-pub fn put_node(
-    buffer: &mut [u8],
-    at: usize,
-    node_table: &[u32],
-    node_bits: &[u64],
-    v: usize,
-) -> usize
-    requires { let ns = literals node_table.now node_bits.now in
+pub fn put_node(buffer: &mut [u8], at: usize, node_table: &Table, v: usize) -> usize
+    requires { let ns = lent_table node_table.now in
         Readable ns v × (at + length (node_field_at ns v) ≤ length buffer.old) }
-    ensures { let field = node_field_at (literals node_table.now node_bits.now) v in
+    ensures { let field = node_field_at (lent_table node_table.now) v in
         (result ≡ at + length field) × (buffer.new ≡ sets buffer.old at field) }
 {
-    let three = three_at(node_table, node_bits, v);
-    let x = word_of(node_table, node_bits, v, 0, three);
+    let three = node_table.three_at(v);
+    let x = node_table.word_of(v, 0, three);
     put_number(buffer, at + 3, x);
-    let y = word_of(node_table, node_bits, v, 1, three);
+    let y = node_table.word_of(v, 1, three);
     put_number(buffer, at + 7, y);
-    let z = word_of(node_table, node_bits, v, 2, three);
+    let z = node_table.word_of(v, 2, three);
     let payload = node_payload(z);
     let last = at + payload as usize - 1;
     put_number(buffer, last, last_number(y, z));
@@ -107,46 +103,34 @@ pub fn put_node(
     last + 4
 }
 
-pub fn put_nodes(
-    buffer: &mut [u8],
-    start: usize,
-    nodes: u32,
-    node_table: &[u32],
-    node_bits: &[u64],
-) -> usize
-    requires { let ns = literals node_table.now node_bits.now in
+pub fn put_nodes(buffer: &mut [u8], start: usize, nodes: u32, node_table: &Table) -> usize
+    requires { let ns = lent_table node_table.now in
         AllReadable nodes ns × (start + length (in_order (node_field_at ns) 0 nodes) ≤ length buffer.old) }
-    ensures { let fields = in_order (node_field_at (literals node_table.now node_bits.now)) 0 nodes in
+    ensures { let fields = in_order (node_field_at (lent_table node_table.now)) 0 nodes in
         (result ≡ start + length fields) × (buffer.new ≡ sets buffer.old start fields) }
 {
     let mut at = start;
     let mut v: usize = 0;
     let mut left = nodes;
     while 0 < left {
-        at = put_node(buffer, at, node_table, node_bits, v);
+        at = put_node(buffer, at, node_table, v);
         v += 1;
         left -= 1;
     }
     at
 }
 
-pub fn put_outputs(
-    buffer: &mut [u8],
-    start: usize,
-    outputs: u32,
-    output_table: &[u32],
-    output_bits: &[u64],
-) -> usize
-    requires { let os = literals output_table.now output_bits.now in
+pub fn put_outputs(buffer: &mut [u8], start: usize, outputs: u32, output_table: &Table) -> usize
+    requires { let os = lent_table output_table.now in
         ((outputs ≤ held os) × ((j : ℕ) → j < outputs → index (get_or os j 0) < 2147483647)) × (start + length (in_order (output_field_at os) 0 outputs) ≤ length buffer.old) }
-    ensures { let fields = in_order (output_field_at (literals output_table.now output_bits.now)) 0 outputs in
+    ensures { let fields = in_order (output_field_at (lent_table output_table.now)) 0 outputs in
         (result ≡ start + length fields) × (buffer.new ≡ sets buffer.old start fields) }
 {
     let mut at = start;
     let mut v = 0;
     let mut left = outputs;
     while 0 < left {
-        put_single(buffer, at, 4, edge_at(output_table, output_bits, v));
+        put_single(buffer, at, 4, output_table.edge_at(v));
         at += 7;
         v += 1;
         left -= 1;
@@ -186,26 +170,16 @@ pub fn put_locks(buffer: &mut [u8], start: usize, index: u32, nodes: u32, locks:
 }
 
 // The whole file, from the front; returns its length.
-pub fn put_file(
-    inputs: u32,
-    nodes: u32,
-    outputs: u32,
-    node_table: &[u32],
-    node_bits: &[u64],
-    output_table: &[u32],
-    output_bits: &[u64],
-    locks: &[u8],
-    buffer: &mut [u8],
-) -> usize
-    requires { let g = graph_in inputs nodes outputs node_table.now node_bits.now output_table.now output_bits.now in
-        Admitted g × (nodes ≤ length locks.now) × (length (file_of g locks.now) ≤ length buffer.old) }
-    ensures { let g = graph_in inputs nodes outputs node_table.now node_bits.now output_table.now output_bits.now in
-        (result ≡ length (file_of g locks.now)) × (buffer.new ≡ sets buffer.old 0 (file_of g locks.now)) }
+pub fn put_file(lent: &Lent, buffer: &mut [u8]) -> usize
+    requires { let g = lent_graph lent.now in
+        Admitted g × (lent.now.nodes ≤ length lent.now.locks.now) × (length (file_of g lent.now.locks.now) ≤ length buffer.old) }
+    ensures { let g = lent_graph lent.now in
+        (result ≡ length (file_of g lent.now.locks.now)) × (buffer.new ≡ sets buffer.old 0 (file_of g lent.now.locks.now)) }
 {
-    put_three(buffer, 0, 1, inputs, nodes, outputs);
-    let second = put_nodes(buffer, 15, nodes, node_table, node_bits);
-    let third = put_outputs(buffer, second, outputs, output_table, output_bits);
-    let end = put_locks(buffer, third, inputs + 1, nodes, locks);
+    put_three(buffer, 0, 1, lent.inputs, lent.nodes, lent.outputs);
+    let second = put_nodes(buffer, 15, lent.nodes, &lent.node_table);
+    let third = put_outputs(buffer, second, lent.outputs, &lent.output_table);
+    let end = put_locks(buffer, third, lent.inputs + 1, lent.nodes, lent.locks);
     put_head(buffer, end, 5, 0);
     end + 3
 }

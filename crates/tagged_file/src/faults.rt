@@ -2,32 +2,34 @@
 ghost use Rattle.std.specs.Prelude.{◌≡◌, List, ℕ, ◌+◌, ◌*◌, ◌≤◌, ◌<◌, length, get_or};
 ghost use Rattle.graph.specs.Graph.{graph_of};
 ghost use Rattle.graph.specs.Inner.{IsWord, AllReadable};
-ghost use Rattle.graph.specs.Literals.{graph_in, held, literals};
+ghost use Rattle.graph.specs.Literals.{held};
 ghost use Rattle.tagged_file.specs.Write.{node_field, node_field_at, lock_field, lock_field_at, in_order, file_of, write_number};
+ghost use Rattle.graph.specs.Tables.{lent_graph, lent_table};
 
-use graph::table::is_mark_at;
+use graph::Lent;
+use graph::table::Table;
 
 // The field of a node that has its third word at place j.
-pub fn node_bytes(table: &[u32], bits: &[u64], j: usize) -> usize
-    requires { (j < held (literals table.now bits.now)) × IsWord (get_or (literals table.now bits.now) j 0) }
-    ensures { ((x y : ℕ) → result ≡ length (node_field x y (get_or (literals table.now bits.now) j 0))) × (result ≤ 15) }
+pub fn node_bytes(table: &Table, j: usize) -> usize
+    requires { (j < held (lent_table table.now)) × IsWord (get_or (lent_table table.now) j 0) }
+    ensures { ((x y : ℕ) → result ≡ length (node_field x y (get_or (lent_table table.now) j 0))) × (result ≤ 15) }
 {
-    if is_mark_at(table, bits, j) {
+    if table.is_mark_at(j) {
         return 11;
     }
     15
 }
 
-pub fn nodes_bytes(nodes: u32, node_table: &[u32], node_bits: &[u64]) -> usize
-    requires { AllReadable nodes (literals node_table.now node_bits.now) }
-    ensures { (result ≡ length (in_order (node_field_at (literals node_table.now node_bits.now)) 0 nodes)) × (result ≤ 15 * nodes) }
+pub fn nodes_bytes(nodes: u32, node_table: &Table) -> usize
+    requires { AllReadable nodes (lent_table node_table.now) }
+    ensures { (result ≡ length (in_order (node_field_at (lent_table node_table.now)) 0 nodes)) × (result ≤ 15 * nodes) }
 {
     let mut size = 0;
     let mut v = 0;
     let mut left = nodes;
     while 0 < left {
         let third = 3 * v + 2;
-        size += node_bytes(node_table, node_bits, third);
+        size += node_bytes(node_table, third);
         v += 1;
         left -= 1;
     }
@@ -59,20 +61,12 @@ pub fn locks_bytes(nodes: u32, locks: &[u8]) -> usize
     size
 }
 
-pub fn file_bytes(
-    nodes: u32,
-    outputs: u32,
-    node_table: &[u32],
-    node_bits: &[u64],
-    locks: &[u8],
-) -> usize
-    requires { AllReadable nodes (literals node_table.now node_bits.now) × (nodes ≤ length locks.now) }
-    ensures { let ns = literals node_table.now node_bits.now in
+pub fn file_bytes(nodes: u32, outputs: u32, node_table: &Table, locks: &[u8]) -> usize
+    requires { AllReadable nodes (lent_table node_table.now) × (nodes ≤ length locks.now) }
+    ensures { let ns = lent_table node_table.now in
         ((i : ℕ) (os : List ℕ) → result ≡ length (file_of (graph_of i nodes outputs ns os) locks.now)) }
 {
-    18 + nodes_bytes(nodes, node_table, node_bits)
-        + 7 * outputs as usize
-        + locks_bytes(nodes, locks)
+    18 + nodes_bytes(nodes, node_table) + 7 * outputs as usize + locks_bytes(nodes, locks)
 }
 
 // As many bytes as a file of so many nodes and outputs may have.
@@ -83,37 +77,18 @@ pub fn most_bytes(nodes: u32, outputs: u32) -> usize
 }
 
 // The number that refuses to write the graph into a buffer of this many bytes. Where any file of so many nodes fits, it is not measured.
-pub fn write_number(
-    inputs: u32,
-    nodes: u32,
-    outputs: u32,
-    node_table: &[u32],
-    node_bits: &[u64],
-    output_table: &[u32],
-    output_bits: &[u64],
-    locks: &[u8],
-    room: usize,
-) -> u32
-    ensures { let g = graph_in inputs nodes outputs node_table.now node_bits.now output_table.now output_bits.now in
-        result ≡ write_number g locks.now room }
+pub fn write_number(lent: &Lent, room: usize) -> u32
+    ensures { let g = lent_graph lent.now in
+        result ≡ write_number g lent.now.locks.now room }
 {
-    let k = graph::faults::admission_number(
-        inputs,
-        nodes,
-        outputs,
-        node_table,
-        node_bits,
-        output_table,
-        output_bits,
-        locks,
-    );
+    let k = graph::faults::admission_number(lent);
     if k != 0 {
         return k;
     }
-    if most_bytes(nodes, outputs) <= room {
+    if most_bytes(lent.nodes, lent.outputs) <= room {
         return 0;
     }
-    if room < file_bytes(nodes, outputs, node_table, node_bits, locks) {
+    if room < file_bytes(lent.nodes, lent.outputs, &lent.node_table, lent.locks) {
         return 9;
     }
     0

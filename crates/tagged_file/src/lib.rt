@@ -3,10 +3,11 @@
 
 ghost use Rattle.std.specs.Prelude.{◌≡◌};
 ghost use Rattle.graph.specs.Answer.{locked_outcome};
-ghost use Rattle.graph.specs.Literals.{before, literals, graph_before};
+ghost use Rattle.graph.specs.Literals.{before, literals};
 ghost use Rattle.file_checks.specs.File.{field_number, field_payload};
 ghost use Rattle.tagged_file.specs.Load.{loaded_answer, loaded_graph, load_call};
 ghost use Rattle.tagged_file.specs.Write.{written_answer, write_outcome, write_call};
+ghost use Rattle.graph.specs.Tables.{lent_graph};
 
 mod emit;
 mod faults;
@@ -14,6 +15,7 @@ mod fill;
 pub mod locks;
 
 use file_checks::{bytes, fields};
+use graph::Lent;
 
 // What loading answers.
 #[derive(Clone, Copy)]
@@ -89,43 +91,13 @@ pub fn load(
 }
 
 // The length is known before the first byte is written: a refusal has changed nothing.
-pub fn write(
-    inputs: u32,
-    nodes: u32,
-    outputs: u32,
-    node_table: &[u32],
-    node_bits: &[u64],
-    output_table: &[u32],
-    output_bits: &[u64],
-    locks: &[u8],
-    buffer: &mut [u8],
-) -> Written
-    ensures { let g = graph_before inputs nodes outputs node_table node_bits output_table output_bits in
-        write_outcome (written_answer result) buffer.new ≡ write_call g (before locks) buffer.old }
+pub fn write(lent: &Lent, buffer: &mut [u8]) -> Written
+    ensures { let g = lent_graph lent.now in
+        write_outcome (written_answer result) buffer.new ≡ write_call g lent.now.locks.now buffer.old }
 {
-    let number = faults::write_number(
-        inputs,
-        nodes,
-        outputs,
-        node_table,
-        node_bits,
-        output_table,
-        output_bits,
-        locks,
-        buffer.len(),
-    );
+    let number = faults::write_number(lent, buffer.len());
     if number != 0 {
         return Written::Refused(graph::faults::refused_by(number));
     }
-    Written::Bytes(emit::put_file(
-        inputs,
-        nodes,
-        outputs,
-        node_table,
-        node_bits,
-        output_table,
-        output_bits,
-        locks,
-        buffer,
-    ))
+    Written::Bytes(emit::put_file(lent, buffer))
 }

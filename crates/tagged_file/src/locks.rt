@@ -8,9 +8,7 @@ pub fn free(locks: &mut [u8], nodes: u32)
     ensures { locks.new ≡ free_locks nodes locks.old }
 {
     let end = nodes as usize;
-    let mut v: usize = 0;
-    while v < end {
+    for v in 0..end {
         locks[v] = 0;
-        v += 1;
     }
 }

@@ -2,38 +2,21 @@
 ghost use Rattle.std.specs.Prelude.{◌≡◌, List, ℕ, ◌+◌, ◌*◌, ◌≤◌, ◌<◌};
 ghost use Rattle.graph.specs.Graph.{graph_of};
 ghost use Rattle.graph.specs.Admission.{Admitted};
-ghost use Rattle.graph.specs.Literals.{graph_in};
 ghost use Rattle.moves.specs.Call.{root_fault, scratch_fault, tree_number};
+ghost use Rattle.graph.specs.Tables.{lent_graph};
 
+use graph::Lent;
 use graph::faults::{admission_number, first_fault};
 use moves::faults::node_fault;
 use moves::reading::readers_of;
 
 // A node is a root unless it has just one reader and that reader is in the node table.
-pub fn root_fault(
-    inputs: u32,
-    nodes: u32,
-    outputs: u32,
-    node_table: &[u32],
-    node_bits: &[u64],
-    output_table: &[u32],
-    output_bits: &[u64],
-    root: u32,
-) -> u32
-    requires { Admitted (graph_in inputs nodes outputs node_table.now node_bits.now output_table.now output_bits.now) × (root < inputs + 1 + nodes) }
-    ensures { let g = graph_in inputs nodes outputs node_table.now node_bits.now output_table.now output_bits.now in
+pub fn root_fault(lent: &Lent, root: u32) -> u32
+    requires { Admitted (lent_graph lent.now) × (root < lent.now.inputs + 1 + lent.now.nodes) }
+    ensures { let g = lent_graph lent.now in
         result ≡ root_fault g root }
 {
-    let r = readers_of(
-        inputs,
-        nodes,
-        outputs,
-        node_table,
-        node_bits,
-        output_table,
-        output_bits,
-        root,
-    );
+    let r = readers_of(lent, root);
     if r.all != 1 {
         return 0;
     }
@@ -53,48 +36,19 @@ pub fn scratch_fault(nodes: u32, length: usize) -> u32
     0
 }
 
-pub fn tree_number(
-    inputs: u32,
-    nodes: u32,
-    outputs: u32,
-    node_table: &[u32],
-    node_bits: &[u64],
-    output_table: &[u32],
-    output_bits: &[u64],
-    locks: &[u8],
-    root: u32,
-    length: usize,
-) -> u32
-    ensures { let g = graph_in inputs nodes outputs node_table.now node_bits.now output_table.now output_bits.now in
-        result ≡ tree_number g locks.now length root }
+pub fn tree_number(lent: &Lent, root: u32, length: usize) -> u32
+    ensures { let g = lent_graph lent.now in
+        result ≡ tree_number g lent.now.locks.now length root }
 {
-    let admission = admission_number(
-        inputs,
-        nodes,
-        outputs,
-        node_table,
-        node_bits,
-        output_table,
-        output_bits,
-        locks,
-    );
+    let admission = admission_number(lent);
     if admission != 0 {
         return admission;
     }
-    let node = node_fault(inputs, nodes, root);
+    let node = node_fault(lent.inputs, lent.nodes, root);
     if node != 0 {
         return node;
     }
-    let tree = root_fault(
-        inputs,
-        nodes,
-        outputs,
-        node_table,
-        node_bits,
-        output_table,
-        output_bits,
-        root,
-    );
-    let room = scratch_fault(nodes, length);
+    let tree = root_fault(lent, root);
+    let room = scratch_fault(lent.nodes, length);
     first_fault(tree, room)
 }

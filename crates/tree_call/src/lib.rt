@@ -9,20 +9,22 @@ pub mod faults;
 mod rewrite;
 pub mod writing;
 
+use graph::Lent;
 use graph::faults::refused_by;
+use graph::table::Table;
 use moves::Saving;
 
 // The tree call: of all choices of moves for the tree of a root that leave locked nodes alone the first with the least C, by falling
 // index.
-pub fn tree_call(
+pub fn tree_call<'x>(
     inputs: u32,
     nodes: u32,
     outputs: u32,
-    node_table: &[u32],
-    node_bits: &mut [u64],
-    output_table: &[u32],
-    output_bits: &mut [u64],
-    locks: &[u8],
+    node_table: &'x [u32],
+    node_bits: &'x mut [u64],
+    output_table: &'x [u32],
+    output_bits: &'x mut [u64],
+    locks: &'x [u8],
     root: u32,
     scratch: &mut [u32],
 ) -> Saving
@@ -31,18 +33,21 @@ pub fn tree_call(
         outcome (saving_answer result) k ≡ tree_call g locks.now (length scratch.old) root }
     ensures scratch { ScratchKept (saving_answer result) scratch.old scratch.new }
 {
-    let number = faults::tree_number(
+    let lent = Lent {
         inputs,
         nodes,
         outputs,
-        node_table,
-        node_bits,
-        output_table,
-        output_bits,
+        node_table: Table {
+            indices: node_table,
+            bits: node_bits,
+        },
+        output_table: Table {
+            indices: output_table,
+            bits: output_bits,
+        },
         locks,
-        root,
-        scratch.len(),
-    );
+    };
+    let number = faults::tree_number(&lent, root, scratch.len());
     if number != 0 {
         return Saving::Refused(refused_by(number));
     }

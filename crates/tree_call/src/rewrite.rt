@@ -8,7 +8,9 @@ ghost use Rattle.moves.specs.Tree.{tree};
 ghost use Rattle.moves.specs.Compose.{IsRoot};
 
 use crate::writing::write_tree;
+use graph::Lent;
 use graph::edges::complemented;
+use graph::table::Table;
 use moves::Saving;
 use moves::gains::{Odds, saved_by};
 use moves::words::wide;
@@ -17,15 +19,15 @@ use trees::making::decided_step;
 use trees::start::fill_scratch;
 
 // What the call saves.
-pub fn rewrite_tree(
+pub fn rewrite_tree<'x>(
     inputs: u32,
     nodes: u32,
     outputs: u32,
-    node_table: &[u32],
-    node_bits: &mut [u64],
-    output_table: &[u32],
-    output_bits: &mut [u64],
-    locks: &[u8],
+    node_table: &'x [u32],
+    node_bits: &'x mut [u64],
+    output_table: &'x [u32],
+    output_bits: &'x mut [u64],
+    locks: &'x [u8],
     root: u32,
     scratch: &mut [u32],
 ) -> Saving
@@ -35,51 +37,25 @@ pub fn rewrite_tree(
         let k = graph_in inputs nodes outputs node_table.now node_bits.new output_table.now output_bits.new in
         outcome (saving_answer result) k ≡ rewrite g locks.now (tree g root) }
 {
-    let before = complemented(
+    let lent = Lent {
         inputs,
         nodes,
         outputs,
-        node_table,
-        node_bits,
-        output_table,
-        output_bits,
-    );
-    fill_scratch(
-        inputs,
-        nodes,
-        outputs,
-        node_table,
-        node_bits,
-        output_table,
-        output_bits,
-        scratch,
-    );
+        node_table: Table {
+            indices: node_table,
+            bits: node_bits,
+        },
+        output_table: Table {
+            indices: output_table,
+            bits: output_bits,
+        },
+        locks,
+    };
+    let before = complemented(&lent);
+    fill_scratch(&lent, scratch);
     let v = wide(root - (inputs + 1));
-    decide_tree(
-        inputs,
-        nodes,
-        outputs,
-        node_table,
-        node_bits,
-        output_table,
-        output_bits,
-        locks,
-        v,
-        scratch,
-    );
-    let step = decided_step(
-        inputs,
-        nodes,
-        outputs,
-        node_table,
-        node_bits,
-        output_table,
-        output_bits,
-        locks,
-        v,
-        before,
-        scratch,
-    );
+    decide_tree(&lent, v, scratch);
+    let step = decided_step(&lent, v, before, scratch);
     write_tree(
         inputs,
         nodes,

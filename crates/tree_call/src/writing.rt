@@ -10,7 +10,7 @@ ghost use Rattle.state.specs.State.{Ordered};
 ghost use Rattle.trees.specs.Deciding.{MovesHeld, stored_moved};
 
 use graph::literal::MARK;
-use graph::table::turn_word;
+use graph::table::{Table, turn_word};
 use moves::rows;
 use moves::words::{narrow, wide};
 use node_call::write;
@@ -23,20 +23,25 @@ fn write_inner(
     outputs: u32,
     node_table: &[u32],
     node_bits: &mut [u64],
-    output_table: &[u32],
-    output_bits: &[u64],
+    output_table: &Table,
     v: u32,
     p: u32,
     m: u32,
 )
-    requires { let g = graph_in inputs nodes outputs node_table.now node_bits.old output_table.now output_bits.now in
+    requires { let g = graph_in inputs nodes outputs node_table.now node_bits.old output_table.now.indices.now output_table.now.bits.now in
         let u = inputs + 1 + v in
         Admitted g × (v < nodes) × (m < kind_moves g u) × (is_root g u ≡ false) × (p ≡ place g u) }
-    ensures { let g = graph_in inputs nodes outputs node_table.now node_bits.old output_table.now output_bits.now in
-        let h = graph_in inputs nodes outputs node_table.now node_bits.new output_table.now output_bits.now in
+    ensures { let g = graph_in inputs nodes outputs node_table.now node_bits.old output_table.now.indices.now output_table.now.bits.now in
+        let h = graph_in inputs nodes outputs node_table.now node_bits.new output_table.now.indices.now output_table.now.bits.now in
         h ≡ apply g (at none (inputs + 1 + v) m) }
 {
-    let xor = rows::is_xor(node_table, node_bits, v as usize);
+    let xor = rows::is_xor(
+        &Table {
+            indices: node_table,
+            bits: node_bits,
+        },
+        v as usize,
+    );
     let t = rows::flag_of(xor, m, 3);
     write::turn_own(node_table, node_bits, v as usize, xor, m);
     turn_word(node_table, node_bits, p as usize, t);
@@ -82,8 +87,10 @@ fn write_at(
         outputs,
         node_table,
         node_bits,
-        output_table,
-        output_bits,
+        &Table {
+            indices: output_table,
+            bits: output_bits,
+        },
         v,
         p,
         m,

@@ -2,16 +2,16 @@
 ghost use Rattle.std.specs.Prelude.{◌≡◌, true, [], ◌∷◌, ◌+◌, ◌-◌, ◌*◌, ◌/◌, ◌%◌, ◌≤◌, ◌<◌, length};
 ghost use Rattle.graph.specs.Finite.{if_equal};
 ghost use Rattle.graph.specs.Graph.{is_edge};
-ghost use Rattle.graph.specs.Literals.{graph_in};
 ghost use Rattle.moves.specs.Decide.{Numbers, MovesOf};
 ghost use Rattle.moves.specs.Tree.{is_root};
 ghost use Rattle.moves.specs.Cost.{edge_cost, turned_cost, word_costs, bit_cost};
 ghost use Rattle.state.specs.State.{stands, Ordered};
 ghost use Rattle.trees.specs.Costing.{inner_at, cost_at, LeastCost, CostBits, CostedBelow, CostsOnly};
+ghost use Rattle.graph.specs.Tables.{lent_graph};
 
 use crate::fields::{read, store};
 use graph::literal::MARK;
-use graph::table;
+use graph::{Lent, table};
 use moves::words::{over, wide};
 use moves::{decide, rows};
 use state::now;
@@ -42,101 +42,36 @@ pub fn edge_cost(inputs: u32, nodes: u32, u: u32, b: u32, scratch: &[u32]) -> u3
 }
 
 // What word k + 1 of node v costs, as it stands and turned.
-pub fn edge_numbers(
-    inputs: u32,
-    nodes: u32,
-    outputs: u32,
-    node_table: &[u32],
-    node_bits: &[u64],
-    output_table: &[u32],
-    output_bits: &[u64],
-    v: usize,
-    k: usize,
-    scratch: &[u32],
-) -> [u32; 2]
-    requires { let g = graph_in inputs nodes outputs node_table.now node_bits.now output_table.now output_bits.now in
-        Ordered g scratch.now × (v < nodes) × (k < 3) × (is_edge g (3 * v + k) ≡ true) }
-    ensures { let g = graph_in inputs nodes outputs node_table.now node_bits.now output_table.now output_bits.now in
+pub fn edge_numbers(lent: &Lent, v: usize, k: usize, scratch: &[u32]) -> [u32; 2]
+    requires { let g = lent_graph lent.now in
+        Ordered g scratch.now × (v < lent.now.nodes) × (k < 3) × (is_edge g (3 * v + k) ≡ true) }
+    ensures { let g = lent_graph lent.now in
         let h = stands g scratch.now in
-        let t = inner_at inputs scratch.now in
-        let c = cost_at inputs scratch.now in
+        let t = inner_at lent.now.inputs scratch.now in
+        let c = cost_at lent.now.inputs scratch.now in
         result ≡ turned_cost h t c v k 0 ∷ turned_cost h t c v k 1 ∷ [] }
 {
-    let u = table::index_at(node_table, node_bits, 3 * v + k);
-    let b = now::bit_now(
-        inputs,
-        nodes,
-        outputs,
-        node_table,
-        node_bits,
-        output_table,
-        output_bits,
-        v,
-        k,
-        scratch,
-    );
+    let u = lent.node_table.index_at(3 * v + k);
+    let b = now::bit_now(lent, v, k, scratch);
     [
-        edge_cost(inputs, nodes, u, b, scratch),
-        edge_cost(inputs, nodes, u, 1 - b, scratch),
+        edge_cost(lent.inputs, lent.nodes, u, b, scratch),
+        edge_cost(lent.inputs, lent.nodes, u, 1 - b, scratch),
     ]
 }
 
 // What each word of node v costs, as it stands and turned. An XOR's third is the mark, which costs nothing.
-pub fn tree_numbers(
-    inputs: u32,
-    nodes: u32,
-    outputs: u32,
-    node_table: &[u32],
-    node_bits: &[u64],
-    output_table: &[u32],
-    output_bits: &[u64],
-    v: usize,
-    scratch: &[u32],
-) -> [u32; 6]
-    requires { let g = graph_in inputs nodes outputs node_table.now node_bits.now output_table.now output_bits.now in
-        Ordered g scratch.now × (v < nodes) }
-    ensures { let g = graph_in inputs nodes outputs node_table.now node_bits.now output_table.now output_bits.now in
-        result ≡ word_costs (stands g scratch.now) (inner_at inputs scratch.now) (cost_at inputs scratch.now) v }
+pub fn tree_numbers(lent: &Lent, v: usize, scratch: &[u32]) -> [u32; 6]
+    requires { let g = lent_graph lent.now in
+        Ordered g scratch.now × (v < lent.now.nodes) }
+    ensures { let g = lent_graph lent.now in
+        result ≡ word_costs (stands g scratch.now) (inner_at lent.now.inputs scratch.now) (cost_at lent.now.inputs scratch.now) v }
 {
-    let x = edge_numbers(
-        inputs,
-        nodes,
-        outputs,
-        node_table,
-        node_bits,
-        output_table,
-        output_bits,
-        v,
-        0,
-        scratch,
-    );
-    let y = edge_numbers(
-        inputs,
-        nodes,
-        outputs,
-        node_table,
-        node_bits,
-        output_table,
-        output_bits,
-        v,
-        1,
-        scratch,
-    );
-    if rows::is_xor(node_table, node_bits, v) {
+    let x = edge_numbers(lent, v, 0, scratch);
+    let y = edge_numbers(lent, v, 1, scratch);
+    if rows::is_xor(&lent.node_table, v) {
         return [x[0], x[1], y[0], y[1], 0, 0];
     }
-    let z = edge_numbers(
-        inputs,
-        nodes,
-        outputs,
-        node_table,
-        node_bits,
-        output_table,
-        output_bits,
-        v,
-        2,
-        scratch,
-    );
+    let z = edge_numbers(lent, v, 2, scratch);
     [x[0], x[1], y[0], y[1], z[0], z[1]]
 }
 
@@ -160,74 +95,31 @@ pub fn cost_bits(xor: bool, moves: u32, z: [u32; 6]) -> u32
 }
 
 // The two cost bits of node v, from those below it.
-pub fn node_costs(
-    inputs: u32,
-    nodes: u32,
-    outputs: u32,
-    node_table: &[u32],
-    node_bits: &[u64],
-    output_table: &[u32],
-    output_bits: &[u64],
-    locks: &[u8],
-    v: usize,
-    scratch: &[u32],
-) -> u32
-    requires { let g = graph_in inputs nodes outputs node_table.now node_bits.now output_table.now output_bits.now in
-        Ordered g scratch.now × (v < nodes) × (nodes ≤ length locks.now) }
-    ensures { let g = graph_in inputs nodes outputs node_table.now node_bits.now output_table.now output_bits.now in
+pub fn node_costs(lent: &Lent, v: usize, scratch: &[u32]) -> u32
+    requires { let g = lent_graph lent.now in
+        Ordered g scratch.now × (v < lent.now.nodes) × (lent.now.nodes ≤ length lent.now.locks.now) }
+    ensures { let g = lent_graph lent.now in
         let h = stands g scratch.now in
-        (result % 2 ≡ bit_cost h locks.now (inner_at inputs scratch.now) (cost_at inputs scratch.now) v 0) × (result / 2 % 2 ≡ bit_cost h locks.now (inner_at inputs scratch.now) (cost_at inputs scratch.now) v 1) }
+        (result % 2 ≡ bit_cost h lent.now.locks.now (inner_at lent.now.inputs scratch.now) (cost_at lent.now.inputs scratch.now) v 0) × (result / 2 % 2 ≡ bit_cost h lent.now.locks.now (inner_at lent.now.inputs scratch.now) (cost_at lent.now.inputs scratch.now) v 1) }
 {
-    let z = tree_numbers(
-        inputs,
-        nodes,
-        outputs,
-        node_table,
-        node_bits,
-        output_table,
-        output_bits,
-        v,
-        scratch,
-    );
+    let z = tree_numbers(lent, v, scratch);
     cost_bits(
-        rows::is_xor(node_table, node_bits, v),
-        rows::moves_at(node_table, node_bits, locks, v),
+        rows::is_xor(&lent.node_table, v),
+        rows::moves_at(&lent.node_table, lent.locks, v),
         z,
     )
 }
 
 // The costs of the tree of node `root`, by rising index: all its nodes but the root.
-pub fn fill_costs(
-    inputs: u32,
-    nodes: u32,
-    outputs: u32,
-    node_table: &[u32],
-    node_bits: &[u64],
-    output_table: &[u32],
-    output_bits: &[u64],
-    locks: &[u8],
-    root: usize,
-    scratch: &mut [u32],
-)
-    requires { let g = graph_in inputs nodes outputs node_table.now node_bits.now output_table.now output_bits.now in
-        Ordered g scratch.old × (root < nodes) × (is_root g (inputs + 1 + root) ≡ true) × (nodes ≤ length locks.now) }
-    ensures { let g = graph_in inputs nodes outputs node_table.now node_bits.now output_table.now output_bits.now in
-        CostedBelow (stands g scratch.old) locks.now scratch.new (inputs + 1 + root) root × CostsOnly scratch.old scratch.new }
+pub fn fill_costs(lent: &Lent, root: usize, scratch: &mut [u32])
+    requires { let g = lent_graph lent.now in
+        Ordered g scratch.old × (root < lent.now.nodes) × (is_root g (lent.now.inputs + 1 + root) ≡ true) × (lent.now.nodes ≤ length lent.now.locks.now) }
+    ensures { let g = lent_graph lent.now in
+        CostedBelow (stands g scratch.old) lent.now.locks.now scratch.new (lent.now.inputs + 1 + root) root × CostsOnly scratch.old scratch.new }
 {
     let mut v = wide(read(scratch, root, 7));
     while v != root {
-        let bits = node_costs(
-            inputs,
-            nodes,
-            outputs,
-            node_table,
-            node_bits,
-            output_table,
-            output_bits,
-            locks,
-            v,
-            scratch,
-        );
+        let bits = node_costs(lent, v, scratch);
         store(scratch, v, 4, bits);
         v = wide(read(scratch, v, 6));
     }

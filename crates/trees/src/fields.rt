@@ -22,9 +22,7 @@ pub fn clear(nodes: usize, scratch: &mut [u32])
     requires { (nodes ≤ 100000) × (8 * nodes ≤ length scratch.old) }
     ensures { Cleared nodes scratch.new }
 {
-    let mut k: usize = 0;
-    while k < 8 * nodes {
+    for k in 0..8 * nodes {
         scratch[k] = 0;
-        k += 1;
     }
 }

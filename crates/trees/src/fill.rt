@@ -3,11 +3,13 @@ ghost use Rattle.std.specs.Prelude.{◌≡◌, ℕ, ◌+◌, ◌*◌, ◌≤◌,
 ghost use Rattle.state.specs.State.{field};
 ghost use Rattle.trees.specs.Filling.{Counting, Noted, Noting, Notes, only_place, Gathered, GatheredTo};
 ghost use Rattle.graph.specs.Inner.{Names, Readable};
-ghost use Rattle.graph.specs.Literals.{bit_of, held, literals};
+ghost use Rattle.graph.specs.Literals.{bit_of, held};
+ghost use Rattle.graph.specs.Tables.{lent_table};
 
 use crate::fields::{read, store};
 use graph::literal::MARK;
 use graph::table;
+use graph::table::Table;
 use moves::words::{narrow, node_of, wide};
 
 // The word at place p, which has the index u and the bit b, noted at the node that it names: counted in field f, its bit added in field
@@ -30,21 +32,18 @@ pub fn note(inputs: usize, nodes: usize, u: u32, b: u32, p: u32, f: usize, scrat
 pub fn note_all(
     inputs: usize,
     nodes: usize,
-    table: &[u32],
-    bits: &[u64],
+    table: &Table,
     words: usize,
     f: usize,
     scratch: &mut [u32],
 )
-    requires { Noting inputs nodes f scratch.old × (words ≤ 300000) × (words ≤ held (literals table.now bits.now)) }
-    ensures { Notes inputs nodes f (literals table.now bits.now) scratch.old scratch.new words }
+    requires { Noting inputs nodes f scratch.old × (words ≤ 300000) × (words ≤ held (lent_table table.now)) }
+    ensures { Notes inputs nodes f (lent_table table.now) scratch.old scratch.new words }
 {
-    let mut p: usize = 0;
-    while p < words {
-        let u = table::index_at(table, bits, p);
-        let b = table::odd_at(table, bits, p);
+    for p in 0..words {
+        let u = table.index_at(p);
+        let b = table.odd_at(p);
         note(inputs, nodes, u, b, narrow(p), f, scratch);
-        p += 1;
     }
 }
 
@@ -62,25 +61,23 @@ pub fn only_place(in_nodes: u32, in_outputs: u32, place: u32) -> u32
 }
 
 // All readers of node v, the place of an only one, and the complement bits of its words, nothing being pending.
-pub fn gather(table: &[u32], bits: &[u64], scratch: &mut [u32], v: usize)
-    requires { (v < 100000) × Readable (literals table.now bits.now) v × (8 * v + 8 ≤ length scratch.old) × (field scratch.old v 4 ≤ 1000000) × (field scratch.old v 6 ≤ 1000000) }
-    ensures { Gathered (literals table.now bits.now) v scratch.old scratch.new }
+pub fn gather(table: &Table, scratch: &mut [u32], v: usize)
+    requires { (v < 100000) × Readable (lent_table table.now) v × (8 * v + 8 ≤ length scratch.old) × (field scratch.old v 4 ≤ 1000000) × (field scratch.old v 6 ≤ 1000000) }
+    ensures { Gathered (lent_table table.now) v scratch.old scratch.new }
 {
     let a = read(scratch, v, 4);
     let b = read(scratch, v, 6);
     let p = read(scratch, v, 5);
     store(scratch, v, 0, a + b);
     store(scratch, v, 3, only_place(a, b, p));
-    store(scratch, v, 2, 2 * table::three_at(table, bits, v));
+    store(scratch, v, 2, 2 * table.three_at(v));
 }
 
-pub fn gather_all(nodes: usize, table: &[u32], bits: &[u64], scratch: &mut [u32])
-    requires { (nodes ≤ 100000) × (8 * nodes ≤ length scratch.old) × ((v : ℕ) → v < nodes → Readable (literals table.now bits.now) v × (field scratch.old v 4 ≤ 1000000) × (field scratch.old v 6 ≤ 1000000)) }
-    ensures { GatheredTo (literals table.now bits.now) nodes scratch.old scratch.new nodes }
+pub fn gather_all(nodes: usize, table: &Table, scratch: &mut [u32])
+    requires { (nodes ≤ 100000) × (8 * nodes ≤ length scratch.old) × ((v : ℕ) → v < nodes → Readable (lent_table table.now) v × (field scratch.old v 4 ≤ 1000000) × (field scratch.old v 6 ≤ 1000000)) }
+    ensures { GatheredTo (lent_table table.now) nodes scratch.old scratch.new nodes }
 {
-    let mut v: usize = 0;
-    while v < nodes {
-        gather(table, bits, scratch, v);
-        v += 1;
+    for v in 0..nodes {
+        gather(table, scratch, v);
     }
 }

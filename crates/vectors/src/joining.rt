@@ -2,6 +2,8 @@
 // how many elements are given for its front, and these; the ten lengths; I, N and O of the first and of the second.
 use crate::{print, read};
 use answers::told;
+use graph::Lent;
+use graph::table::Table;
 use std::io;
 
 pub fn join(
@@ -27,10 +29,14 @@ pub fn join(
     );
     meet(
         rt,
-        &first_node_table,
-        &first_node_bits,
-        &first_output_table,
-        &first_output_bits,
+        &Table {
+            indices: &first_node_table,
+            bits: &first_node_bits,
+        },
+        &Table {
+            indices: &first_output_table,
+            bits: &first_output_bits,
+        },
         &first_locks,
         node_table,
         node_bits,
@@ -57,10 +63,8 @@ fn fill(
 
 fn meet(
     rt: &(impl Input + Print),
-    first_node_table: &[u32],
-    first_node_bits: &[u64],
-    first_output_table: &[u32],
-    first_output_bits: &[u64],
+    first_node_table: &Table,
+    first_output_table: &Table,
     first_locks: &[u8],
     node_table: &mut [u32],
     node_bits: &mut [u64],
@@ -84,14 +88,16 @@ fn meet(
     lend_first(
         rt,
         first_node_table,
-        first_node_bits,
         first_output_table,
-        first_output_bits,
         first_locks,
-        &second_node_table,
-        &second_node_bits,
-        &second_output_table,
-        &second_output_bits,
+        &Table {
+            indices: &second_node_table,
+            bits: &second_node_bits,
+        },
+        &Table {
+            indices: &second_output_table,
+            bits: &second_output_bits,
+        },
         &second_locks,
         node_table,
         node_bits,
@@ -104,15 +110,11 @@ fn meet(
 // So much of each of the first's slices lent.
 fn lend_first(
     rt: &(impl Input + Print),
-    first_node_table: &[u32],
-    first_node_bits: &[u64],
-    first_output_table: &[u32],
-    first_output_bits: &[u64],
+    first_node_table: &Table,
+    first_output_table: &Table,
     first_locks: &[u8],
-    second_node_table: &[u32],
-    second_node_bits: &[u64],
-    second_output_table: &[u32],
-    second_output_bits: &[u64],
+    second_node_table: &Table,
+    second_output_table: &Table,
     second_locks: &[u8],
     node_table: &mut [u32],
     node_bits: &mut [u64],
@@ -120,22 +122,24 @@ fn lend_first(
     output_bits: &mut [u64],
     locks: &mut [u8],
 ) -> io::Result<()> {
-    let node_table_end = read::room_words(read::size(rt), first_node_table);
-    let node_bits_end = read::room_longs(read::size(rt), first_node_bits);
-    let output_table_end = read::room_words(read::size(rt), first_output_table);
-    let output_bits_end = read::room_longs(read::size(rt), first_output_bits);
+    let node_table_end = read::room_words(read::size(rt), first_node_table.indices);
+    let node_bits_end = read::room_longs(read::size(rt), first_node_table.bits);
+    let output_table_end = read::room_words(read::size(rt), first_output_table.indices);
+    let output_bits_end = read::room_longs(read::size(rt), first_output_table.bits);
     let locks_end = read::room_bytes(read::size(rt), first_locks);
     lend_second(
         rt,
-        &first_node_table[..node_table_end],
-        &first_node_bits[..node_bits_end],
-        &first_output_table[..output_table_end],
-        &first_output_bits[..output_bits_end],
+        &Table {
+            indices: &first_node_table.indices[..node_table_end],
+            bits: &first_node_table.bits[..node_bits_end],
+        },
+        &Table {
+            indices: &first_output_table.indices[..output_table_end],
+            bits: &first_output_table.bits[..output_bits_end],
+        },
         &first_locks[..locks_end],
         second_node_table,
-        second_node_bits,
         second_output_table,
-        second_output_bits,
         second_locks,
         node_table,
         node_bits,
@@ -148,15 +152,11 @@ fn lend_first(
 // And of the second's.
 fn lend_second(
     rt: &(impl Input + Print),
-    first_node_table: &[u32],
-    first_node_bits: &[u64],
-    first_output_table: &[u32],
-    first_output_bits: &[u64],
+    first_node_table: &Table,
+    first_output_table: &Table,
     first_locks: &[u8],
-    second_node_table: &[u32],
-    second_node_bits: &[u64],
-    second_output_table: &[u32],
-    second_output_bits: &[u64],
+    second_node_table: &Table,
+    second_output_table: &Table,
     second_locks: &[u8],
     node_table: &mut [u32],
     node_bits: &mut [u64],
@@ -164,22 +164,24 @@ fn lend_second(
     output_bits: &mut [u64],
     locks: &mut [u8],
 ) -> io::Result<()> {
-    let node_table_end = read::room_words(read::size(rt), second_node_table);
-    let node_bits_end = read::room_longs(read::size(rt), second_node_bits);
-    let output_table_end = read::room_words(read::size(rt), second_output_table);
-    let output_bits_end = read::room_longs(read::size(rt), second_output_bits);
+    let node_table_end = read::room_words(read::size(rt), second_node_table.indices);
+    let node_bits_end = read::room_longs(read::size(rt), second_node_table.bits);
+    let output_table_end = read::room_words(read::size(rt), second_output_table.indices);
+    let output_bits_end = read::room_longs(read::size(rt), second_output_table.bits);
     let locks_end = read::room_bytes(read::size(rt), second_locks);
     run(
         rt,
         first_node_table,
-        first_node_bits,
         first_output_table,
-        first_output_bits,
         first_locks,
-        &second_node_table[..node_table_end],
-        &second_node_bits[..node_bits_end],
-        &second_output_table[..output_table_end],
-        &second_output_bits[..output_bits_end],
+        &Table {
+            indices: &second_node_table.indices[..node_table_end],
+            bits: &second_node_table.bits[..node_bits_end],
+        },
+        &Table {
+            indices: &second_output_table.indices[..output_table_end],
+            bits: &second_output_table.bits[..output_bits_end],
+        },
         &second_locks[..locks_end],
         node_table,
         node_bits,
@@ -191,15 +193,11 @@ fn lend_second(
 
 fn run(
     rt: &(impl Input + Print),
-    first_node_table: &[u32],
-    first_node_bits: &[u64],
-    first_output_table: &[u32],
-    first_output_bits: &[u64],
+    first_node_table: &Table,
+    first_output_table: &Table,
     first_locks: &[u8],
-    second_node_table: &[u32],
-    second_node_bits: &[u64],
-    second_output_table: &[u32],
-    second_output_bits: &[u64],
+    second_node_table: &Table,
+    second_output_table: &Table,
     second_locks: &[u8],
     node_table: &mut [u32],
     node_bits: &mut [u64],
@@ -208,22 +206,22 @@ fn run(
     locks: &mut [u8],
 ) -> io::Result<()> {
     let answer = join::join(
-        read::word(rt),
-        read::word(rt),
-        read::word(rt),
-        first_node_table,
-        first_node_bits,
-        first_output_table,
-        first_output_bits,
-        first_locks,
-        read::word(rt),
-        read::word(rt),
-        read::word(rt),
-        second_node_table,
-        second_node_bits,
-        second_output_table,
-        second_output_bits,
-        second_locks,
+        &Lent {
+            inputs: read::word(rt),
+            nodes: read::word(rt),
+            outputs: read::word(rt),
+            node_table: *first_node_table,
+            output_table: *first_output_table,
+            locks: first_locks,
+        },
+        &Lent {
+            inputs: read::word(rt),
+            nodes: read::word(rt),
+            outputs: read::word(rt),
+            node_table: *second_node_table,
+            output_table: *second_output_table,
+            locks: second_locks,
+        },
         node_table,
         node_bits,
         output_table,

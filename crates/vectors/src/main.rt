@@ -12,6 +12,7 @@ mod ops;
 mod print;
 mod read;
 
+use graph::table::Table;
 use std::io;
 
 fn fill(
@@ -34,17 +35,15 @@ fn fill(
 fn show(
     rt: &(impl Input + Print),
     bytes: &[u8],
-    node_table: &[u32],
-    node_bits: &[u64],
-    output_table: &[u32],
-    output_bits: &[u64],
+    node_table: &Table,
+    output_table: &Table,
     locks: &[u8],
 ) -> io::Result<()> {
     print::bytes(rt, bytes)?;
-    print::words(rt, node_table)?;
-    print::longs(rt, node_bits)?;
-    print::words(rt, output_table)?;
-    print::longs(rt, output_bits)?;
+    print::words(rt, node_table.indices)?;
+    print::longs(rt, node_table.bits)?;
+    print::words(rt, output_table.indices)?;
+    print::longs(rt, output_table.bits)?;
     print::bytes(rt, locks)?;
     print::end_line(rt)
 }
@@ -80,10 +79,14 @@ fn run(
     show(
         rt,
         bytes,
-        node_table,
-        node_bits,
-        output_table,
-        output_bits,
+        &Table {
+            indices: node_table,
+            bits: node_bits,
+        },
+        &Table {
+            indices: output_table,
+            bits: output_bits,
+        },
         locks,
     )
 }

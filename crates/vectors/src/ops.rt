@@ -1,6 +1,8 @@
 // Each op: an entry called, and its answer printed. I, N and O stand at the end of a case whose entry is given them.
 use crate::{joining, listing, print, read};
 use answers::told;
+use graph::Lent;
+use graph::table::Table;
 use std::io;
 
 pub fn call(
@@ -14,8 +16,30 @@ pub fn call(
     locks: &mut [u8],
 ) -> io::Result<()> {
     match op {
-        1 => admit(rt, node_table, node_bits, output_table, output_bits, locks),
-        2 => count(rt, node_table, node_bits, output_table, output_bits, locks),
+        1 => admit(
+            rt,
+            &Table {
+                indices: node_table,
+                bits: node_bits,
+            },
+            &Table {
+                indices: output_table,
+                bits: output_bits,
+            },
+            locks,
+        ),
+        2 => count(
+            rt,
+            &Table {
+                indices: node_table,
+                bits: node_bits,
+            },
+            &Table {
+                indices: output_table,
+                bits: output_bits,
+            },
+            locks,
+        ),
         3 => field(rt, bytes),
         4 => load(
             rt,
@@ -29,10 +53,14 @@ pub fn call(
         5 => write(
             rt,
             bytes,
-            node_table,
-            node_bits,
-            output_table,
-            output_bits,
+            &Table {
+                indices: node_table,
+                bits: node_bits,
+            },
+            &Table {
+                indices: output_table,
+                bits: output_bits,
+            },
             locks,
         ),
         16 => joining::join(rt, node_table, node_bits, output_table, output_bits, locks),
@@ -57,43 +85,35 @@ fn admission(answer: graph::Admission) -> u32 {
 
 fn admit(
     rt: &(impl Input + Print),
-    node_table: &[u32],
-    node_bits: &[u64],
-    output_table: &[u32],
-    output_bits: &[u64],
+    node_table: &Table,
+    output_table: &Table,
     locks: &[u8],
 ) -> io::Result<()> {
-    let answer = graph::admit_graph(
-        read::word(rt),
-        read::word(rt),
-        read::word(rt),
-        node_table,
-        node_bits,
-        output_table,
-        output_bits,
+    let answer = graph::admit_graph(&Lent {
+        inputs: read::word(rt),
+        nodes: read::word(rt),
+        outputs: read::word(rt),
+        node_table: *node_table,
+        output_table: *output_table,
         locks,
-    );
+    });
     print::answer(rt, admission(answer), [0; 3])
 }
 
 fn count(
     rt: &(impl Input + Print),
-    node_table: &[u32],
-    node_bits: &[u64],
-    output_table: &[u32],
-    output_bits: &[u64],
+    node_table: &Table,
+    output_table: &Table,
     locks: &[u8],
 ) -> io::Result<()> {
-    let answer = graph::complemented_edges(
-        read::word(rt),
-        read::word(rt),
-        read::word(rt),
-        node_table,
-        node_bits,
-        output_table,
-        output_bits,
+    let answer = graph::complemented_edges(&Lent {
+        inputs: read::word(rt),
+        nodes: read::word(rt),
+        outputs: read::word(rt),
+        node_table: *node_table,
+        output_table: *output_table,
         locks,
-    );
+    });
     print::answer(
         rt,
         told::count_number(answer),
@@ -133,21 +153,19 @@ fn load(
 fn write(
     rt: &(impl Input + Print),
     buffer: &mut [u8],
-    node_table: &[u32],
-    node_bits: &[u64],
-    output_table: &[u32],
-    output_bits: &[u64],
+    node_table: &Table,
+    output_table: &Table,
     locks: &[u8],
 ) -> io::Result<()> {
     let answer = tagged_file::write(
-        read::word(rt),
-        read::word(rt),
-        read::word(rt),
-        node_table,
-        node_bits,
-        output_table,
-        output_bits,
-        locks,
+        &Lent {
+            inputs: read::word(rt),
+            nodes: read::word(rt),
+            outputs: read::word(rt),
+            node_table: *node_table,
+            output_table: *output_table,
+            locks,
+        },
         buffer,
     );
     print::answer(rt, told::written_number(answer), [0; 3])?;

@@ -41,10 +41,8 @@ fn mix_long(sum: u64, long: u64) -> u64 {
 pub fn bytes(rt: &impl Print, bytes: &[u8]) -> io::Result<()> {
     put(rt, bytes.len() as u64)?;
     let mut sum: u64 = 0;
-    let mut i = 0;
-    while i < bytes.len() {
+    for i in 0..bytes.len() {
         sum = mix_byte(sum, bytes[i]);
-        i += 1;
     }
     put(rt, sum)
 }
@@ -52,10 +50,8 @@ pub fn bytes(rt: &impl Print, bytes: &[u8]) -> io::Result<()> {
 pub fn words(rt: &impl Print, words: &[u32]) -> io::Result<()> {
     put(rt, words.len() as u64)?;
     let mut sum: u64 = 0;
-    let mut i = 0;
-    while i < words.len() {
+    for i in 0..words.len() {
         sum = mix(sum, words[i]);
-        i += 1;
     }
     put(rt, sum)
 }
@@ -63,10 +59,8 @@ pub fn words(rt: &impl Print, words: &[u32]) -> io::Result<()> {
 pub fn longs(rt: &impl Print, longs: &[u64]) -> io::Result<()> {
     put(rt, longs.len() as u64)?;
     let mut sum: u64 = 0;
-    let mut i = 0;
-    while i < longs.len() {
+    for i in 0..longs.len() {
         sum = mix_long(sum, longs[i]);
-        i += 1;
     }
     put(rt, sum)
 }

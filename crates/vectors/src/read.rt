@@ -77,18 +77,14 @@ pub fn fill_bytes(rt: &impl Input, space: &mut [u8]) {
 
 pub fn fill_words(rt: &impl Input, space: &mut [u32]) {
     let end = least(size(rt), space.len());
-    let mut i = 0;
-    while i < end {
+    for i in 0..end {
         space[i] = word(rt);
-        i += 1;
     }
 }
 
 pub fn fill_longs(rt: &impl Input, space: &mut [u64]) {
     let end = least(size(rt), space.len());
-    let mut i = 0;
-    while i < end {
+    for i in 0..end {
         space[i] = long(rt);
-        i += 1;
     }
 }

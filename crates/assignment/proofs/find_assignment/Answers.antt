@@ -8,8 +8,8 @@ use Rattle.graph.specs.Answer.{Answer, accepted}
 use Rattle.graph.proofs.Answers.{refused_is, accepted_is}
 use Rattle.assignment.specs.Assignment.{found_values, assignment_call}
 use Rattle.assignment.proofs.Refusing.{assignment_range, searchable}
-use Rattle.graph.specs.Literals.{literals}
 use Rattle.assignment.proofs.find_assignment.Goals as goal
+use Rattle.graph.specs.Tables.{lent_graph}
 
 -- an accepted answer has the number 0
 
@@ -19,7 +19,7 @@ no_number a l e = ap (λ (x : Answer). x.number) e
 pub refused_by-requires : goal.refused_by-requires
 refused_by-requires c =
     let a = c.args in
-    assignment_range (graph_of a.inputs a.nodes a.outputs (literals a.node_table.now a.node_bits.now) (literals a.output_table.now a.output_bits.now)) a.locks.now a.wanted.now (length a.scratch.now) c.assignment_number-number.result c.assignment_number-number.ensures c.if-number-ne0.true
+    assignment_range (lent_graph a.lent.now) a.lent.now.locks.now a.wanted.now (length a.scratch.now) c.assignment_number-number.result c.assignment_number-number.ensures c.if-number-ne0.true
 
 pub returns-then-number-ne0 : goal.returns-then-number-ne0
 unfolding assignment_call
@@ -30,7 +30,7 @@ returns-then-number-ne0 c =
 pub search-requires : goal.search-requires
 search-requires c =
     let a = c.args in
-    searchable (graph_of a.inputs a.nodes a.outputs (literals a.node_table.now a.node_bits.now) (literals a.output_table.now a.output_bits.now)) a.locks.now a.wanted.now (length a.scratch.now) (sym c.assignment_number-number.ensures ∙ c.if-number-ne0.false)
+    searchable (lent_graph a.lent.now) a.lent.now.locks.now a.wanted.now (length a.scratch.now) (sym c.assignment_number-number.ensures ∙ c.if-number-ne0.false)
 
 pub returns : goal.returns
 unfolding assignment_call

@@ -7,14 +7,14 @@ use Rattle.graph.proofs.Tests.{equal, unequal}
 use Rattle.graph.proofs.Answers.{refused_is, accepted_is}
 use Rattle.evaluation.specs.Evaluation.{results_after}
 use Rattle.evaluation.proofs.Call.{lent, evaluate_le}
-use Rattle.graph.specs.Literals.{literals}
 use Rattle.evaluation.proofs.evaluate.Goals as goal
+use Rattle.graph.specs.Tables.{lent_graph}
 
 pub refused_by-requires : goal.refused_by-requires
 refused_by-requires c =
     let a = c.args in
     let e = c.evaluate_number-number.ensures in
-    (omega arith, omega (arith, evaluate_le (graph_of a.inputs a.nodes a.outputs (literals a.node_table.now a.node_bits.now) (literals a.output_table.now a.output_bits.now)) a.locks.now (length a.input_words.now) (length a.scratch.now) (length a.results.now)))
+    (omega arith, omega (arith, evaluate_le (lent_graph a.lent.now) a.lent.now.locks.now (length a.input_words.now) (length a.scratch.now) (length a.results.now)))
 
 pub returns-then-number-ne0 : goal.returns-then-number-ne0
 unfolding results_after
@@ -29,7 +29,7 @@ returns-then-number-ne0 c =
 pub evaluate_words-requires : goal.evaluate_words-requires
 evaluate_words-requires c =
     let a = c.args in
-    let l = lent (graph_of a.inputs a.nodes a.outputs (literals a.node_table.now a.node_bits.now) (literals a.output_table.now a.output_bits.now)) a.locks.now (length a.input_words.now) (length a.scratch.now) (length a.results.now)
+    let l = lent (lent_graph a.lent.now) a.lent.now.locks.now (length a.input_words.now) (length a.scratch.now) (length a.results.now)
     (sym c.evaluate_number-number.ensures ∙ c.if-number-ne0.false) in
     (l.admitted, l.words, l.scratch, l.results)
 

@@ -2,14 +2,14 @@
 use Rattle.std.proofs.Common.{sym, ◌∙◌}
 use Rattle.graph.specs.Graph.{Graph, graph_of}
 use Rattle.graph.proofs.Answers.{refused_is, accepted_is, admission_range}
-use Rattle.graph.specs.Literals.{literals}
 use Rattle.graph.proofs.admit_graph.Goals as goal
+use Rattle.graph.specs.Tables.{lent_graph}
 
 pub refused_by-requires : goal.refused_by-requires
 refused_by-requires c =
     let a = c.args in
-    let g : Graph = graph_of a.inputs a.nodes a.outputs (literals a.node_table.now a.node_bits.now) (literals a.output_table.now a.output_bits.now) in
-    admission_range g a.locks.now _ c.admission_number-k.ensures c.if-k-ne0.true
+    let g : Graph = lent_graph a.lent.now in
+    admission_range g a.lent.now.locks.now _ c.admission_number-k.ensures c.if-k-ne0.true
 
 pub returns-then-k-ne0 : goal.returns-then-k-ne0
 returns-then-k-ne0 c =

@@ -4,7 +4,7 @@ use Prim.Native.Nat.{ℕ}
 use native.Mathlib.Omega.{arith}
 use lib.ListN.{length}
 use Rattle.graph.specs.Graph.{Graph}
-use Rattle.graph.specs.Literals.{graph_in, held, literals}
+use Rattle.graph.specs.Literals.{held, literals}
 use Rattle.graph.proofs.Words.{is_word}
 use Rattle.join.specs.Join.{join_number}
 use Rattle.join.proofs.Accepted.{number_range}
@@ -12,6 +12,7 @@ use Rattle.join.proofs.Filling.{room_kept}
 use Rattle.join.proofs.Whole.{Ready, join_refused, ready, join_accepted}
 use Rattle.join.proofs.join.Goals as goal
 use Rattle.join.proofs.join.Goals.{After-join_number-number}
+use Rattle.graph.specs.Tables.{lent_graph}
 
 -- after the tests: both graphs, and what they have said
 
@@ -19,12 +20,12 @@ module _ (n : After-join_number-number) where
   abbrev g : Graph
   g =
       let a = n.args in
-      graph_in a.inputs a.nodes a.outputs a.node_table.now a.node_bits.now a.output_table.now a.output_bits.now
+      lent_graph a.first.now
 
   abbrev h : Graph
   h =
       let a = n.args in
-      graph_in a.second_inputs a.second_nodes a.second_outputs a.second_node_table.now a.second_node_bits.now a.second_output_table.now a.second_output_bits.now
+      lent_graph a.second.now
 
   -- what the joined tables hold
   abbrev node_room : ℕ
@@ -33,13 +34,13 @@ module _ (n : After-join_number-number) where
   abbrev output_room : ℕ
   output_room = let a = n.args in held (literals a.joined_output_table.now a.joined_output_bits.now)
 
-  number : let a = n.args in n.join_number-number.result ≡ join_number g a.locks.now h a.second_locks.now node_room output_room (length a.joined_locks.now)
+  number : let a = n.args in n.join_number-number.result ≡ join_number g a.first.now.locks.now h a.second.now.locks.now node_room output_room (length a.joined_locks.now)
   number = rw (n.room_of-2.ensures, n.room_of.ensures) at n.join_number-number.ensures
 
-  passed : n.join_number-number.result ≡ 0 → (let a = n.args in Ready g a.locks.now h a.second_locks.now node_room output_room (length a.joined_locks.now))
+  passed : n.join_number-number.result ≡ 0 → (let a = n.args in Ready g a.first.now.locks.now h a.second.now.locks.now node_room output_room (length a.joined_locks.now))
   passed z =
       let a = n.args in
-      ready g a.locks.now h a.second_locks.now (literals a.joined_node_table.now a.joined_node_bits.now) (literals a.joined_output_table.now a.joined_output_bits.now) a.joined_locks.now _ number z
+      ready g a.first.now.locks.now h a.second.now.locks.now (literals a.joined_node_table.now a.joined_node_bits.now) (literals a.joined_output_table.now a.joined_output_bits.now) a.joined_locks.now _ number z
 
 pub refused_by-requires : goal.refused_by-requires
 refused_by-requires c =
@@ -58,8 +59,8 @@ copy_nodes-got-requires c =
     let p = f.first_admitted in
     record { fact = (p.few_nodes, p.held_nodes, is_word (g (goal.at.copy_nodes-got-requires c).After-join_number-number) p); nodes_bound = omega (arith, f.rooms.long_nodes) }
 
-pub overflow_mul-nodes : goal.overflow_mul-nodes
-overflow_mul-nodes c = omega (arith, (passed (goal.at.overflow_mul-nodes c).After-join_number-number c.if-number-ne0.false).known.first_admitted.few_nodes)
+pub overflow_mul-first : goal.overflow_mul-first
+overflow_mul-first c = omega (arith, (passed (goal.at.overflow_mul-first c).After-join_number-number c.if-number-ne0.false).known.first_admitted.few_nodes)
 
 pub meet_nodes-requires : goal.meet_nodes-requires
 meet_nodes-requires c =

@@ -10,7 +10,7 @@ use Rattle.majority_call.proofs.majority_call.Goals as goal
 use Rattle.majority_call.proofs.majority_call.Goals.{Else-number-ne0, Start}
 
 abbrev graph : Start → Graph
-graph s = graph_in s.args.inputs s.args.nodes s.args.outputs s.args.node_table.now s.args.node_bits.now s.args.output_table.now s.args.output_bits.now
+graph s = graph_in s.args.inputs s.args.nodes s.args.outputs s.args.node_table.now s.args.node_bits.now s.args.output_table.now.indices.now s.args.output_table.now.bits.now
 
 abbrev three : Start → Triple
 three s = triple s.args.one s.args.two s.args.three

@@ -6,16 +6,16 @@ use Rattle.graph.proofs.Answers.{refused_is, accepted_is}
 use Rattle.graph.proofs.Difference.{read_as_lem}
 use Rattle.moves.specs.Call.{trial_number, trial_saving, trial_call}
 use Rattle.node_call.proofs.Refusing.{trial_range}
-use Rattle.graph.specs.Literals.{literals}
 use Rattle.node_call.proofs.trial.Goals as goal
 use Rattle.node_call.proofs.trial.Goals.{Start}
+use Rattle.graph.specs.Tables.{lent_graph}
 
 abbrev graph : Start → Graph
-graph s = let a = s.args in graph_of a.inputs a.nodes a.outputs (literals a.node_table.now a.node_bits.now) (literals a.output_table.now a.output_bits.now)
+graph s = let a = s.args in lent_graph a.lent.now
 
 pub refused_by-requires : goal.refused_by-requires
 refused_by-requires c =
-    trial_range (graph (goal.at.refused_by-requires c).Start) c.args.locks.now c.args.node c.args.word c.args.named_move c.args.node_move _ c.trial_number-number.ensures c.if-number-ne0.true
+    trial_range (graph (goal.at.refused_by-requires c).Start) c.args.lent.now.locks.now c.args.node c.args.word c.args.named_move c.args.node_move _ c.trial_number-number.ensures c.if-number-ne0.true
 
 pub returns-then-number-ne0 : goal.returns-then-number-ne0
 unfolding trial_call
@@ -31,4 +31,4 @@ unfolding trial_call
 returns c =
     let a = c.args in
     ap whole (read_as_lem _ c.named_saving.type_inv ∙ c.named_saving.ensures)
-    ∙ accepted_is (trial_number (graph (goal.at.returns c).Start) a.locks.now a.node a.word a.named_move a.node_move) (whole (trial_saving (graph (goal.at.returns c).Start) a.node a.word a.named_move a.node_move)) (sym c.trial_number-number.ensures ∙ c.if-number-ne0.false)
+    ∙ accepted_is (trial_number (graph (goal.at.returns c).Start) a.lent.now.locks.now a.node a.word a.named_move a.node_move) (whole (trial_saving (graph (goal.at.returns c).Start) a.node a.word a.named_move a.node_move)) (sym c.trial_number-number.ensures ∙ c.if-number-ne0.false)

@@ -3,8 +3,8 @@ use mathlib.Core.Path.{sym, ◌∙◌}
 use Rattle.graph.specs.Graph.{Graph, graph_of}
 use Rattle.graph.proofs.Admit.{admitted, locks_admitted}
 use Rattle.tagged_file.proofs.WholeWrite.{write_fault, write_passed, write_refused, write_accepted}
-use Rattle.graph.specs.Literals.{literals}
 use Rattle.tagged_file.proofs.write.Goals as goal
+use Rattle.graph.specs.Tables.{lent_graph}
 
 pub refused_by-requires : goal.refused_by-requires
 refused_by-requires c = write_fault _ _ _ _ c.write_number-number.ensures c.if-number-ne0.true
@@ -15,9 +15,9 @@ returns-then-number-ne0 c = write_refused _ _ _ _ _ c.refused_by.ensures c.write
 pub put_file-requires : goal.put_file-requires
 put_file-requires c =
     let a = c.args in
-    let g : Graph = graph_of a.inputs a.nodes a.outputs (literals a.node_table.now a.node_bits.now) (literals a.output_table.now a.output_bits.now) in
-    let p = write_passed g a.locks.now _ (sym c.write_number-number.ensures ∙ c.if-number-ne0.false) in
-    (admitted g a.locks.now p.0, (locks_admitted g a.locks.now p.0).enough, p.1)
+    let g : Graph = lent_graph a.lent.now in
+    let p = write_passed g a.lent.now.locks.now _ (sym c.write_number-number.ensures ∙ c.if-number-ne0.false) in
+    (admitted g a.lent.now.locks.now p.0, (locks_admitted g a.lent.now.locks.now p.0).enough, p.1)
 
 pub returns : goal.returns
 returns c =

@@ -8,12 +8,10 @@ use Rattle.aiger_export.specs.Inner.{node_literal}
 use Rattle.aiger_export.proofs.Placed.{Counted}
 use Rattle.graph.specs.Literals.{literals}
 use Rattle.aiger_export.proofs.gates.fill_literals.Given as goal
+use Rattle.graph.specs.Tables.{lent_graph}
 
 abbrev pub invariant-loop-v : goal.invariant-loop-v
 invariant-loop-v l =
-    Counted (graph_of l.inputs l.nodes l.outputs (literals l.node_table l.node_bits) (literals l.output_table l.output_bits)) l.inputs l.v l.last
-    × (l.scratch ≡ swept (node_literal (graph_of l.inputs l.nodes l.outputs (literals l.node_table l.node_bits) (literals l.output_table l.output_bits))) l.initial.scratch l.v)
+    Counted (lent_graph l.lent) l.lent.inputs l.v l.last
+    × (l.scratch ≡ swept (node_literal (lent_graph l.lent)) l.initial.scratch l.v)
     × (length l.scratch ≡ length l.initial.scratch)
-
-abbrev pub decreases-loop-v : goal.decreases-loop-v
-decreases-loop-v l = l.nodes - l.v

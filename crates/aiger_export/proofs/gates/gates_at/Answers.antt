@@ -3,8 +3,8 @@ use mathlib.Core.Path.{sym, ◌∙◌}
 use native.Mathlib.Omega.{arith}
 use Rattle.graph.specs.Graph.{graph_of, is_xor}
 use Rattle.aiger.proofs.Gates.{of_xor, of_majority}
-use Rattle.graph.specs.Literals.{literals}
 use Rattle.aiger_export.proofs.gates.gates_at.Goals as goal
+use Rattle.graph.specs.Tables.{lent_table}
 
 pub overflow_mul-v : goal.overflow_mul-v
 overflow_mul-v c = omega (arith, c.requires.few)
@@ -17,8 +17,8 @@ is_mark_at-requires c = (c.requires.there, c.requires.third)
 
 pub returns-then-is_mark_at : goal.returns-then-is_mark_at
 unfolding is_xor
-returns-then-is_mark_at c = ((λ i n o os. let a = c.args in sym (of_xor (graph_of i n o (literals a.node_table.now a.node_bits.now) os) a.v (sym c.is_mark_at.ensures ∙ c.if-is_mark_at.true))), omega arith)
+returns-then-is_mark_at c = ((λ i n o os. let a = c.args in sym (of_xor (graph_of i n o (lent_table a.node_table.now) os) a.v (sym c.is_mark_at.ensures ∙ c.if-is_mark_at.true))), omega arith)
 
 pub returns : goal.returns
 unfolding is_xor
-returns c = ((λ i n o os. let a = c.args in sym (of_majority (graph_of i n o (literals a.node_table.now a.node_bits.now) os) a.v (sym c.is_mark_at.ensures ∙ c.if-is_mark_at.false))), omega arith)
+returns c = ((λ i n o os. let a = c.args in sym (of_majority (graph_of i n o (lent_table a.node_table.now) os) a.v (sym c.is_mark_at.ensures ∙ c.if-is_mark_at.false))), omega arith)

@@ -6,15 +6,15 @@ use Rattle.aiger.proofs.Gates.{exported_input}
 use Rattle.aiger_export.proofs.Placed.{literal_node, literal_most}
 use Rattle.aiger_export.proofs.gates.literal.Goals as goal
 
-pub returns-then-index-inputs : goal.returns-then-index-inputs
-returns-then-index-inputs c = sym (exported_input _ _ c.if-index-inputs.true)
+pub returns-then-index-lent : goal.returns-then-index-lent
+returns-then-index-lent c = sym (exported_input _ _ c.if-index-lent.true)
 
 pub overflow_add-result-2 : goal.overflow_add-result-2
 overflow_add-result-2 c =
-    let v = c.args.x / 2 - c.args.inputs - 1 in
+    let v = c.args.x / 2 - c.args.lent.now.inputs - 1 in
     omega (arith, c.requires.2 v (omega arith), literal_most _ c.requires.0 v (omega arith))
 
 pub returns : goal.returns
 returns c =
-    let v = c.args.x / 2 - c.args.inputs - 1 in
+    let v = c.args.x / 2 - c.args.lent.now.inputs - 1 in
     rw (c.requires.2 v (omega arith)) (sym (literal_node _ _ v (omega arith)))

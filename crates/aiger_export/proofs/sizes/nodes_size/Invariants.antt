@@ -7,11 +7,12 @@ use Rattle.aiger_export.proofs.Placed.{Counted}
 use Rattle.aiger_export.proofs.Summed.{Summed}
 use Rattle.graph.specs.Literals.{literals}
 use Rattle.aiger_export.proofs.sizes.nodes_size.Given as goal
+use Rattle.graph.specs.Tables.{lent_graph}
 
 abbrev pub invariant-loop-left : goal.invariant-loop-left
 invariant-loop-left l =
-    Summed (node_lines (graph_of l.inputs l.nodes l.outputs (literals l.node_table l.node_bits) (literals l.output_table l.output_bits))) l.nodes l.size l.v l.left
-    × Counted (graph_of l.inputs l.nodes l.outputs (literals l.node_table l.node_bits) (literals l.output_table l.output_bits)) (l.inputs + 1) l.v l.b
+    Summed (node_lines (lent_graph l.lent)) l.lent.nodes l.size l.v l.left
+    × Counted (lent_graph l.lent) (l.lent.inputs + 1) l.v l.b
 
 abbrev pub decreases-loop-left : goal.decreases-loop-left
 decreases-loop-left l = l.left

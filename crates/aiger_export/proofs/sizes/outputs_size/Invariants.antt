@@ -4,9 +4,10 @@ use Rattle.aiger_export.specs.Inner.{output_line}
 use Rattle.aiger_export.proofs.Summed.{Summed}
 use Rattle.graph.specs.Literals.{literals}
 use Rattle.aiger_export.proofs.sizes.outputs_size.Given as goal
+use Rattle.graph.specs.Tables.{lent_graph}
 
 abbrev pub invariant-loop-left : goal.invariant-loop-left
-invariant-loop-left l = Summed (output_line (graph_of l.inputs l.nodes l.outputs (literals l.node_table l.node_bits) (literals l.output_table l.output_bits))) l.outputs l.size l.j l.left
+invariant-loop-left l = Summed (output_line (lent_graph l.lent)) l.lent.outputs l.size l.j l.left
 
 abbrev pub decreases-loop-left : goal.decreases-loop-left
 decreases-loop-left l = l.left

@@ -3,8 +3,8 @@ use Rattle.graph.specs.Graph.{Graph, graph_of}
 use Rattle.aiger.proofs.Exported.{few_gates}
 use Rattle.aiger_export.proofs.Stored.{text_long}
 use native.Mathlib.Omega.{arith}
-use Rattle.graph.specs.Literals.{literals}
 use Rattle.aiger_export.proofs.sizes.text_size.Goals as goal
+use Rattle.graph.specs.Tables.{lent_graph}
 
 pub header_size-requires : goal.header_size-requires
 header_size-requires c =
@@ -13,5 +13,5 @@ header_size-requires c =
 pub returns : goal.returns
 returns c =
     let a = c.args in
-    let g : Graph = graph_of a.inputs a.nodes a.outputs (literals a.node_table.now a.node_bits.now) (literals a.output_table.now a.output_bits.now) in
+    let g : Graph = lent_graph a.lent.now in
     omega (arith, text_long g _ c.gate_count-count.ensures, c.header_size.ensures.0, c.inputs_size.ensures.0, c.outputs_size.ensures.0, c.nodes_size.ensures.0)

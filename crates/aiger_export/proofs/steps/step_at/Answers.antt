@@ -4,11 +4,11 @@ use Rattle.graph.proofs.Words.{readable}
 use Rattle.aiger_export.proofs.Placed.{step_early, step_node, step_none, counted_zero, counted_most, counted_more, counted_next, counted_all}
 use Rattle.aiger_export.proofs.steps.step_at.Goals as goal
 
-pub returns-then-half-inputs : goal.returns-then-half-inputs
-returns-then-half-inputs c = step_early _ _ c.if-half-inputs.true
+pub returns-then-half-lent : goal.returns-then-half-lent
+returns-then-half-lent c = step_early _ _ c.if-half-lent.true
 
 pub loop-v-init : goal.loop-v-init
-loop-v-init c = (counted_zero _ _, c.if-half-inputs.false)
+loop-v-init c = (counted_zero _ _, c.if-half-lent.false)
 
 pub gates_at-last-requires : goal.gates_at-last-requires
 gates_at-last-requires c = readable _ c.requires c.loop-v.v (omega arith)

@@ -5,20 +5,20 @@ use native.Mathlib.Omega.{arith}
 use mathlib.Core.Path.{◌≡◌}
 use lib.ListN.{get_or}
 use Rattle.graph.specs.Graph.{Graph, graph_of}
-use Rattle.graph.specs.Literals.{literals}
 use Rattle.graph.proofs.Words.{readable}
 use Rattle.aiger.proofs.Gates.{word_early, word_third}
 use Rattle.aiger_export.proofs.Named.{Read, read_majority, xor_first, majority_first, xor_is, majority_is}
 use Rattle.aiger_export.proofs.Widths.{base_low}
 use Rattle.aiger_export.proofs.text.put_node.Goals as goal
 use Rattle.aiger_export.proofs.text.put_node.Goals.{After-word_of-z, Start}
+use Rattle.graph.specs.Tables.{lent_graph}
 
 abbrev graph : Start → Graph
-graph s = let a = s.args in graph_of a.inputs a.nodes a.outputs (literals a.node_table.now a.node_bits.now) (literals a.output_table.now a.output_bits.now)
+graph s = let a = s.args in lent_graph a.lent.now
 
 -- where the three words have been read
 
-read : (c : After-word_of-z) → let a = c.args in Read (graph_of a.inputs a.nodes a.outputs (literals a.node_table.now a.node_bits.now) (literals a.output_table.now a.output_bits.now)) c.args.v (get_or c.args.scratch.now c.args.v 0) c.word_of-x.result c.word_of-y.result c.word_of-z.result c.literal-p.result c.literal-q.result
+read : (c : After-word_of-z) → let a = c.args in Read (lent_graph a.lent.now) c.args.v (get_or c.args.scratch.now c.args.v 0) c.word_of-x.result c.word_of-y.result c.word_of-z.result c.literal-p.result c.literal-q.result
 read c =
     let e : 3 * c.args.v + 0 ≡ 3 * c.args.v = add-zero _ in
     record {

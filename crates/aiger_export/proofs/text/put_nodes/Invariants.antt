@@ -4,10 +4,11 @@ use Rattle.tagged_file.proofs.Emitted.{Left}
 use Rattle.aiger_export.specs.Inner.{node_lines}
 use Rattle.graph.specs.Literals.{literals}
 use Rattle.aiger_export.proofs.text.put_nodes.Given as goal
+use Rattle.graph.specs.Tables.{lent_graph}
 
 abbrev pub invariant-loop-left : goal.invariant-loop-left
 invariant-loop-left l =
-    Left (node_lines (graph_of l.inputs l.nodes l.outputs (literals l.node_table l.node_bits) (literals l.output_table l.output_bits))) l.nodes l.start l.initial.buffer l.buffer l.at l.v l.left
+    Left (node_lines (lent_graph l.lent)) l.lent.nodes l.start l.initial.buffer l.buffer l.at l.v l.left
 
 abbrev pub decreases-loop-left : goal.decreases-loop-left
 decreases-loop-left l = l.left

@@ -10,12 +10,12 @@ use Rattle.aiger_export.specs.Inner.{input_line, output_line, node_lines}
 use Rattle.aiger_export.proofs.Parts.{text_is}
 use Rattle.aiger_export.proofs.Stored.{four_put, text_long}
 use native.Mathlib.Omega.{arith}
-use Rattle.graph.specs.Literals.{literals}
 use Rattle.aiger_export.proofs.text.put_text.Goals as goal
 use Rattle.aiger_export.proofs.text.put_text.Goals.{Start}
+use Rattle.graph.specs.Tables.{lent_graph}
 
 abbrev graph : Start → Graph
-graph s = let a = s.args in graph_of a.inputs a.nodes a.outputs (literals a.node_table.now a.node_bits.now) (literals a.output_table.now a.output_bits.now)
+graph s = let a = s.args in lent_graph a.lent.now
 
 pub put_header-first-requires : goal.put_header-first-requires
 put_header-first-requires c =

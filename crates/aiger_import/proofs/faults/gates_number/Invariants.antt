@@ -11,6 +11,3 @@ at s v k = gate_line_number (skip (3 * k) s) (v + k)
 
 abbrev pub invariant-loop-k : goal.invariant-loop-k
 invariant-loop-k l = Checking (at l.rest l.start) l.rest l.s l.k (3 * l.k) × (l.k ≤ l.nodes)
-
-abbrev pub decreases-loop-k : goal.decreases-loop-k
-decreases-loop-k l = l.nodes - l.k

@@ -11,6 +11,3 @@ at s k = input_line_number (skip k s) k
 
 abbrev pub invariant-loop-k : goal.invariant-loop-k
 invariant-loop-k l = Checking (at l.rest) l.rest l.s l.k l.k × (l.k ≤ l.inputs)
-
-abbrev pub decreases-loop-k : goal.decreases-loop-k
-decreases-loop-k l = l.inputs - l.k

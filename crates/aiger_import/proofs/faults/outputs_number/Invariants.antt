@@ -11,6 +11,3 @@ at s v j = output_line_number (skip j s) v
 
 abbrev pub invariant-loop-j : goal.invariant-loop-j
 invariant-loop-j l = Checking (at l.rest (l.inputs + 1 + l.nodes)) l.rest l.s l.j l.j × (l.j ≤ l.outputs)
-
-abbrev pub decreases-loop-j : goal.decreases-loop-j
-decreases-loop-j l = l.outputs - l.j

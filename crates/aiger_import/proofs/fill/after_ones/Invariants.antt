@@ -6,6 +6,3 @@ use Rattle.aiger_import.proofs.fill.after_ones.Given as goal
 
 abbrev pub invariant-loop-k : goal.invariant-loop-k
 invariant-loop-k l = (l.s ≡ skip l.k l.rest) × (l.k ≤ l.lines)
-
-abbrev pub decreases-loop-k : goal.decreases-loop-k
-decreases-loop-k l = l.lines - l.k

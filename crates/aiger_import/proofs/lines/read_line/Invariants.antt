@@ -7,6 +7,3 @@ use Rattle.aiger_import.proofs.lines.read_line.Given as goal
 
 abbrev pub invariant-loop-j : goal.invariant-loop-j
 invariant-loop-j l = Walked l.k l.s l.numbers l.at l.j × (length l.numbers ≡ length l.initial.numbers)
-
-abbrev pub decreases-loop-j : goal.decreases-loop-j
-decreases-loop-j l = l.k - l.j

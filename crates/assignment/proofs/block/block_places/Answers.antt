@@ -3,15 +3,15 @@ use Prim.Native.Nat.{◌+◌, ◌≤◌}
 use native.Mathlib.Omega.{arith}
 use lib.ListN.{length}
 use Rattle.graph.specs.Graph.{Graph, graph_of}
-use Rattle.graph.specs.Literals.{literals}
 use Rattle.assignment.proofs.Numbers.{words_long}
 use Rattle.assignment.proofs.Blocks.{left_none, places_of}
 use Rattle.assignment.proofs.block.block_places.Goals as goal
 use Rattle.assignment.proofs.block.block_places.Goals.{After-input_words-input_words}
+use Rattle.graph.specs.Tables.{lent_graph}
 
 -- sixteen input words are enough
 
-enough : (w : After-input_words-input_words) → w.args.inputs ≤ length w.input_words-input_words.result
+enough : (w : After-input_words-input_words) → w.args.lent.now.inputs ≤ length w.input_words-input_words.result
 enough w =
     let n = words_long w.input_words-input_words.result w.args.b w.input_words-input_words.ensures in
     omega (arith, w.requires.0.few)
@@ -23,11 +23,11 @@ first_places-left-requires c =
 pub returns-then-left-eq0 : goal.returns-then-left-eq0
 returns-then-left-eq0 c =
     let a = c.args in
-    let g : Graph = graph_of a.inputs a.nodes a.outputs (literals a.node_table.now a.node_bits.now) (literals a.output_table.now a.output_bits.now) in
+    let g : Graph = lent_graph a.lent.now in
     let words = c.input_words-input_words.result in
-    let l : a.inputs + 1 + c.front_count-many.result ≤ a.inputs + 1 + a.top = omega (arith, c.front_count-many.ensures.0) in
+    let l : a.lent.now.inputs + 1 + c.front_count-many.result ≤ a.lent.now.inputs + 1 + a.top = omega (arith, c.front_count-many.ensures.0) in
     places_of g a.wanted.now words a.b 0 a.top c.input_words-input_words.ensures c.requires.0.few c.requires.1
-    (left_none g a.wanted.now words (a.inputs + 1 + c.front_count-many.result) (a.inputs + 1 + a.top) c.first_places-left.result l c.if-left-eq0.true c.first_places-left.ensures.0)
+    (left_none g a.wanted.now words (a.lent.now.inputs + 1 + c.front_count-many.result) (a.lent.now.inputs + 1 + a.top) c.first_places-left.result l c.if-left-eq0.true c.first_places-left.ensures.0)
 
 pub last_places-requires : goal.last_places-requires
 last_places-requires c =
@@ -43,5 +43,5 @@ last_places-requires c =
 pub returns : goal.returns
 returns c =
     let a = c.args in
-    let g : Graph = graph_of a.inputs a.nodes a.outputs (literals a.node_table.now a.node_bits.now) (literals a.output_table.now a.output_bits.now) in
+    let g : Graph = lent_graph a.lent.now in
     places_of g a.wanted.now c.input_words-input_words.result a.b c.last_places.result a.top c.input_words-input_words.ensures c.requires.0.few c.requires.1 c.last_places.ensures

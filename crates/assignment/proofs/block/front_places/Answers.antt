@@ -5,13 +5,13 @@ use Prim.Native.Nat.{ℕ, ◌+◌, ◌-◌, ◌≤◌, ◌<◌}
 use native.Mathlib.Omega.{arith}
 use lib.ListN.{length, take, drop}
 use Rattle.graph.specs.Graph.{Graph, graph_of}
-use Rattle.graph.specs.Literals.{literals}
 use Rattle.evaluation.specs.Inner.{nodes_of, Front}
 use Rattle.evaluation.proofs.Outputs.{node_below}
 use Rattle.evaluation.proofs.Rows.{front_none, front_moved}
 use Rattle.assignment.proofs.Blocks.{left_more, left_none, pattern_of, part_long, part_few, part_words}
 use Rattle.assignment.proofs.block.front_places.Goals as goal
 use Rattle.assignment.proofs.block.front_places.Goals.{After-front_nodes, After-lesser-next, At-loop-known}
+use Rattle.graph.specs.Tables.{lent_graph, lent_table}
 
 -- scratch is as long as it came
 
@@ -28,7 +28,7 @@ few c =
 
 -- what it fills is in scratch
 
-fits-scratch : (c : After-front_nodes) → c.args.inputs + 1 + c.lesser-next.result ≤ length c.front_nodes.new.scratch
+fits-scratch : (c : After-front_nodes) → c.args.lent.now.inputs + 1 + c.lesser-next.result ≤ length c.front_nodes.new.scratch
 fits-scratch c =
     let e = c.lesser-next.ensures in
     let t = c.loop-known-test.true in
@@ -50,7 +50,7 @@ loop-known-init c =
     let a = c.args in (
       omega arith,
       refl,
-      front_none (nodes_of a.inputs a.nodes (literals a.node_table.now a.node_bits.now)) a.input_words.now c.fill_low.new.scratch c.requires.1 c.fill_low.ensures,
+      front_none (nodes_of a.lent.now.inputs a.lent.now.nodes (lent_table a.lent.now.node_table)) a.input_words.now c.fill_low.new.scratch c.requires.1 c.fill_low.ensures,
       c.requires.3,
     )
 
@@ -60,8 +60,8 @@ shape_of-scratch-then-rest-eq0 c = as_long (goal.at.shape_of-scratch-then-rest-e
 pub returns-then-rest-eq0 : goal.returns-then-rest-eq0
 returns-then-rest-eq0 c =
     let a = c.args in
-    let g : Graph = graph_of a.inputs a.nodes a.outputs (literals a.node_table.now a.node_bits.now) (literals a.output_table.now a.output_bits.now) in
-    (left_none g a.wanted.now a.input_words.now (a.inputs + 1 + c.loop-known.known) (a.inputs + 1 + a.many) c.loop-known.rest (omega (arith, c.loop-known.invariant.0)) c.if-rest-eq0.true c.loop-known.invariant.3, λ d. absurd (d refl))
+    let g : Graph = lent_graph a.lent.now in
+    (left_none g a.wanted.now a.input_words.now (a.lent.now.inputs + 1 + c.loop-known.known) (a.lent.now.inputs + 1 + a.many) c.loop-known.rest (omega (arith, c.loop-known.invariant.0)) c.if-rest-eq0.true c.loop-known.invariant.3, λ d. absurd (d refl))
 
 pub overflow_add-known : goal.overflow_add-known
 overflow_add-known c = omega (arith, c.loop-known.invariant.0, c.requires.2, c.requires.0.admitted.few_nodes)
@@ -72,7 +72,7 @@ front_nodes-requires c =
     let m = few (goal.at.front_nodes-requires c).After-lesser-next in (
       omega (arith, m.1, c.requires.2, c.requires.0.admitted.few_nodes),
       omega (arith, m.1, c.requires.2, c.requires.0.scratch, as_long (goal.at.front_nodes-requires c).At-loop-known),
-      (λ v h. node_below (graph_of a.inputs a.nodes a.outputs (literals a.node_table.now a.node_bits.now) (literals a.output_table.now a.output_bits.now)) c.requires.0.admitted v (omega (arith, m.1, c.requires.2))),
+      (λ v h. node_below (lent_graph a.lent.now) c.requires.0.admitted v (omega (arith, m.1, c.requires.2))),
       omega (arith, m.0),
     )
 
@@ -92,7 +92,7 @@ overflow_add-first-in-loop-known-2 c =
 
 pub left_from-rest-requires : goal.left_from-rest-requires
 left_from-rest-requires c =
-    (c.requires.0.few, c.requires.1, part_few (c.args.inputs + 1) c.lesser-next.result c.front_nodes.new.scratch (fits-scratch (goal.at.left_from-rest-requires c).After-front_nodes) (omega (arith, (few (goal.at.left_from-rest-requires c).After-lesser-next).1, c.requires.2, c.requires.0.admitted.few_nodes)), pattern_of _ _ _ c.requires.0)
+    (c.requires.0.few, c.requires.1, part_few (c.args.lent.now.inputs + 1) c.lesser-next.result c.front_nodes.new.scratch (fits-scratch (goal.at.left_from-rest-requires c).After-front_nodes) (omega (arith, (few (goal.at.left_from-rest-requires c).After-lesser-next).1, c.requires.2, c.requires.0.admitted.few_nodes)), pattern_of _ _ _ c.requires.0)
 
 pub loop-known-smaller : goal.loop-known-smaller
 loop-known-smaller c = let m = few (goal.at.loop-known-smaller c).After-lesser-next in omega (arith, m.0, m.1)
@@ -100,22 +100,22 @@ loop-known-smaller c = let m = few (goal.at.loop-known-smaller c).After-lesser-n
 pub loop-known-preserved : goal.loop-known-preserved
 loop-known-preserved c =
     let a = c.args in
-    let g : Graph = graph_of a.inputs a.nodes a.outputs (literals a.node_table.now a.node_bits.now) (literals a.output_table.now a.output_bits.now) in
+    let g : Graph = lent_graph a.lent.now in
     let m = few (goal.at.loop-known-preserved c).After-lesser-next in
     let next = c.lesser-next.result in
     let filled = c.front_nodes.new.scratch in
-    let front = c.front_nodes.ensures a.nodes a.input_words.now c.loop-known.invariant.2 in (
+    let front = c.front_nodes.ensures a.lent.now.nodes a.input_words.now c.loop-known.invariant.2 in (
       m.1,
       c.front_nodes.auto.scratch ∙ c.loop-known.invariant.1,
       front,
-      left_more g a.wanted.now a.input_words.now (take (a.inputs + 1 + next - (a.inputs + 1)) (drop (a.inputs + 1) filled)) c.loop-known.known next c.loop-known.rest c.left_from-rest.result
-          (part_long (a.inputs + 1) next filled (fits-scratch (goal.at.loop-known-preserved c).After-front_nodes)) (omega (arith, m.0)) (omega (arith, m.1, c.requires.2))
-          (part_words (nodes_of a.inputs a.nodes (literals a.node_table.now a.node_bits.now)) a.input_words.now filled next front) c.loop-known.invariant.3 c.left_from-rest.ensures,
+      left_more g a.wanted.now a.input_words.now (take (a.lent.now.inputs + 1 + next - (a.lent.now.inputs + 1)) (drop (a.lent.now.inputs + 1) filled)) c.loop-known.known next c.loop-known.rest c.left_from-rest.result
+          (part_long (a.lent.now.inputs + 1) next filled (fits-scratch (goal.at.loop-known-preserved c).After-front_nodes)) (omega (arith, m.0)) (omega (arith, m.1, c.requires.2))
+          (part_words (nodes_of a.lent.now.inputs a.lent.now.nodes (lent_table a.lent.now.node_table)) a.input_words.now filled next front) c.loop-known.invariant.3 c.left_from-rest.ensures,
     )
 
 pub shift-requires : goal.shift-requires
 shift-requires c =
-    let h : c.args.inputs + 1 + c.args.many ≤ length c.loop-known.scratch = omega (arith, c.requires.2, c.requires.0.scratch, as_long (goal.at.shift-requires c).At-loop-known) in
+    let h : c.args.lent.now.inputs + 1 + c.args.many ≤ length c.loop-known.scratch = omega (arith, c.requires.2, c.requires.0.scratch, as_long (goal.at.shift-requires c).At-loop-known) in
     h
 
 pub shape_of-scratch : goal.shape_of-scratch
@@ -125,7 +125,7 @@ pub returns : goal.returns
 returns c =
     let a = c.args in
     let e : c.loop-known.known ≡ a.many = omega (arith, c.loop-known.invariant.0, c.loop-known-test.false) in
-    let g : Graph = nodes_of a.inputs a.nodes (literals a.node_table.now a.node_bits.now) in (
+    let g : Graph = nodes_of a.lent.now.inputs a.lent.now.nodes (lent_table a.lent.now.node_table) in (
       rw e at c.loop-known.invariant.3,
       λ d. front_moved g a.input_words.now c.loop-known.scratch a.many c.shift.new.scratch (subst (λ (i : ℕ). Front g a.input_words.now c.loop-known.scratch i) e c.loop-known.invariant.2) c.shift.ensures,
     )

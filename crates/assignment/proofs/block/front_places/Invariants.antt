@@ -8,12 +8,13 @@ use Rattle.graph.specs.Literals.{literals}
 use Rattle.evaluation.specs.Inner.{nodes_of, Front}
 use Rattle.assignment.specs.Inner.{Left}
 use Rattle.assignment.proofs.block.front_places.Given as goal
+use Rattle.graph.specs.Tables.{lent_graph, lent_table}
 
 abbrev pub invariant-loop-known : goal.invariant-loop-known
 invariant-loop-known l =
     (l.known ≤ l.many) × (length l.scratch ≡ length l.initial.scratch)
-    × Front (nodes_of l.inputs l.nodes (literals l.node_table l.node_bits)) l.input_words l.scratch l.known
-    × Left (graph_of l.inputs l.nodes l.outputs (literals l.node_table l.node_bits) (literals l.output_table l.output_bits)) l.wanted l.input_words (l.inputs + 1 + l.known) l.rest
+    × Front (nodes_of l.lent.inputs l.lent.nodes (lent_table l.lent.node_table)) l.input_words l.scratch l.known
+    × Left (lent_graph l.lent) l.wanted l.input_words (l.lent.inputs + 1 + l.known) l.rest
 
 abbrev pub decreases-loop-known : goal.decreases-loop-known
 decreases-loop-known l = l.many - l.known

@@ -4,11 +4,11 @@ use native.Mathlib.Omega.{arith}
 use lib.ListN.{length, take}
 use lib.Seq.{length-take-le}
 use Rattle.graph.specs.Graph.{Graph, graph_of}
-use Rattle.graph.specs.Literals.{literals}
 use Rattle.evaluation.proofs.Outputs.{node_below}
 use Rattle.assignment.proofs.Blocks.{left_more, pattern_of}
 use Rattle.assignment.proofs.block.last_places.Goals as goal
 use Rattle.assignment.proofs.block.last_places.Goals.{After-fill_rest}
+use Rattle.graph.specs.Tables.{lent_graph}
 
 -- the words filled in are as many as are asked for
 
@@ -23,7 +23,7 @@ fill_rest-requires c =
       c.requires.1,
       omega (arith, c.requires.3, p.scratch),
       omega (arith, c.requires.3, p.admitted.few_nodes),
-      (λ v h. node_below (graph_of a.inputs a.nodes a.outputs (literals a.node_table.now a.node_bits.now) (literals a.output_table.now a.output_bits.now)) p.admitted v (omega (arith, c.requires.3))),
+      (λ v h. node_below (lent_graph a.lent.now) p.admitted v (omega (arith, c.requires.3))),
       c.requires.2,
     )
 
@@ -37,6 +37,6 @@ left_from-requires c =
 pub returns : goal.returns
 returns c =
     let a = c.args in
-    let g : Graph = graph_of a.inputs a.nodes a.outputs (literals a.node_table.now a.node_bits.now) (literals a.output_table.now a.output_bits.now) in
+    let g : Graph = lent_graph a.lent.now in
     left_more g a.wanted.now a.input_words.now (take a.top c.fill_rest.new.scratch) a.many a.top a.left c.left_from.result
-    (long (goal.at.returns c).After-fill_rest) c.requires.2 c.requires.3 (c.fill_rest.ensures a.nodes c.requires.5) c.requires.4 c.left_from.ensures
+    (long (goal.at.returns c).After-fill_rest) c.requires.2 c.requires.3 (c.fill_rest.ensures a.lent.now.nodes c.requires.5) c.requires.4 c.left_from.ensures

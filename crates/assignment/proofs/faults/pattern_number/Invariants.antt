@@ -7,6 +7,3 @@ use Rattle.assignment.proofs.faults.pattern_number.Given as goal
 
 abbrev pub invariant-loop-o : goal.invariant-loop-o
 invariant-loop-o l = (l.o ≤ l.outputs) × (first_of l.o (wish_number l.wanted) ≡ 0)
-
-abbrev pub decreases-loop-o : goal.decreases-loop-o
-decreases-loop-o l = l.outputs - l.o

@@ -7,8 +7,8 @@ use lib.ListN.{length, get_or}
 use Rattle.graph.specs.Finite.{first_of}
 use Rattle.evaluation.specs.Inner.{by_index}
 use Rattle.assignment.proofs.Blocks.{rest_none, next_rest, want_le, want_there}
-use Rattle.graph.specs.Literals.{literals}
 use Rattle.assignment.proofs.outputs.left_from.Goals as goal
+use Rattle.graph.specs.Tables.{lent_table}
 
 pub overflow_add-high-2 : goal.overflow_add-high-2
 overflow_add-high-2 c = omega (arith, c.requires.0, c.requires.2)
@@ -38,7 +38,7 @@ loop-o-preserved c =
     let a = c.args in
     let ws : List ℕ = by_index a.inputs a.input_words.now a.node_words.now in (
       omega arith,
-      λ j h. next_rest ws (literals a.output_table.now a.output_bits.now) a.wanted.now a.low (a.inputs + 1 + length a.node_words.now) j c.loop-o.o a.left c.loop-o.rest c.left_by-rest.result
+      λ j h. next_rest ws (lent_table a.output_table.now) a.wanted.now a.low (a.inputs + 1 + length a.node_words.now) j c.loop-o.o a.left c.loop-o.rest c.left_by-rest.result
           c.edge_at-x.result c.want_in-want.result c.edge_at-x.ensures c.want_in-want.ensures (c.loop-o.invariant.1 j h) (c.left_by-rest.ensures j h),
     )
 

@@ -8,11 +8,9 @@ use Rattle.evaluation.specs.Inner.{by_index}
 use Rattle.assignment.specs.Inner.{clean, lacks}
 use Rattle.graph.specs.Literals.{literals}
 use Rattle.assignment.proofs.outputs.left_from.Given as goal
+use Rattle.graph.specs.Tables.{lent_table}
 
 abbrev pub invariant-loop-o : goal.invariant-loop-o
 invariant-loop-o l =
     (l.o ≤ l.outputs)
-    × ((j : ℕ) → j < 64 → bit j l.rest ≡ min (bit j l.left) (clean (first_of l.o (lacks (by_index l.inputs l.input_words l.node_words) (literals l.output_table l.output_bits) l.wanted l.low (l.inputs + 1 + length l.node_words) j))))
-
-abbrev pub decreases-loop-o : goal.decreases-loop-o
-decreases-loop-o l = l.outputs - l.o
+    × ((j : ℕ) → j < 64 → bit j l.rest ≡ min (bit j l.left) (clean (first_of l.o (lacks (by_index l.inputs l.input_words l.node_words) (lent_table l.output_table) l.wanted l.low (l.inputs + 1 + length l.node_words) j))))

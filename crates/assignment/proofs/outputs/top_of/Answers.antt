@@ -4,8 +4,8 @@ use native.Mathlib.Nat.{not-suc-le-zero}
 use native.Mathlib.Omega.{arith}
 use Rattle.graph.specs.Graph.{graph_of}
 use Rattle.assignment.proofs.Blocks.{pattern_of, top_more}
-use Rattle.graph.specs.Literals.{literals}
 use Rattle.assignment.proofs.outputs.top_of.Goals as goal
+use Rattle.graph.specs.Tables.{lent_graph}
 
 pub loop-o-init : goal.loop-o-init
 loop-o-init c = (omega arith, record { few = omega arith; enough = λ o h d. absurd (not-suc-le-zero h) })
@@ -25,10 +25,10 @@ reached-top-requires c =
 pub loop-o-preserved : goal.loop-o-preserved
 loop-o-preserved c =
     let a = c.args in
-    (omega arith, top_more (graph_of a.inputs a.nodes a.outputs (literals a.node_table.now a.node_bits.now) (literals a.output_table.now a.output_bits.now)) a.wanted.now a.words c.loop-o.o c.loop-o.top _ _ c.requires (omega arith) c.loop-o.invariant.1 c.edge_at.ensures c.reached-top.ensures)
+    (omega arith, top_more (lent_graph a.lent.now) a.wanted.now a.words c.loop-o.o c.loop-o.top _ _ c.requires (omega arith) c.loop-o.invariant.1 c.edge_at.ensures c.reached-top.ensures)
 
 pub returns : goal.returns
 returns c =
     let a = c.args in
-    let e : c.loop-o.o ≡ a.outputs = omega arith in
+    let e : c.loop-o.o ≡ a.lent.now.outputs = omega arith in
     rw e at c.loop-o.invariant.1

@@ -5,6 +5,3 @@ use Rattle.assignment.proofs.search.block_count.Given as goal
 
 abbrev pub invariant-loop-i : goal.invariant-loop-i
 invariant-loop-i l = (l.i ≤ 16) × (2 ^ l.i ≡ 64 * l.blocks)
-
-abbrev pub decreases-loop-i : goal.decreases-loop-i
-decreases-loop-i l = l.inputs - l.i

@@ -5,8 +5,8 @@ use native.Mathlib.Omega.{arith}
 use Rattle.graph.specs.Graph.{graph_of}
 use Rattle.assignment.proofs.Searching.{block_none, found_at, found_none}
 use borrow.Author.Rules.{rules}
-use Rattle.graph.specs.Literals.{literals}
 use Rattle.assignment.proofs.search.search.Goals as goal
+use Rattle.graph.specs.Tables.{lent_graph}
 
 pub block_count-end-requires : goal.block_count-end-requires
 block_count-end-requires c = c.requires.few
@@ -37,7 +37,7 @@ shape_of-scratch-then-places-ne0 c = search rules
 pub returns-then-places-ne0 : goal.returns-then-places-ne0
 returns-then-places-ne0 c =
     let a = c.args in
-    found_at (graph_of a.inputs a.nodes a.outputs (literals a.node_table.now a.node_bits.now) (literals a.output_table.now a.output_bits.now)) a.wanted.now c.loop-b.b c.block_places-places.result c.first_place.result c.requires.few c.loop-b.invariant.3 c.block_places-places.ensures c.first_place.ensures
+    found_at (lent_graph a.lent.now) a.wanted.now c.loop-b.b c.block_places-places.result c.first_place.result c.requires.few c.loop-b.invariant.3 c.block_places-places.ensures c.first_place.ensures
 
 pub loop-b-preserved : goal.loop-b-preserved
 loop-b-preserved c =
@@ -45,7 +45,7 @@ loop-b-preserved c =
       omega arith,
       c.loop-b.invariant.1,
       c.block_places-places.auto.scratch ∙ c.loop-b.invariant.2,
-      block_none (graph_of a.inputs a.nodes a.outputs (literals a.node_table.now a.node_bits.now) (literals a.output_table.now a.output_bits.now)) a.wanted.now c.loop-b.b c.block_places-places.result c.loop-b.invariant.3 c.block_places-places.ensures c.if-places-ne0.false,
+      block_none (lent_graph a.lent.now) a.wanted.now c.loop-b.b c.block_places-places.result c.loop-b.invariant.3 c.block_places-places.ensures c.if-places-ne0.false,
     )
 
 pub shape_of-scratch : goal.shape_of-scratch
@@ -55,4 +55,4 @@ pub returns : goal.returns
 returns c =
     let a = c.args in
     let e : c.loop-b.b ≡ c.block_count-end.result = omega arith in
-    found_none (graph_of a.inputs a.nodes a.outputs (literals a.node_table.now a.node_bits.now) (literals a.output_table.now a.output_bits.now)) a.wanted.now c.block_count-end.result c.block_count-end.ensures.0 (rw e at c.loop-b.invariant.3)
+    found_none (lent_graph a.lent.now) a.wanted.now c.block_count-end.result c.block_count-end.ensures.0 (rw e at c.loop-b.invariant.3)

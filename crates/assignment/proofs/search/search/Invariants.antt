@@ -6,10 +6,8 @@ use Rattle.graph.specs.Graph.{graph_of}
 use Rattle.assignment.proofs.Searching.{NoneBelow}
 use Rattle.graph.specs.Literals.{literals}
 use Rattle.assignment.proofs.search.search.Given as goal
+use Rattle.graph.specs.Tables.{lent_graph}
 
 abbrev pub invariant-loop-b : goal.invariant-loop-b
 invariant-loop-b l =
-    (l.b ≤ l.end) × (l.end ≤ 1024) × (length l.scratch ≡ length l.initial.scratch) × NoneBelow (graph_of l.inputs l.nodes l.outputs (literals l.node_table l.node_bits) (literals l.output_table l.output_bits)) l.wanted (64 * l.b)
-
-abbrev pub decreases-loop-b : goal.decreases-loop-b
-decreases-loop-b l = l.end - l.b
+    (l.b ≤ l.end) × (l.end ≤ 1024) × (length l.scratch ≡ length l.initial.scratch) × NoneBelow (lent_graph l.lent) l.wanted (64 * l.b)

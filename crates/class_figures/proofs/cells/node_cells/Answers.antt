@@ -5,11 +5,11 @@ use mathlib.Core.List.{[]}
 use native.Mathlib.Numerals.{add-one}
 use native.Mathlib.Omega.{arith}
 use Rattle.graph.specs.Finite.{sum}
-use Rattle.graph.specs.Literals.{literals}
 use Rattle.class_figures.specs.Figures.{kind_cells}
 use Rattle.class_figures.specs.Inner.{node_cells}
 use Rattle.class_figures.proofs.cells.node_cells.Goals as goal
 use Rattle.class_figures.proofs.cells.node_cells.Invariants.{so_far}
+use Rattle.graph.specs.Tables.{lent_table}
 
 -- the sum so far
 
@@ -35,4 +35,4 @@ unfolding node_cells
 returns c =
     let a = c.args in
     let e : c.loop-v.v ≡ a.nodes = omega arith in
-    c.loop-v.invariant.2 ∙ ap (so_far a.nodes (literals a.node_table.now a.node_bits.now)) e
+    c.loop-v.invariant.2 ∙ ap (so_far a.nodes (lent_table a.node_table.now)) e

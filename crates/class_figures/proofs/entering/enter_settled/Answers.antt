@@ -2,12 +2,12 @@
 use mathlib.Core.Path.{sym, ap, ◌∙◌}
 use borrow.Author.Rules.{rules}
 use Rattle.graph.proofs.Answers.{number_some}
-use Rattle.graph.specs.Literals.{literals}
 use Rattle.settling.specs.Settle.{settled_answer}
 use Rattle.settling.specs.declared.Settled.{Settled}
 use Rattle.class_figures.specs.Inner.{node_cells, entered_by}
 use Rattle.class_figures.proofs.Answering.{rounds_entered, row_low, not_entered}
 use Rattle.class_figures.proofs.entering.enter_settled.Goals as goal
+use Rattle.graph.specs.Tables.{lent_table}
 
 pub node_cells-kinds-requires : goal.node_cells-kinds-requires
 node_cells-kinds-requires c =
@@ -21,11 +21,11 @@ pub returns-in-Rounds : goal.returns-in-Rounds
 returns-in-Rounds c =
     let a = c.args in
     c.enter_row.ensures
-    ∙ rounds_entered c.in-Rounds.rounds c.in-Rounds.before c.in-Rounds.after c.node_cells-kinds.result (node_cells a.nodes (literals a.node_table.now a.node_bits.now)) _ _ a.book.now c.node_cells-kinds.ensures
-    ∙ sym (ap (λ (w : Settled). entered_by (settled_answer w) (node_cells a.nodes (literals a.node_table.now a.node_bits.now)) a.book.now) c.in-Rounds.is)
+    ∙ rounds_entered c.in-Rounds.rounds c.in-Rounds.before c.in-Rounds.after c.node_cells-kinds.result (node_cells a.nodes (lent_table a.node_table.now)) _ _ a.book.now c.node_cells-kinds.ensures
+    ∙ sym (ap (λ (w : Settled). entered_by (settled_answer w) (node_cells a.nodes (lent_table a.node_table.now)) a.book.now) c.in-Rounds.is)
 
 pub returns-in-Refused : goal.returns-in-Refused
 returns-in-Refused c =
     let a = c.args in
-    not_entered _ (node_cells a.nodes (literals a.node_table.now a.node_bits.now)) a.book.now (number_some c.in-Refused.field-0)
-    ∙ sym (ap (λ (w : Settled). entered_by (settled_answer w) (node_cells a.nodes (literals a.node_table.now a.node_bits.now)) a.book.now) c.in-Refused.is)
+    not_entered _ (node_cells a.nodes (lent_table a.node_table.now)) a.book.now (number_some c.in-Refused.field-0)
+    ∙ sym (ap (λ (w : Settled). entered_by (settled_answer w) (node_cells a.nodes (lent_table a.node_table.now)) a.book.now) c.in-Refused.is)

@@ -8,6 +8,3 @@ use Rattle.class_figures.proofs.faults.record_number.Given as goal
 
 abbrev pub invariant-loop-j : goal.invariant-loop-j
 invariant-loop-j l = (l.j ≤ l.end) × (l.end ≤ 86) × (l.end ≤ length l.book) × (first_of l.j (figure_number l.book) ≡ 0)
-
-abbrev pub decreases-loop-j : goal.decreases-loop-j
-decreases-loop-j l = l.end - l.j

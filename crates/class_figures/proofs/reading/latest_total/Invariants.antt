@@ -7,6 +7,3 @@ use Rattle.class_figures.proofs.reading.latest_total.Given as goal
 
 abbrev pub invariant-loop-i : goal.invariant-loop-i
 invariant-loop-i l = (l.i ≤ 16) × (l.sum ≤ 1099511627776 * l.i) × (l.sum ≡ sum l.i (λ j. get_or l.book (6 + 5 * j + l.k) 0))
-
-abbrev pub decreases-loop-i : goal.decreases-loop-i
-decreases-loop-i l = 16 - l.i

@@ -21,18 +21,19 @@ use Rattle.compare.proofs.Noting.{bare_told, bare_fits, outs_are, moves_are}
 use Rattle.compare.proofs.Passing.{passing_le}
 use Rattle.compare.proofs.explaining.explain.Goals as goal
 use Rattle.compare.proofs.explaining.explain.Goals.{After-tell_nodes-k, After-tell_outputs-j}
+use Rattle.graph.specs.Tables.{lent_graph, lent_table}
 
 -- once the nodes' words were looked at
 
 module _ (k : After-tell_nodes-k) where
   abbrev table : List ℕ
-  table = literals k.args.node_table.now k.args.node_bits.now
+  table = lent_table k.args.first.now.node_table
 
   abbrev outputs : List ℕ
-  outputs = literals k.args.output_table.now k.args.output_bits.now
+  outputs = lent_table k.args.first.now.output_table
 
   abbrev graph : Graph
-  graph = graph_in k.args.inputs k.args.nodes k.args.outputs k.args.node_table.now k.args.node_bits.now k.args.output_table.now k.args.output_bits.now
+  graph = lent_graph k.args.first.now
 
   abbrev words : ℕ → ℕ
   words = apart table k.args.second_node_bits.now
@@ -40,38 +41,38 @@ module _ (k : After-tell_nodes-k) where
   abbrev outs : ℕ → ℕ
   outs = apart outputs k.args.second_output_bits.now
 
-  alone : Admitted (bare k.args.inputs k.args.nodes table)
-  alone = bare_admitted k.args.inputs k.args.nodes k.args.outputs table outputs k.requires.0
+  alone : Admitted (bare k.args.first.now.inputs k.args.first.now.nodes table)
+  alone = bare_admitted k.args.first.now.inputs k.args.first.now.nodes k.args.first.now.outputs table outputs k.requires.0
 
   fit_is : k.tell_nodes-k.result ≡ fit graph words outs k.args.moves.now
-  fit_is = let a = k.args in k.tell_nodes-k.ensures.0 ∙ bare_fits a.inputs a.nodes a.outputs table outputs words
+  fit_is = let a = k.args in k.tell_nodes-k.ensures.0 ∙ bare_fits a.first.now.inputs a.first.now.nodes a.first.now.outputs table outputs words
 
-  few : k.tell_nodes-k.result ≤ 3 * k.args.nodes
-  few = omega (arith, fit_is, passing_le (3 * k.args.nodes) (fits graph words (told graph words)))
+  few : k.tell_nodes-k.result ≤ 3 * k.args.first.now.nodes
+  few = omega (arith, fit_is, passing_le (3 * k.args.first.now.nodes) (fits graph words (told graph words)))
 
   -- and all are explained
-  module _ (l : 3 * k.args.nodes ≤ k.tell_nodes-k.result) where
-    all_fit : fit graph words outs k.args.moves.now ≡ 3 * k.args.nodes
+  module _ (l : 3 * k.args.first.now.nodes ≤ k.tell_nodes-k.result) where
+    all_fit : fit graph words outs k.args.moves.now ≡ 3 * k.args.first.now.nodes
     all_fit = omega (arith, fit_is, few, l)
 
-    noted : let a = k.args in let g = bare a.inputs a.nodes table in Noted g (told g words) k.tell_nodes-k.new.seen (a.inputs + 1 + a.nodes)
+    noted : let a = k.args in let g = bare a.first.now.inputs a.first.now.nodes table in Noted g (told g words) k.tell_nodes-k.new.seen (a.first.now.inputs + 1 + a.first.now.nodes)
     noted = k.tell_nodes-k.ensures.1 (omega (arith, few, l))
 
 -- the outputs that fit
 
 out-fit-is : (c : After-tell_outputs-j) →
     let a = c.args in
-    let ns = literals a.node_table.now a.node_bits.now in
-    let os = literals a.output_table.now a.output_bits.now in
+    let ns = lent_table a.first.now.node_table in
+    let os = lent_table a.first.now.output_table in
     let ws = apart ns a.second_node_bits.now in
-    let g = bare a.inputs a.nodes ns in
-    Noted g (told g ws) c.tell_nodes-k.new.seen (a.inputs + 1 + a.nodes)
-    → c.tell_outputs-j.result ≡ out_fit (graph_in a.inputs a.nodes a.outputs a.node_table.now a.node_bits.now a.output_table.now a.output_bits.now) ws (apart os a.second_output_bits.now) a.moves.now
+    let g = bare a.first.now.inputs a.first.now.nodes ns in
+    Noted g (told g ws) c.tell_nodes-k.new.seen (a.first.now.inputs + 1 + a.first.now.nodes)
+    → c.tell_outputs-j.result ≡ out_fit (lent_graph a.first.now) ws (apart os a.second_output_bits.now) a.moves.now
 out-fit-is c h =
     let a = c.args in
-    let ns = literals a.node_table.now a.node_bits.now in
+    let ns = lent_table a.first.now.node_table in
     c.tell_outputs-j.ensures
-    ∙ outs_are a.inputs a.nodes a.outputs ns (literals a.output_table.now a.output_bits.now) (apart ns a.second_node_bits.now) a.second_output_bits.now c.tell_nodes-k.new.seen c.requires.0 h
+    ∙ outs_are a.first.now.inputs a.first.now.nodes a.first.now.outputs ns (lent_table a.first.now.output_table) (apart ns a.second_node_bits.now) a.second_output_bits.now c.tell_nodes-k.new.seen c.requires.0 h
 
 -- the moves filled are those told
 
@@ -84,7 +85,7 @@ byte-told n v y m x e =
 
 pub tell_nodes-k-requires : goal.tell_nodes-k-requires
 tell_nodes-k-requires c =
-    (bare_admitted c.args.inputs c.args.nodes c.args.outputs _ _ c.requires.0, c.requires.1, λ d. noted_none (bare c.args.inputs c.args.nodes (literals c.args.node_table.now c.args.node_bits.now)) d)
+    (bare_admitted c.args.first.now.inputs c.args.first.now.nodes c.args.first.now.outputs _ _ c.requires.0, c.requires.1, λ d. noted_none (bare c.args.first.now.inputs c.args.first.now.nodes (lent_table c.args.first.now.node_table)) d)
 
 pub returns-then-k-end : goal.returns-then-k-end
 returns-then-k-end c =
@@ -97,10 +98,10 @@ tell_outputs-j-requires c =
     let d = c.requires.0 in
     (d.held_outputs, λ j h. omega (arith, d.output_below j h, d.few_inputs, d.few_nodes), c.requires.2, (noted k c.if-k-end.false).room)
 
-pub returns-then-j-outputs : goal.returns-then-j-outputs
-returns-then-j-outputs c =
-    let k = (goal.at.returns-then-j-outputs c).After-tell_nodes-k in
-    stops_at_output (graph k) (words k) (outs k) c.args.moves.now c.tell_outputs-j.result (all_fit k c.if-k-end.false) (out-fit-is (goal.at.returns-then-j-outputs c).After-tell_outputs-j (noted k c.if-k-end.false)) c.if-j-outputs.true
+pub returns-then-j-first : goal.returns-then-j-first
+returns-then-j-first c =
+    let k = (goal.at.returns-then-j-first c).After-tell_nodes-k in
+    stops_at_output (graph k) (words k) (outs k) c.args.moves.now c.tell_outputs-j.result (all_fit k c.if-k-end.false) (out-fit-is (goal.at.returns-then-j-first c).After-tell_outputs-j (noted k c.if-k-end.false)) c.if-j-first.true
 
 pub fill_moves-requires : goal.fill_moves-requires
 fill_moves-requires c =
@@ -112,11 +113,11 @@ returns c =
     let k = (goal.at.returns c).After-tell_nodes-k in
     let a = c.args in
     let sn = c.tell_nodes-k.new.seen in
-    all_told (graph k) (words k) (outs k) a.moves.now c.fill_moves.new.moves (all_fit k c.if-k-end.false) (omega (arith, c.if-j-outputs.false, out-fit-is (goal.at.returns c).After-tell_outputs-j (noted k c.if-k-end.false)))
+    all_told (graph k) (words k) (outs k) a.moves.now c.fill_moves.new.moves (all_fit k c.if-k-end.false) (omega (arith, c.if-j-first.false, out-fit-is (goal.at.returns c).After-tell_outputs-j (noted k c.if-k-end.false)))
     (c.fill_moves.ensures
     ∙ tab_same (length a.moves.now) _ _
     (λ v h.
-    byte-told a.nodes v (get_or a.moves.now v 0) (λ u. told (graph k) (words k) (node (graph k) u)) _
+    byte-told a.first.now.nodes v (get_or a.moves.now v 0) (λ u. told (graph k) (words k) (node (graph k) u)) _
     (λ q.
-    moves_are a.inputs a.nodes (table k) a.second_node_bits.now (alone k) sn (noted k c.if-k-end.false) v q
-    ∙ ap (λ (d : Choice). d (a.inputs + 1 + v)) (bare_told a.inputs a.nodes a.outputs (table k) (outputs k) (words k)))))
+    moves_are a.first.now.inputs a.first.now.nodes (table k) a.second_node_bits.now (alone k) sn (noted k c.if-k-end.false) v q
+    ∙ ap (λ (d : Choice). d (a.first.now.inputs + 1 + v)) (bare_told a.first.now.inputs a.first.now.nodes a.first.now.outputs (table k) (outputs k) (words k)))))

@@ -9,16 +9,16 @@ pub returns-then-room-ne0 : goal.returns-then-room-ne0
 unfolding rooms_number
 returns-then-room-ne0 c = let e = c.tables_number-room.ensures in fault _ _ e (λ z. c.if-room-ne0.true (e ∙ z))
 
-pub returns-then-bytes-nodes : goal.returns-then-bytes-nodes
+pub returns-then-bytes-first : goal.returns-then-bytes-first
 unfolding rooms_number
-returns-then-bytes-nodes c =
+returns-then-bytes-first c =
     let a = c.args in
-    let e = short_slice a.bytes a.nodes (omega arith) in
+    let e = short_slice a.bytes a.first.now.nodes (omega arith) in
     none _ _ (sym c.tables_number-room.ensures ∙ c.if-room-ne0.false) (fault _ _ e (λ z. omega (arith, e, z)))
 
 pub returns : goal.returns
 unfolding rooms_number
 returns c =
     let a = c.args in
-    let e = long_slice a.bytes a.nodes (omega (arith, c.if-bytes-nodes.false)) in
+    let e = long_slice a.bytes a.first.now.nodes (omega (arith, c.if-bytes-first.false)) in
     none _ _ (sym c.tables_number-room.ensures ∙ c.if-room-ne0.false) (none _ _ (sym e) c.tables_number.ensures)

@@ -12,6 +12,3 @@ Same us vs j = (i : ℕ) → i < j → eqb (index_at us i) (index_at vs i) ≡ t
 
 abbrev pub invariant-loop-j : goal.invariant-loop-j
 invariant-loop-j l = (l.j ≤ l.n) × Same l.table l.second_table l.j
-
-abbrev pub decreases-loop-j : goal.decreases-loop-j
-decreases-loop-j l = l.n - l.j

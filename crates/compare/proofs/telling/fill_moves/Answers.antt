@@ -9,7 +9,6 @@ use lib.ListN.{length, get_or, set, length-set}
 use lib.Seq.{ext_get_or, get_or-set_same, get_or-set_other}
 use Rattle.graph.specs.Finite.{tab, if_less}
 use Rattle.graph.specs.Graph.{Graph, is_xor}
-use Rattle.graph.specs.Literals.{literals}
 use Rattle.graph.proofs.Cases.{lt_or_le}
 use Rattle.graph.proofs.Finite.{length_tab, get_d_tab}
 use Rattle.graph.proofs.Tests.{less, no_less}
@@ -21,6 +20,7 @@ use Rattle.order.specs.Inner.{tells}
 use Rattle.compare.proofs.telling.fill_moves.Goals as goal
 use Rattle.compare.proofs.telling.fill_moves.Goals.{Start}
 use Rattle.compare.proofs.telling.fill_moves.Invariants.{Filled, move}
+use Rattle.graph.specs.Tables.{lent_table}
 
 -- the first v bytes filled
 
@@ -51,7 +51,7 @@ module _ (n : ℕ) (f : ℕ → ℕ) (bs₀ bs : List ℕ) (v : ℕ) (i : Filled
 -- the move told of a node
 
 abbrev table : Start → List ℕ
-table s = literals s.args.node_table.now s.args.node_bits.now
+table s = lent_table s.args.node_table.now
 
 abbrev graph : Start → Graph
 graph s = bare s.args.inputs s.args.nodes (table s)

@@ -9,6 +9,7 @@ use Rattle.many.specs.Making.{bare}
 use Rattle.order.specs.Inner.{tells}
 use Rattle.compare.specs.Telling.{own_turn}
 use Rattle.compare.proofs.telling.fill_moves.Given as goal
+use Rattle.graph.specs.Tables.{lent_table}
 
 pub record Filled (n : ℕ) (f : ℕ → ℕ) (bs₀ bs : List ℕ) (v : ℕ) : Type 0 where
   pub within : v ≤ n
@@ -21,7 +22,4 @@ move i n sn l ds v = tells (is_xor (bare i n l) v) (own_turn sn l ds (3 * v)) (o
 
 abbrev pub invariant-loop-v : goal.invariant-loop-v
 invariant-loop-v l =
-    Filled l.nodes (move l.inputs l.nodes l.seen (literals l.node_table l.node_bits) l.second_node_bits) l.initial.moves l.moves l.v
-
-abbrev pub decreases-loop-v : goal.decreases-loop-v
-decreases-loop-v l = l.nodes - l.v
+    Filled l.nodes (move l.inputs l.nodes l.seen (lent_table l.node_table) l.second_node_bits) l.initial.moves l.moves l.v

@@ -7,7 +7,7 @@ use Prim.Native.Nat.{ℕ, ◌+◌, ◌*◌, ◌%◌, ◌≤◌, ◌<◌}
 use lib.ListN.{get_or}
 use Rattle.graph.specs.Admission.{Admitted}
 use Rattle.graph.specs.Graph.{Graph, index, is_xor}
-use Rattle.graph.specs.Literals.{bit_at, held, literals}
+use Rattle.graph.specs.Literals.{bit_at, held}
 use Rattle.graph.specs.Turned.{only}
 use Rattle.graph.proofs.Words.{readable}
 use Rattle.moves.specs.Rows.{flag}
@@ -18,9 +18,10 @@ use Rattle.compare.specs.Telling.{own_turn, unfit}
 use Rattle.compare.proofs.Noting.{unfit_same}
 use Rattle.compare.proofs.telling.tell_node.Goals as goal
 use Rattle.compare.proofs.telling.tell_node.Goals.{After-is_xor-xor, After-is_xor-xor, Start}
+use Rattle.graph.specs.Tables.{lent_table}
 
 abbrev table : Start → List ℕ
-table s = literals s.args.node_table.now s.args.node_bits.now
+table s = lent_table s.args.node_table.now
 
 abbrev graph : Start → Graph
 graph s = bare s.args.inputs s.args.nodes (table s)
@@ -36,7 +37,7 @@ third-asked i n m v adm h true q p e = let f = first_asks i n m v adm h in rw e 
 third-asked i n m v adm h false q p e = rw e (third_there i n m v adm h, third_asks i n m v adm h false q refl, omega arith)
 
 module _ (c : After-is_xor-xor) where
-  kind : c.is_xor-xor.result ≡ is_xor (bare c.args.inputs c.args.nodes (literals c.args.node_table.now c.args.node_bits.now)) c.args.v
+  kind : c.is_xor-xor.result ≡ is_xor (bare c.args.inputs c.args.nodes (lent_table c.args.node_table.now)) c.args.v
   kind = c.is_xor-xor.ensures c.args.inputs c.args.nodes 0 []
 
 pub is_xor-xor-requires : goal.is_xor-xor-requires

@@ -3,13 +3,13 @@
 use mathlib.Core.Path.{◌≡◌, refl, ◌∙◌}
 use native.Mathlib.Omega.{arith}
 use Prim.Native.Nat.{◌+◌, ◌*◌, ◌≤◌}
-use Rattle.graph.specs.Literals.{literals}
 use Rattle.many.specs.Making.{bare}
 use Rattle.compare.specs.Telling.{apart, told}
 use Rattle.compare.proofs.Passing.{passing_is}
 use Rattle.compare.proofs.Noting.{node_goes, node_stops, word_few, node_noted}
 use Rattle.compare.proofs.telling.tell_nodes.Goals as goal
 use Rattle.compare.proofs.telling.tell_nodes.Goals.{After-tell_node-word}
+use Rattle.graph.specs.Tables.{lent_table}
 
 -- once a node's words were looked at
 
@@ -18,12 +18,12 @@ module _ (r : After-tell_node-word) where
   few =
       let a = r.args in
       let l = r.loop-v in
-      word_few a.inputs a.nodes (literals a.node_table.now a.node_bits.now) a.second_node_bits.now r.requires.0 l.seen l.v r.loop-v-test.true l.invariant.2 r.tell_node-word.result r.tell_node-word.ensures.0 l.invariant.3
+      word_few a.inputs a.nodes (lent_table a.node_table.now) a.second_node_bits.now r.requires.0 l.seen l.v r.loop-v-test.true l.invariant.2 r.tell_node-word.result r.tell_node-word.ensures.0 l.invariant.3
 
 pub loop-v-init : goal.loop-v-init
 loop-v-init c =
     let a = c.args in
-    let l = literals a.node_table.now a.node_bits.now in
+    let l = lent_table a.node_table.now in
     let g = bare a.inputs a.nodes l in
     let e : a.inputs + 1 ≡ a.inputs + 1 + 0 = omega arith in
     (omega arith, refl, rw e at (c.requires.2 (told g (apart l a.second_node_bits.now))), λ j h. absurd (omega arith))
@@ -51,7 +51,7 @@ pub returns-then-word-ne0 : goal.returns-then-word-ne0
 returns-then-word-ne0 c =
     let a = c.args in
     let l = c.loop-v in (
-      node_stops a.inputs a.nodes (literals a.node_table.now a.node_bits.now) a.second_node_bits.now c.requires.0 l.seen l.v c.loop-v-test.true l.invariant.2 c.tell_node-word.result c.tell_node-word.ensures.0 l.invariant.3 c.if-word-ne0.true,
+      node_stops a.inputs a.nodes (lent_table a.node_table.now) a.second_node_bits.now c.requires.0 l.seen l.v c.loop-v-test.true l.invariant.2 c.tell_node-word.result c.tell_node-word.ensures.0 l.invariant.3 c.if-word-ne0.true,
       λ e. absurd (omega (arith, e, few (goal.at.returns-then-word-ne0 c).After-tell_node-word, c.loop-v-test.true)),
     )
 
@@ -67,8 +67,8 @@ loop-v-preserved c =
     let l = c.loop-v in (
       omega (arith, c.loop-v-test.true),
       c.tell_node-word.auto.seen ∙ l.invariant.1,
-      node_noted a.inputs a.nodes (literals a.node_table.now a.node_bits.now) a.second_node_bits.now c.requires.0 l.seen l.v c.loop-v-test.true l.invariant.2 c.tell_node-word.new.seen c.tell_node-word.auto.seen c.tell_node-word.ensures.1,
-      node_goes a.inputs a.nodes (literals a.node_table.now a.node_bits.now) a.second_node_bits.now c.requires.0 l.seen l.v c.loop-v-test.true l.invariant.2 c.tell_node-word.result c.tell_node-word.ensures.0 l.invariant.3 c.if-word-ne0.false,
+      node_noted a.inputs a.nodes (lent_table a.node_table.now) a.second_node_bits.now c.requires.0 l.seen l.v c.loop-v-test.true l.invariant.2 c.tell_node-word.new.seen c.tell_node-word.auto.seen c.tell_node-word.ensures.1,
+      node_goes a.inputs a.nodes (lent_table a.node_table.now) a.second_node_bits.now c.requires.0 l.seen l.v c.loop-v-test.true l.invariant.2 c.tell_node-word.result c.tell_node-word.ensures.0 l.invariant.3 c.if-word-ne0.false,
     )
 
 pub overflow_mul-result-2 : goal.overflow_mul-result-2

@@ -8,13 +8,11 @@ use Rattle.graph.specs.Literals.{literals}
 use Rattle.many.specs.Making.{Noted, bare}
 use Rattle.compare.specs.Telling.{apart, told, fits}
 use Rattle.compare.proofs.telling.tell_nodes.Given as goal
+use Rattle.graph.specs.Tables.{lent_table}
 
 abbrev pub invariant-loop-v : goal.invariant-loop-v
 invariant-loop-v l =
-    let t = literals l.node_table l.node_bits in
+    let t = lent_table l.node_table in
     let g = bare l.inputs l.nodes t in
     let w = apart t l.second_node_bits in
     (l.v ≤ l.nodes) × (length l.seen ≡ length l.initial.seen) × Noted g (told g w) l.seen (l.inputs + 1 + l.v) × ((j : ℕ) → j < 3 * l.v → fits g w (told g w) j ≡ true)
-
-abbrev pub decreases-loop-v : goal.decreases-loop-v
-decreases-loop-v l = l.nodes - l.v

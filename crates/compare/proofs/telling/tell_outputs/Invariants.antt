@@ -7,12 +7,10 @@ use lib.Dec.{eqb}
 use Rattle.graph.specs.Literals.{literals}
 use Rattle.compare.specs.Telling.{own_turn}
 use Rattle.compare.proofs.telling.tell_outputs.Given as goal
+use Rattle.graph.specs.Tables.{lent_table}
 
 abbrev pub None : List ℕ → List ℕ → List ℕ → ℕ → Type 0
 None sn l es j = (i : ℕ) → i < j → eqb (own_turn sn l es i) 0 ≡ true
 
 abbrev pub invariant-loop-j : goal.invariant-loop-j
-invariant-loop-j l = (l.j ≤ l.outputs) × None l.seen (literals l.output_table l.output_bits) l.second_output_bits l.j
-
-abbrev pub decreases-loop-j : goal.decreases-loop-j
-decreases-loop-j l = l.outputs - l.j
+invariant-loop-j l = (l.j ≤ l.outputs) × None l.seen (lent_table l.output_table) l.second_output_bits l.j

@@ -3,15 +3,15 @@
 use native.Mathlib.Omega.{arith}
 use Prim.Native.Nat.{◌-◌}
 use Rattle.graph.specs.Graph.{Graph}
-use Rattle.graph.specs.Literals.{literals}
 use Rattle.evaluation.specs.Inner.{nodes_of}
 use Rattle.evaluation.proofs.Rows.{row_none, front_none, front_moved}
 use Rattle.evaluation.proofs.front.fill_front.Goals as goal
+use Rattle.graph.specs.Tables.{lent_table}
 
 pub returns-then-nodes-inputs : goal.returns-then-nodes-inputs
 returns-then-nodes-inputs c =
     let a = c.args in
-    (omega arith, λ n j h. row_none (nodes_of a.inputs n (literals a.node_table.now a.node_bits.now)) a.input_words.now j c.requires.0)
+    (omega arith, λ n j h. row_none (nodes_of a.inputs n (lent_table a.node_table.now)) a.input_words.now j c.requires.0)
 
 pub front_nodes-requires : goal.front_nodes-requires
 front_nodes-requires c =
@@ -22,7 +22,7 @@ returns c =
     let a = c.args in (
       omega (arith, c.if-nodes-inputs.false),
       λ n.
-          let g : Graph = nodes_of a.inputs n (literals a.node_table.now a.node_bits.now) in
+          let g : Graph = nodes_of a.inputs n (lent_table a.node_table.now) in
           front_moved g a.input_words.now c.front_nodes.new.scratch (a.nodes - a.inputs - 1) c.shift.new.scratch
           (c.front_nodes.ensures n a.input_words.now (front_none g a.input_words.now c.fill_low.new.scratch c.requires.0 c.fill_low.ensures)) c.shift.ensures,
     )

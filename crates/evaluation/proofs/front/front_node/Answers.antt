@@ -4,11 +4,11 @@ use Prim.Native.Nat.{◌+◌}
 use native.Mathlib.Omega.{arith}
 use lib.ListN.{length, take}
 use lib.Seq.{length-take-le}
-use Rattle.graph.specs.Literals.{literals}
 use Rattle.evaluation.specs.Inner.{nodes_of}
 use Rattle.evaluation.proofs.Rows.{front_more}
 use Rattle.evaluation.proofs.front.front_node.Goals as goal
 use Rattle.evaluation.proofs.front.front_node.Goals.{Start}
+use Rattle.graph.specs.Tables.{lent_table}
 
 -- the words before it are as many as its index says
 
@@ -24,4 +24,4 @@ word_in-w-requires c = (c.requires.0, c.requires.1, as_many (goal.at.word_in-w-r
 pub returns : goal.returns
 returns c n ws f =
     let a = c.args in
-    front_more (nodes_of a.inputs n (literals a.node_table.now a.node_bits.now)) ws a.scratch.now a.v c.word_in-w.result (omega (arith, c.requires.2)) f (c.word_in-w.ensures n)
+    front_more (nodes_of a.inputs n (lent_table a.node_table.now)) ws a.scratch.now a.v c.word_in-w.result (omega (arith, c.requires.2)) f (c.word_in-w.ensures n)

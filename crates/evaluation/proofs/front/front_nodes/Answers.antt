@@ -2,9 +2,9 @@
 use mathlib.Core.Path.{◌≡◌, refl, subst}
 use Prim.Native.Nat.{ℕ}
 use native.Mathlib.Omega.{arith}
-use Rattle.graph.specs.Literals.{literals}
 use Rattle.evaluation.specs.Inner.{nodes_of, Front}
 use Rattle.evaluation.proofs.front.front_nodes.Goals as goal
+use Rattle.graph.specs.Tables.{lent_table}
 
 pub loop-v-init : goal.loop-v-init
 loop-v-init c = (omega arith, refl, λ n ws h. h)
@@ -21,4 +21,4 @@ pub returns : goal.returns
 returns c n ws h =
     let a = c.args in
     let e : c.loop-v.v ≡ a.end = omega arith in
-    subst (λ (i : ℕ). Front (nodes_of a.inputs n (literals a.node_table.now a.node_bits.now)) ws c.loop-v.scratch i) e (c.loop-v.invariant.2 n ws h)
+    subst (λ (i : ℕ). Front (nodes_of a.inputs n (lent_table a.node_table.now)) ws c.loop-v.scratch i) e (c.loop-v.invariant.2 n ws h)

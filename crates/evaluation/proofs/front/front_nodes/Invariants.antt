@@ -6,11 +6,12 @@ use lib.ListN.{length}
 use Rattle.graph.specs.Literals.{literals}
 use Rattle.evaluation.specs.Inner.{nodes_of, Front}
 use Rattle.evaluation.proofs.front.front_nodes.Given as goal
+use Rattle.graph.specs.Tables.{lent_table}
 
 abbrev pub invariant-loop-v : goal.invariant-loop-v
 invariant-loop-v l =
     (l.v ≤ l.end) × (length l.scratch ≡ length l.initial.scratch)
-    × ((n : ℕ) (ws : List ℕ) → Front (nodes_of l.inputs n (literals l.node_table l.node_bits)) ws l.initial.scratch l.begin → Front (nodes_of l.inputs n (literals l.node_table l.node_bits)) ws l.scratch l.v)
+    × ((n : ℕ) (ws : List ℕ) → Front (nodes_of l.inputs n (lent_table l.node_table)) ws l.initial.scratch l.begin → Front (nodes_of l.inputs n (lent_table l.node_table)) ws l.scratch l.v)
 
 abbrev pub decreases-loop-v : goal.decreases-loop-v
 decreases-loop-v l = l.end - l.v

@@ -5,21 +5,22 @@ use native.Mathlib.Omega.{arith}
 use borrow.Author.Tests.{eqb-false}
 use lib.ListN.{get_or}
 use Rattle.graph.specs.Graph.{is_xor}
-use Rattle.graph.specs.Literals.{literals, bit_of}
+use Rattle.graph.specs.Literals.{bit_of}
 use Rattle.graph.proofs.Words.{three_apart}
 use Rattle.evaluation.specs.Inner.{nodes_of}
 use Rattle.evaluation.proofs.Index.{node_joined, readable_of}
 use Rattle.evaluation.proofs.front.word_in.Goals as goal
 use Rattle.evaluation.proofs.front.word_in.Goals.{After-three_at-three}
+use Rattle.graph.specs.Tables.{lent_table}
 
 -- the bit of each of its words
 
 bit-of : (c : After-three_at-three) (k : ℕ) → k ≤ 2 → let a = c.args in
-    c.three_at-three.result / 2 ^ k % 2 ≡ bit_of (get_or (literals a.node_table.now a.node_bits.now) (3 * a.v + k) 0)
+    c.three_at-three.result / 2 ^ k % 2 ≡ bit_of (get_or (lent_table a.node_table.now) (3 * a.v + k) 0)
 bit-of c k h =
     let a = c.args in
-    let t : (r : ℕ) → r ≡ c.three_at-three.result → r / 2 ^ k % 2 ≡ bit_of (get_or (literals a.node_table.now a.node_bits.now) (3 * a.v + k) 0) =
-    λ r e. rw (e ∙ c.three_at-three.ensures) (three_apart (literals a.node_table.now a.node_bits.now) a.v k h) in
+    let t : (r : ℕ) → r ≡ c.three_at-three.result → r / 2 ^ k % 2 ≡ bit_of (get_or (lent_table a.node_table.now) (3 * a.v + k) 0) =
+    λ r e. rw (e ∙ c.three_at-three.ensures) (three_apart (lent_table a.node_table.now) a.v k h) in
     t c.three_at-three.result refl
 
 pub three_at-three-requires : goal.three_at-three-requires
@@ -52,6 +53,6 @@ pub returns : goal.returns
 unfolding is_xor
 returns c n j h =
     let a = c.args in
-    node_joined (nodes_of a.inputs n (literals a.node_table.now a.node_bits.now)) a.v a.words.now
+    node_joined (nodes_of a.inputs n (lent_table a.node_table.now)) a.v a.words.now
     c.literal_in-x.result c.literal_in-y.result c.joined_word.result c.literal_in-x.ensures c.literal_in-y.ensures
     c.is_mark_at-xor.result c.third_in-z.result c.is_mark_at-xor.ensures c.third_in-z.ensures j h (c.joined_word.ensures j h)

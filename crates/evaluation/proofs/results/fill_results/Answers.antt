@@ -5,13 +5,13 @@ use lib.ListN.{length-set}
 use Rattle.graph.proofs.Sweep.{swept_zero, swept_front}
 use Rattle.evaluation.specs.Inner.{by_index, output_word_from}
 use Rattle.evaluation.proofs.Outputs.{swept_next}
-use Rattle.graph.specs.Literals.{literals}
 use Rattle.evaluation.proofs.results.fill_results.Goals as goal
+use Rattle.graph.specs.Tables.{lent_table}
 
 pub loop-o-init : goal.loop-o-init
 loop-o-init c =
     let a = c.args in
-    (omega arith, refl, refl, swept_zero (output_word_from (by_index a.inputs a.input_words.now a.node_words.now) (literals a.output_table.now a.output_bits.now)) a.results.now)
+    (omega arith, refl, refl, swept_zero (output_word_from (by_index a.inputs a.input_words.now a.node_words.now) (lent_table a.output_table.now)) a.results.now)
 
 pub literal_word-w-requires : goal.literal_word-w-requires
 literal_word-w-requires c =
@@ -24,7 +24,7 @@ loop-o-preserved c =
       omega arith,
       c.loop-o.invariant.1,
       simp length-set c.loop-o.invariant.2,
-      swept_next ws (literals a.output_table.now a.output_bits.now) a.results.now c.loop-o.results c.loop-o.o c.literal_word-w.result
+      swept_next ws (lent_table a.output_table.now) a.results.now c.loop-o.results c.loop-o.o c.literal_word-w.result
           (omega arith) c.loop-o.invariant.3 c.literal_word-w.ensures,
     )
 
@@ -32,4 +32,4 @@ pub returns : goal.returns
 returns c =
     let a = c.args in
     let e : c.loop-o.o ≡ a.outputs = omega arith in
-    rw e at c.loop-o.invariant.3 ∙ swept_front (output_word_from (by_index a.inputs a.input_words.now a.node_words.now) (literals a.output_table.now a.output_bits.now)) a.results.now a.outputs (omega arith)
+    rw e at c.loop-o.invariant.3 ∙ swept_front (output_word_from (by_index a.inputs a.input_words.now a.node_words.now) (lent_table a.output_table.now)) a.results.now a.outputs (omega arith)

@@ -5,9 +5,9 @@ use lib.ListN.{length, take, length-set}
 use lib.Seq.{length-take-le}
 use Rattle.evaluation.specs.Inner.{nodes_of}
 use Rattle.evaluation.proofs.Rows.{row_more}
-use Rattle.graph.specs.Literals.{literals}
 use Rattle.evaluation.proofs.values.fill_node.Goals as goal
 use Rattle.evaluation.proofs.values.fill_node.Goals.{Start}
+use Rattle.graph.specs.Tables.{lent_table}
 
 -- the words before it are as many as the nodes
 
@@ -38,5 +38,5 @@ pub returns : goal.returns
 returns c n h j l =
     let a = c.args in
     let e = as_many (goal.at.returns c).Start in
-    row_more (nodes_of a.inputs n (literals a.node_table.now a.node_bits.now)) a.input_words.now j a.scratch.now a.v c.node_word-w.result
+    row_more (nodes_of a.inputs n (lent_table a.node_table.now)) a.input_words.now j a.scratch.now a.v c.node_word-w.result
     (omega (arith, c.requires.1)) (h j l) (rw e at (c.node_word-w.ensures n j l))

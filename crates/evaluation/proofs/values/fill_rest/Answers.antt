@@ -3,10 +3,10 @@ use mathlib.Core.Path.{◌≡◌, refl, subst}
 use Prim.Native.Nat.{ℕ}
 use native.Mathlib.Omega.{arith}
 use lib.ListN.{take}
-use Rattle.graph.specs.Literals.{literals}
 use Rattle.evaluation.specs.Inner.{NodeWords, nodes_of}
 use Rattle.evaluation.proofs.Index.{readable_of}
 use Rattle.evaluation.proofs.values.fill_rest.Goals as goal
+use Rattle.graph.specs.Tables.{lent_table}
 
 pub loop-v-init : goal.loop-v-init
 loop-v-init c = (omega arith, refl, refl, λ n h. h)
@@ -27,4 +27,4 @@ pub returns : goal.returns
 returns c n h =
     let a = c.args in
     let e : c.loop-v.v ≡ a.nodes = omega arith in
-    subst (λ (i : ℕ). NodeWords (nodes_of a.inputs n (literals a.node_table.now a.node_bits.now)) a.input_words.now (take i c.loop-v.scratch) i) e (c.loop-v.invariant.3 n h)
+    subst (λ (i : ℕ). NodeWords (nodes_of a.inputs n (lent_table a.node_table.now)) a.input_words.now (take i c.loop-v.scratch) i) e (c.loop-v.invariant.3 n h)

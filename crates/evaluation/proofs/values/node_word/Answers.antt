@@ -6,18 +6,19 @@ use native.Mathlib.Omega.{arith}
 use borrow.Author.Tests.{eqb-false}
 use lib.ListN.{length, get_or}
 use Rattle.graph.specs.Graph.{is_xor}
-use Rattle.graph.specs.Literals.{literals, bit_of}
+use Rattle.graph.specs.Literals.{bit_of}
 use Rattle.graph.proofs.Words.{three_apart}
 use Rattle.evaluation.specs.Inner.{by_index, nodes_of}
 use Rattle.evaluation.proofs.Index.{node_joined}
 use Rattle.evaluation.proofs.values.node_word.Goals as goal
 use Rattle.evaluation.proofs.values.node_word.Goals.{Start}
+use Rattle.graph.specs.Tables.{lent_table}
 
 -- the bit of each of its words
 
 bit-of : (s : Start) (k : ℕ) → k ≤ 2 → let a = s.args in
-    a.three / 2 ^ k % 2 ≡ bit_of (get_or (literals a.node_table.now a.node_bits.now) (3 * length a.node_words.now + k) 0)
-bit-of s k h = let a = s.args in rw s.requires.2 (three_apart (literals a.node_table.now a.node_bits.now) (length a.node_words.now) k h)
+    a.three / 2 ^ k % 2 ≡ bit_of (get_or (lent_table a.node_table.now) (3 * length a.node_words.now + k) 0)
+bit-of s k h = let a = s.args in rw s.requires.2 (three_apart (lent_table a.node_table.now) (length a.node_words.now) k h)
 
 pub is_mark_at-xor-requires : goal.is_mark_at-xor-requires
 is_mark_at-xor-requires c =
@@ -47,6 +48,6 @@ unfolding is_xor
 returns c n j h =
     let a = c.args in
     let ws : List ℕ = by_index a.inputs a.input_words.now a.node_words.now in
-    node_joined (nodes_of a.inputs n (literals a.node_table.now a.node_bits.now)) (length a.node_words.now) ws
+    node_joined (nodes_of a.inputs n (lent_table a.node_table.now)) (length a.node_words.now) ws
     c.literal_word-x.result c.literal_word-y.result c.joined_word.result c.literal_word-x.ensures c.literal_word-y.ensures
     c.is_mark_at-xor.result c.third_word-z.result c.is_mark_at-xor.ensures c.third_word-z.ensures j h (c.joined_word.ensures j h)

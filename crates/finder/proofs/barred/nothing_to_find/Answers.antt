@@ -4,15 +4,15 @@ use mathlib.Core.Bool.{false≢true}
 use Prim.Native.Nat.{◌+◌, ◌*◌}
 use native.Mathlib.Omega.{arith}
 use Rattle.graph.specs.Graph.{Graph}
-use Rattle.graph.specs.Literals.{literals}
 use Rattle.graph.proofs.Words.{is_word}
 use Rattle.evaluation.specs.Inner.{nodes_of}
 use Rattle.finder.proofs.Barring.{second_input, third_input}
 use Rattle.finder.proofs.barred.nothing_to_find.Goals as goal
 use Rattle.finder.proofs.barred.nothing_to_find.Goals.{Start}
+use Rattle.graph.specs.Tables.{lent_table}
 
 abbrev graph : Start → Graph
-graph s = nodes_of s.args.inputs s.args.nodes (literals s.args.node_table.now s.args.node_bits.now)
+graph s = nodes_of s.args.inputs s.args.nodes (lent_table s.args.node_table.now)
 
 pub is_mark_at-requires : goal.is_mark_at-requires
 is_mark_at-requires c =

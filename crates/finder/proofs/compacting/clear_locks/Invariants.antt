@@ -5,6 +5,3 @@ use Rattle.finder.proofs.compacting.clear_locks.Given as goal
 
 abbrev pub invariant-loop-j : goal.invariant-loop-j
 invariant-loop-j l = (l.a ≤ l.j) × (l.j ≤ l.b) × Cleared l.a l.j l.initial.locks l.locks
-
-abbrev pub decreases-loop-j : goal.decreases-loop-j
-decreases-loop-j l = l.b - l.j

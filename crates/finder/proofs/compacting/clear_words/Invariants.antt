@@ -7,6 +7,3 @@ use Rattle.finder.proofs.compacting.clear_words.Given as goal
 
 abbrev pub invariant-loop-j : goal.invariant-loop-j
 invariant-loop-j l = (l.a ≤ l.j) × (l.j ≤ l.b) × SameRoom l.initial.table l.initial.bits l.table l.bits × Cleared l.a l.j (literals l.initial.table l.initial.bits) (literals l.table l.bits)
-
-abbrev pub decreases-loop-j : goal.decreases-loop-j
-decreases-loop-j l = l.b - l.j

@@ -15,6 +15,3 @@ invariant-loop-v l =
     let ns' = literals l.node_table l.node_bits in
     Shifting l.nodes ns l.initial.locks l.v l.t ns' l.locks × SameRoom l.initial.node_table l.initial.node_bits l.node_table l.node_bits
     × ((o : ℕ) (os : List ℕ) (live : ℕ → Bool) → Moves (graph_of l.inputs l.nodes o ns os) live l.scratch → Compacted (graph_of l.inputs l.nodes o ns os) live l.initial.locks l.v l.t ns' l.locks)
-
-abbrev pub decreases-loop-v : goal.decreases-loop-v
-decreases-loop-v l = l.nodes - l.v

@@ -3,13 +3,13 @@ use mathlib.Core.Path.{refl, sym, ◌∙◌}
 use Prim.Native.Nat.{ℕ}
 use native.Mathlib.Omega.{arith}
 use mathlib.Core.List.{List}
-use Rattle.graph.specs.Literals.{literals}
 use Rattle.finder.proofs.Compact.{third_word, third_stays, third_moves, third_holds}
 use Rattle.finder.proofs.compacting.moved_third.Goals as goal
 use Rattle.finder.proofs.compacting.moved_third.Goals.{Start}
+use Rattle.graph.specs.Tables.{lent_table}
 
 abbrev words : Start → List ℕ
-words s = literals s.args.node_table.now s.args.node_bits.now
+words s = lent_table s.args.node_table.now
 
 pub is_mark_at-requires : goal.is_mark_at-requires
 is_mark_at-requires c = (omega (arith, c.requires.1), third_word c.args.inputs c.args.scratch.now (words (goal.at.is_mark_at-requires c).Start) c.args.v c.requires.2)

@@ -8,6 +8,3 @@ use Rattle.finder.proofs.compacting.renumber_outputs.Given as goal
 abbrev pub invariant-loop-j : goal.invariant-loop-j
 invariant-loop-j l =
     (l.j ≤ l.outputs) × SameRoom l.initial.output_table l.initial.output_bits l.output_table l.output_bits × OutputsMoved l.inputs l.j l.scratch (literals l.initial.output_table l.initial.output_bits) (literals l.output_table l.output_bits)
-
-abbrev pub decreases-loop-j : goal.decreases-loop-j
-decreases-loop-j l = l.outputs - l.j

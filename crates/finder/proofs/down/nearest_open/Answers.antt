@@ -5,7 +5,6 @@ use native.Mathlib.Omega.{arith}
 use borrow.Author.Tests.{eqb-false}
 use lib.ListN.{length}
 use Rattle.graph.specs.Graph.{Graph, mark, node, word}
-use Rattle.graph.specs.Literals.{literals}
 use Rattle.evaluation.specs.Inner.{nodes_of}
 use Rattle.graph.proofs.Edge.{edge_third}
 use Rattle.graph.proofs.Words.{is_word}
@@ -13,9 +12,10 @@ use Rattle.finder.proofs.Named.{first_named, second_named, third_named}
 use Rattle.finder.proofs.Opens.{leading_more, leading_first, leading_second}
 use Rattle.finder.proofs.down.nearest_open.Goals as goal
 use Rattle.finder.proofs.down.nearest_open.Goals.{Start}
+use Rattle.graph.specs.Tables.{lent_table}
 
 abbrev graph : Start → Graph
-graph s = nodes_of s.args.inputs s.args.nodes (literals s.args.node_table.now s.args.node_bits.now)
+graph s = nodes_of s.args.inputs s.args.nodes (lent_table s.args.node_table.now)
 
 inside : (v n k h : ℕ) → k < 3 → v < n → 3 * n ≤ h → 3 * v + k < h
 inside v n k h b l e = omega arith

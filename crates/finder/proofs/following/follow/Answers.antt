@@ -2,15 +2,15 @@
 use Prim.Native.Nat.{ℕ, ◌+◌, ◌-◌, ◌*◌, ◌/◌, ◌≤◌, ◌<◌}
 use native.Mathlib.Omega.{arith}
 use Rattle.graph.specs.Graph.{Graph, node}
-use Rattle.graph.specs.Literals.{literals}
 use Rattle.evaluation.specs.Inner.{nodes_of}
 use Rattle.finder.specs.Meeting.{Bars}
 use Rattle.finder.proofs.Meets.{bars_all, listed_rise, inside, comes_on, comes_end, told_or}
 use Rattle.finder.proofs.following.follow.Goals as goal
 use Rattle.finder.proofs.following.follow.Goals.{Start}
+use Rattle.graph.specs.Tables.{lent_table}
 
 abbrev graph : Start → Graph
-graph s = nodes_of s.args.inputs s.args.nodes (literals s.args.node_table.now s.args.node_bits.now)
+graph s = nodes_of s.args.inputs s.args.nodes (lent_table s.args.node_table.now)
 
 none : (s : Start) → Bars (graph s) s.args.list.now s.args.m 18446744073709551615 (node (graph s) s.args.v)
 none s = bars_all (graph s) s.args.list.now s.args.m (node (graph s) s.args.v) s.requires.0.near.few

@@ -4,9 +4,7 @@ use Rattle.graph.specs.Literals.{literals}
 use Rattle.evaluation.specs.Inner.{nodes_of}
 use Rattle.finder.specs.Meeting.{Comes}
 use Rattle.finder.proofs.following.follow.Given as goal
+use Rattle.graph.specs.Tables.{lent_table}
 
 abbrev pub invariant-loop-far : goal.invariant-loop-far
-invariant-loop-far l = Comes (nodes_of l.inputs l.nodes (literals l.node_table l.node_bits)) l.v l.m l.list l.x l.mask
-
-abbrev pub decreases-loop-far : goal.decreases-loop-far
-decreases-loop-far l = 40 - l.far
+invariant-loop-far l = Comes (nodes_of l.inputs l.nodes (lent_table l.node_table)) l.v l.m l.list l.x l.mask

@@ -3,15 +3,15 @@ use mathlib.Core.Path.{refl, ◌∙◌}
 use Prim.Native.Nat.{ℕ, ◌+◌, ◌-◌, ◌*◌, ◌/◌, ◌≤◌, ◌<◌}
 use native.Mathlib.Omega.{arith}
 use Rattle.graph.specs.Graph.{Graph}
-use Rattle.graph.specs.Literals.{literals}
 use Rattle.evaluation.specs.Inner.{nodes_of}
 use Rattle.finder.proofs.Meets.{come_put}
 use Rattle.finder.proofs.following.further.Goals as goal
 use Rattle.finder.proofs.following.further.Goals.{Start}
 use Rattle.finder.proofs.following.further.Invariants.{Inv}
+use Rattle.graph.specs.Tables.{lent_table}
 
 abbrev graph : Start → Graph
-graph s = nodes_of s.args.inputs s.args.nodes (literals s.args.node_table.now s.args.node_bits.now)
+graph s = nodes_of s.args.inputs s.args.nodes (lent_table s.args.node_table.now)
 
 third : (n j t : ℕ) → j < 3 * n → n ≤ t → j / 3 < t
 third n j t h k = omega arith

@@ -6,6 +6,7 @@ use Rattle.graph.specs.Literals.{literals}
 use Rattle.evaluation.specs.Inner.{nodes_of}
 use Rattle.finder.specs.Meeting.{Come}
 use Rattle.finder.proofs.following.further.Given as goal
+use Rattle.graph.specs.Tables.{lent_table}
 
 pub record Inv (from n j t k k₀ l l₀ : ℕ) : Type 0 where
   pub low : 3 * from ≤ j
@@ -17,7 +18,4 @@ pub record Inv (from n j t k k₀ l l₀ : ℕ) : Type 0 where
 
 abbrev pub invariant-loop-j : goal.invariant-loop-j
 invariant-loop-j l =
-    Inv l.from l.n l.j l.t (length l.heads) (length l.initial.heads) (length l.met) (length l.initial.met) × Come (nodes_of l.inputs l.nodes (literals l.node_table l.node_bits)) l.v l.m l.list l.t l.heads l.met
-
-abbrev pub decreases-loop-j : goal.decreases-loop-j
-decreases-loop-j l = 3 * l.n - l.j
+    Inv l.from l.n l.j l.t (length l.heads) (length l.initial.heads) (length l.met) (length l.initial.met) × Come (nodes_of l.inputs l.nodes (lent_table l.node_table)) l.v l.m l.list l.t l.heads l.met

@@ -3,14 +3,14 @@ use mathlib.Core.Path.{◌≡◌, refl, ap}
 use Prim.Native.Nat.{ℕ, ◌+◌, ◌-◌, ◌*◌, ◌≤◌}
 use native.Mathlib.Omega.{arith}
 use Rattle.graph.specs.Graph.{Graph}
-use Rattle.graph.specs.Literals.{literals}
 use Rattle.evaluation.specs.Inner.{nodes_of}
 use Rattle.finder.proofs.Meets.{come_one}
 use Rattle.finder.proofs.following.gather_ways.Goals as goal
 use Rattle.finder.proofs.following.gather_ways.Goals.{Start}
+use Rattle.graph.specs.Tables.{lent_table}
 
 abbrev graph : Start → Graph
-graph s = nodes_of s.args.inputs s.args.nodes (literals s.args.node_table.now s.args.node_bits.now)
+graph s = nodes_of s.args.inputs s.args.nodes (lent_table s.args.node_table.now)
 
 room : (p l l₀ k k₀ : ℕ) → p ≤ 1 + 3 * (1 - 0) → 1 ≤ p → l ≡ l₀ → k ≡ k₀ → l₀ ≡ 13 → k₀ ≡ 13 → (1 ≤ p) × (p ≤ 4) × (p + 3 * (p - 1) ≤ l) × (p + 3 * (p - 1) ≤ k)
 room p l l₀ k k₀ h q e f i j = (q, omega arith, omega arith, omega arith)

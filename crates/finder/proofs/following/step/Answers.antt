@@ -1,14 +1,14 @@
 -- `step` meets its contract. From the laws on ways.
 use native.Mathlib.Omega.{arith}
 use Rattle.graph.specs.Graph.{Graph}
-use Rattle.graph.specs.Literals.{literals}
 use Rattle.evaluation.specs.Inner.{nodes_of}
 use Rattle.finder.proofs.Meets.{listed_rise, inside, comes_on}
 use Rattle.finder.proofs.following.step.Goals as goal
 use Rattle.finder.proofs.following.step.Goals.{Start}
+use Rattle.graph.specs.Tables.{lent_table}
 
 abbrev graph : Start → Graph
-graph s = nodes_of s.args.inputs s.args.nodes (literals s.args.node_table.now s.args.node_bits.now)
+graph s = nodes_of s.args.inputs s.args.nodes (lent_table s.args.node_table.now)
 
 pub named_at-x-requires : goal.named_at-x-requires
 named_at-x-requires c =

@@ -1,14 +1,14 @@
 -- `way` meets its contract. From the laws on ways.
 use native.Mathlib.Omega.{arith}
 use Rattle.graph.specs.Graph.{Graph, node}
-use Rattle.graph.specs.Literals.{literals}
 use Rattle.evaluation.specs.Inner.{nodes_of}
 use Rattle.finder.proofs.Meets.{bars_all}
 use Rattle.finder.proofs.following.way.Goals as goal
 use Rattle.finder.proofs.following.way.Goals.{Start}
+use Rattle.graph.specs.Tables.{lent_table}
 
 abbrev graph : Start → Graph
-graph s = nodes_of s.args.inputs s.args.nodes (literals s.args.node_table.now s.args.node_bits.now)
+graph s = nodes_of s.args.inputs s.args.nodes (lent_table s.args.node_table.now)
 
 pub returns-then-head-eq0 : goal.returns-then-head-eq0
 returns-then-head-eq0 c = bars_all (graph (goal.at.returns-then-head-eq0 c).Start) c.args.list.now c.args.m (node (graph (goal.at.returns-then-head-eq0 c).Start) c.args.v) c.requires.0.near.few

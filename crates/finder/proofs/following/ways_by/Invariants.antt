@@ -7,6 +7,7 @@ use Rattle.graph.specs.Literals.{literals}
 use Rattle.evaluation.specs.Inner.{nodes_of}
 use Rattle.finder.specs.Meeting.{AllBar}
 use Rattle.finder.proofs.following.ways_by.Given as goal
+use Rattle.graph.specs.Tables.{lent_table}
 
 pub record Inv (from to n e t k k₀ : ℕ) : Type 0 where
   pub low : from ≤ e
@@ -16,8 +17,5 @@ pub record Inv (from to n e t k k₀ : ℕ) : Type 0 where
 
 abbrev pub invariant-loop-e : goal.invariant-loop-e
 invariant-loop-e l =
-    let g = nodes_of l.inputs l.nodes (literals l.node_table l.node_bits) in
+    let g = nodes_of l.inputs l.nodes (lent_table l.node_table) in
     Inv l.from l.to l.n l.e l.t (length l.ways) (length l.initial.ways) × AllBar g l.list l.m l.t l.ways (node g l.v)
-
-abbrev pub decreases-loop-e : goal.decreases-loop-e
-decreases-loop-e l = l.to - l.e

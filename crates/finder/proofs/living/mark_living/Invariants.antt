@@ -5,10 +5,11 @@ use lib.ListN.{length}
 use Rattle.finder.specs.Living.{Living}
 use Rattle.graph.specs.Literals.{graph_in}
 use Rattle.finder.proofs.living.mark_living.Given as goal
+use Rattle.graph.specs.Tables.{lent_graph}
 
 abbrev pub invariant-loop-v : goal.invariant-loop-v
 invariant-loop-v l =
-    (l.v ≤ l.nodes) × (length l.scratch ≡ length l.initial.scratch) × Living (graph_in l.inputs l.nodes l.outputs l.node_table l.node_bits l.output_table l.output_bits) l.locks l.v l.outputs l.scratch
+    (l.v ≤ l.lent.nodes) × (length l.scratch ≡ length l.initial.scratch) × Living (lent_graph l.lent) l.lent.locks.now l.v l.lent.outputs l.scratch
 
 abbrev pub decreases-loop-v : goal.decreases-loop-v
 decreases-loop-v l = l.v

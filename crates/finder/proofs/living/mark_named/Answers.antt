@@ -4,17 +4,17 @@ use Prim.Native.Nat.{ℕ, ◌+◌, ◌*◌, ◌≤◌, ◌<◌}
 use native.Mathlib.Omega.{arith}
 use borrow.Author.Tests.{eqb-true, eqb-false}
 use Rattle.graph.specs.Graph.{Graph, mark, word}
-use Rattle.graph.specs.Literals.{graph_in}
 use Rattle.graph.proofs.Words.{is_word}
 use Rattle.finder.proofs.Named.{first_named, second_named, third_named}
 use Rattle.finder.proofs.Marks.{named_two, named_three}
 use Rattle.finder.proofs.living.mark_named.Goals as goal
 use Rattle.finder.proofs.living.mark_named.Goals.{Start}
+use Rattle.graph.specs.Tables.{lent_graph}
 
 abbrev graph : Start → Graph
 graph s =
     let a = s.args in
-    graph_in a.inputs a.nodes a.outputs a.node_table.now a.node_bits.now a.output_table.now a.output_bits.now
+    lent_graph a.lent.now
 
 inside : (v n k h : ℕ) → k < 3 → v < n → 3 * n ≤ h → 3 * v + k < h
 inside v n k h b l e = omega arith
@@ -31,19 +31,19 @@ index_at-requires c = omega (arith, c.requires.1, c.requires.0.held_nodes)
 pub mark-requires : goal.mark-requires
 mark-requires c =
     let a = c.args in
-    fits a.inputs a.nodes a.v _ _ _ (first_named (graph (goal.at.mark-requires c).Start) c.requires.0 a.v _ c.requires.1 c.index_at.ensures).1 c.requires.1 c.requires.2 (self _)
+    fits a.lent.now.inputs a.lent.now.nodes a.v _ _ _ (first_named (graph (goal.at.mark-requires c).Start) c.requires.0 a.v _ c.requires.1 c.index_at.ensures).1 c.requires.1 c.requires.2 (self _)
 
 pub index_at-requires-2 : goal.index_at-requires-2
-index_at-requires-2 c = inside c.args.v c.args.nodes 1 _ (omega arith) c.requires.1 c.requires.0.held_nodes
+index_at-requires-2 c = inside c.args.v c.args.lent.now.nodes 1 _ (omega arith) c.requires.1 c.requires.0.held_nodes
 
 pub mark-requires-2 : goal.mark-requires-2
 mark-requires-2 c =
     let a = c.args in
-    fits a.inputs a.nodes a.v _ _ _ (second_named (graph (goal.at.mark-requires-2 c).Start) c.requires.0 a.v _ c.requires.1 c.index_at-2.ensures).1 c.requires.1 c.requires.2 c.mark.ensures.same
+    fits a.lent.now.inputs a.lent.now.nodes a.v _ _ _ (second_named (graph (goal.at.mark-requires-2 c).Start) c.requires.0 a.v _ c.requires.1 c.index_at-2.ensures).1 c.requires.1 c.requires.2 c.mark.ensures.same
 
 pub is_mark_at-requires : goal.is_mark_at-requires
 is_mark_at-requires c =
-    (inside c.args.v c.args.nodes 2 _ (omega arith) c.requires.1 c.requires.0.held_nodes, is_word (graph (goal.at.is_mark_at-requires c).Start) c.requires.0 (3 * c.args.v + 2) (omega (arith, c.requires.1)))
+    (inside c.args.v c.args.lent.now.nodes 2 _ (omega arith) c.requires.1 c.requires.0.held_nodes, is_word (graph (goal.at.is_mark_at-requires c).Start) c.requires.0 (3 * c.args.v + 2) (omega (arith, c.requires.1)))
 
 pub returns-then-is_mark_at : goal.returns-then-is_mark_at
 returns-then-is_mark_at c =
@@ -57,14 +57,14 @@ returns-then-is_mark_at c =
     (eqb-true (word g (3 * a.v + 2)) mark (sym c.is_mark_at.ensures ∙ c.if-is_mark_at.true))
 
 pub index_at-requires-3 : goal.index_at-requires-3
-index_at-requires-3 c = inside c.args.v c.args.nodes 2 _ (omega arith) c.requires.1 c.requires.0.held_nodes
+index_at-requires-3 c = inside c.args.v c.args.lent.now.nodes 2 _ (omega arith) c.requires.1 c.requires.0.held_nodes
 
 pub mark-requires-3 : goal.mark-requires-3
 mark-requires-3 c =
     let a = c.args in
     let g : Graph = graph (goal.at.mark-requires-3 c).Start in
     let d = eqb-false (word g (3 * a.v + 2)) mark (sym c.is_mark_at.ensures ∙ c.if-is_mark_at.false) in
-    fits a.inputs a.nodes a.v _ _ _ (third_named g c.requires.0 a.v _ c.requires.1 d c.index_at-3.ensures).1 c.requires.1 c.requires.2 (c.mark-2.ensures.same ∙ c.mark.ensures.same)
+    fits a.lent.now.inputs a.lent.now.nodes a.v _ _ _ (third_named g c.requires.0 a.v _ c.requires.1 d c.index_at-3.ensures).1 c.requires.1 c.requires.2 (c.mark-2.ensures.same ∙ c.mark.ensures.same)
 
 pub returns : goal.returns
 returns c =

@@ -4,16 +4,16 @@ use Prim.Native.Nat.{ℕ, ◌+◌, ◌≤◌, ◌<◌}
 use native.Mathlib.Omega.{arith}
 use Rattle.graph.specs.Graph.{Graph, output}
 use Rattle.graph.specs.Inner.{Names}
-use Rattle.graph.specs.Literals.{graph_in}
 use Rattle.finder.proofs.Named.{output_named_lem}
 use Rattle.finder.proofs.Marks.{living_output}
 use Rattle.finder.proofs.living.mark_outputs.Goals as goal
 use Rattle.finder.proofs.living.mark_outputs.Goals.{Start}
+use Rattle.graph.specs.Tables.{lent_graph}
 
 abbrev graph : Start → Graph
 graph s =
     let a = s.args in
-    graph_in a.inputs a.nodes a.outputs a.node_table.now a.node_bits.now a.output_table.now a.output_bits.now
+    lent_graph a.lent.now
 
 within : (j o l : ℕ) {k : ℕ} → k ≡ j → j < o → o ≤ l → k < l
 within j o l e h b = omega arith
@@ -31,19 +31,19 @@ pub mark-requires : goal.mark-requires
 mark-requires c =
     let a = c.args in
     let e : Names (output (graph (goal.at.mark-requires c).Start) c.loop-j.j) c.index_at.result = rw (← c.wide.ensures) c.index_at.ensures in
-    fits a.inputs a.nodes _ _ (output_named_lem (graph (goal.at.mark-requires c).Start) c.requires.0 c.loop-j.j _ c.loop-j-test.true e).1 c.loop-j.invariant.2.long
+    fits a.lent.now.inputs a.lent.now.nodes _ _ (output_named_lem (graph (goal.at.mark-requires c).Start) c.requires.0 c.loop-j.j _ c.loop-j-test.true e).1 c.loop-j.invariant.2.long
 
 pub loop-j-preserved : goal.loop-j-preserved
 loop-j-preserved c =
     let a = c.args in
     let e : Names (output (graph (goal.at.loop-j-preserved c).Start) c.loop-j.j) c.index_at.result = rw (← c.wide.ensures) c.index_at.ensures in
     let n = (output_named_lem (graph (goal.at.loop-j-preserved c).Start) c.requires.0 c.loop-j.j _ c.loop-j-test.true e).0 in
-    (omega (arith, c.loop-j-test.true), c.mark.ensures.same ∙ c.loop-j.invariant.1, living_output (graph (goal.at.loop-j-preserved c).Start) c.requires.0 a.locks.now c.loop-j.j c.index_at.result c.loop-j.scratch _ c.loop-j.invariant.2 c.loop-j-test.true n c.mark.ensures)
+    (omega (arith, c.loop-j-test.true), c.mark.ensures.same ∙ c.loop-j.invariant.1, living_output (graph (goal.at.loop-j-preserved c).Start) c.requires.0 a.lent.now.locks.now c.loop-j.j c.index_at.result c.loop-j.scratch _ c.loop-j.invariant.2 c.loop-j-test.true n c.mark.ensures)
 
 pub shape_of-scratch : goal.shape_of-scratch
 shape_of-scratch c = c.loop-j.invariant.1
 
 pub returns : goal.returns
 returns c =
-    let e : c.loop-j.j ≡ c.args.outputs = omega (arith, c.loop-j-test.false, c.loop-j.invariant.0) in
+    let e : c.loop-j.j ≡ c.args.lent.now.outputs = omega (arith, c.loop-j-test.false, c.loop-j.invariant.0) in
     rw e at c.loop-j.invariant.2

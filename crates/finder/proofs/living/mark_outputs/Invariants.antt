@@ -5,10 +5,8 @@ use lib.ListN.{length}
 use Rattle.graph.specs.Literals.{graph_in}
 use Rattle.finder.specs.Living.{Living}
 use Rattle.finder.proofs.living.mark_outputs.Given as goal
+use Rattle.graph.specs.Tables.{lent_graph}
 
 abbrev pub invariant-loop-j : goal.invariant-loop-j
 invariant-loop-j l =
-    (l.j ≤ l.outputs) × (length l.scratch ≡ length l.initial.scratch) × Living (graph_in l.inputs l.nodes l.outputs l.node_table l.node_bits l.output_table l.output_bits) l.locks l.nodes l.j l.scratch
-
-abbrev pub decreases-loop-j : goal.decreases-loop-j
-decreases-loop-j l = l.outputs - l.j
+    (l.j ≤ l.lent.outputs) × (length l.scratch ≡ length l.initial.scratch) × Living (lent_graph l.lent) l.lent.locks.now l.lent.nodes l.j l.scratch

@@ -4,7 +4,6 @@ use Prim.Native.Nat.{◌+◌, ◌*◌, ◌≤◌}
 use native.Mathlib.Omega.{arith}
 use lib.ListN.{length}
 use Rattle.graph.specs.Graph.{Graph}
-use Rattle.graph.specs.Literals.{literals}
 use Rattle.graph.proofs.Words.{is_word}
 use Rattle.evaluation.specs.Inner.{nodes_of}
 use Rattle.finder.specs.Meeting.{Rises}
@@ -13,9 +12,10 @@ use Rattle.finder.proofs.Turning.{higher_in}
 use Rattle.finder.proofs.Meets.{allows_all, allows_one, allows_two, listed_rise}
 use Rattle.finder.proofs.masks.allowed_places.Goals as goal
 use Rattle.finder.proofs.masks.allowed_places.Goals.{Start}
+use Rattle.graph.specs.Tables.{lent_table}
 
 abbrev graph : Start → Graph
-graph s = nodes_of s.args.inputs s.args.nodes (literals s.args.node_table.now s.args.node_bits.now)
+graph s = nodes_of s.args.inputs s.args.nodes (lent_table s.args.node_table.now)
 
 places : (s : Start) → (s.args.m ≤ 39) × (s.args.m ≤ length s.args.list.now) × Rises s.args.m s.args.list.now
 places s = (s.requires.few, s.requires.listed, listed_rise (graph s) s.args.v s.args.m s.args.list.now s.requires)

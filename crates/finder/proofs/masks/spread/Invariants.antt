@@ -6,6 +6,3 @@ use Rattle.finder.proofs.masks.spread.Given as goal
 
 abbrev pub invariant-loop-k : goal.invariant-loop-k
 invariant-loop-k l = (l.k ≤ l.n) × (l.apart ≤ 3) × AtLeast l.apart l.seen l.allowed l.k l.ways
-
-abbrev pub decreases-loop-k : goal.decreases-loop-k
-decreases-loop-k l = l.n - l.k

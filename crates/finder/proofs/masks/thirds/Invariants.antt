@@ -7,6 +7,3 @@ use Rattle.finder.proofs.masks.thirds.Given as goal
 
 abbrev pub invariant-loop-k : goal.invariant-loop-k
 invariant-loop-k l = (l.k ≤ l.n) × ((c : ℕ) → bit c l.met ≡ 0 → Unmet l.allowed l.k l.ways l.a l.b c)
-
-abbrev pub decreases-loop-k : goal.decreases-loop-k
-decreases-loop-k l = l.n - l.k

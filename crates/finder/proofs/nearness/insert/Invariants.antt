@@ -11,6 +11,3 @@ use Rattle.finder.proofs.nearness.insert.Given as goal
 abbrev pub invariant-loop-k : goal.invariant-loop-k
 invariant-loop-k l =
     (l.k ≤ l.n) × (ln.length l.list ≡ ln.length l.initial.list) × (take l.k l.list ++ insert_to l.carried (slice l.k l.n l.list) ≡ insert_to l.index (take l.n l.initial.list))
-
-abbrev pub decreases-loop-k : goal.decreases-loop-k
-decreases-loop-k l = l.n - l.k

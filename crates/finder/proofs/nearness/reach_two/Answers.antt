@@ -3,15 +3,15 @@ use mathlib.Core.Path.{sym, ◌∙◌}
 use Prim.Native.Nat.{◌+◌, ◌*◌}
 use native.Mathlib.Omega.{arith}
 use Rattle.graph.specs.Graph.{Graph}
-use Rattle.graph.specs.Literals.{literals}
 use Rattle.graph.proofs.Words.{is_word}
 use Rattle.evaluation.specs.Inner.{nodes_of}
 use Rattle.finder.proofs.Inserting.{edge_low, edge_third, reach_input, reach_mark, reach_three, places, room_first, room_second, room_third}
 use Rattle.finder.proofs.nearness.reach_two.Goals as goal
 use Rattle.finder.proofs.nearness.reach_two.Goals.{Start}
+use Rattle.graph.specs.Tables.{lent_table}
 
 abbrev graph : Start → Graph
-graph s = nodes_of s.args.inputs s.args.nodes (literals s.args.node_table.now s.args.node_bits.now)
+graph s = nodes_of s.args.inputs s.args.nodes (lent_table s.args.node_table.now)
 
 pub returns-then-u-inputs : goal.returns-then-u-inputs
 returns-then-u-inputs c = reach_input (graph (goal.at.returns-then-u-inputs c).Start) 1 12 c.args.u c.args.n c.args.list.now c.if-u-inputs.true

@@ -1,15 +1,15 @@
 -- `through_two` meets its contract. From the laws on insertion.
 use native.Mathlib.Omega.{arith}
 use Rattle.graph.specs.Graph.{Graph}
-use Rattle.graph.specs.Literals.{literals}
 use Rattle.evaluation.specs.Inner.{nodes_of}
 use Rattle.finder.proofs.Named.{word_named}
 use Rattle.finder.proofs.Inserting.{through_more, room_through}
 use Rattle.finder.proofs.nearness.through_two.Goals as goal
 use Rattle.finder.proofs.nearness.through_two.Goals.{Start}
+use Rattle.graph.specs.Tables.{lent_table}
 
 abbrev graph : Start → Graph
-graph s = nodes_of s.args.inputs s.args.nodes (literals s.args.node_table.now s.args.node_bits.now)
+graph s = nodes_of s.args.inputs s.args.nodes (lent_table s.args.node_table.now)
 
 pub index_at-x-requires : goal.index_at-x-requires
 index_at-x-requires c = omega (arith, c.requires.1, c.requires.0.held_nodes)

@@ -9,6 +9,3 @@ use Rattle.finder.proofs.numbering.number_living.Given as goal
 abbrev pub invariant-loop-v : goal.invariant-loop-v
 invariant-loop-v l =
     (l.v ≤ l.nodes) × (l.to ≤ l.v) × (length l.scratch ≡ length l.initial.scratch) × ((live : ℕ → Bool) → Flags live l.nodes l.initial.scratch → Numbering l.inputs l.nodes live l.v l.to l.initial.scratch l.scratch)
-
-abbrev pub decreases-loop-v : goal.decreases-loop-v
-decreases-loop-v l = l.nodes - l.v

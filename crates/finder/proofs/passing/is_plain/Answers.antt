@@ -5,19 +5,19 @@ use Prim.Native.Nat.{ℕ, ◌+◌, ◌*◌}
 use native.Mathlib.Omega.{arith}
 use borrow.Author.Tests.{eqb-false}
 use Rattle.graph.specs.Graph.{Graph, mark, word}
-use Rattle.graph.specs.Literals.{literals}
 use Rattle.graph.proofs.Words.{is_word}
 use Rattle.evaluation.specs.Inner.{nodes_of}
 use Rattle.finder.proofs.Named.{first_named, second_named, third_named}
 use Rattle.finder.proofs.Plain.{plain_xor, plain_majority}
 use Rattle.finder.proofs.passing.is_plain.Goals as goal
 use Rattle.finder.proofs.passing.is_plain.Goals.{Start}
+use Rattle.graph.specs.Tables.{lent_table}
 
 abbrev graph : Start → Graph
-graph s = nodes_of s.args.inputs s.args.nodes (literals s.args.node_table.now s.args.node_bits.now)
+graph s = nodes_of s.args.inputs s.args.nodes (lent_table s.args.node_table.now)
 
 abbrev words : Start → List ℕ
-words s = literals s.args.node_table.now s.args.node_bits.now
+words s = lent_table s.args.node_table.now
 
 pub is_mark_at-requires : goal.is_mark_at-requires
 is_mark_at-requires c =

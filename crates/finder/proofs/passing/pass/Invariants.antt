@@ -15,6 +15,3 @@ invariant-loop-v l =
     let g = nodes_of l.inputs l.nodes (literals l.initial.node_table l.initial.node_bits) in
     let h = nodes_of l.inputs l.nodes (literals l.node_table l.node_bits) in
     (l.v ≤ l.nodes) × SameRoom l.initial.node_table l.initial.node_bits l.node_table l.node_bits × (length l.scratch ≡ length l.initial.scratch) × (h ≡ passed g l.locks l.v) × Clean h l.v l.scratch × Signed h l.v l.scratch
-
-abbrev pub decreases-loop-v : goal.decreases-loop-v
-decreases-loop-v l = l.nodes - l.v

@@ -1,13 +1,13 @@
 -- `set_sign` meets its contract. From the laws on signatures.
 use Rattle.graph.specs.Graph.{Graph}
-use Rattle.graph.specs.Literals.{literals}
 use Rattle.evaluation.specs.Inner.{nodes_of}
 use Rattle.finder.proofs.Signatures.{sign_set}
 use Rattle.finder.proofs.signs.set_sign.Goals as goal
 use Rattle.finder.proofs.signs.set_sign.Goals.{Start}
+use Rattle.graph.specs.Tables.{lent_table}
 
 abbrev graph : Start → Graph
-graph s = nodes_of s.args.inputs s.args.nodes (literals s.args.node_table.now s.args.node_bits.now)
+graph s = nodes_of s.args.inputs s.args.nodes (lent_table s.args.node_table.now)
 
 pub returns : goal.returns
 returns c =

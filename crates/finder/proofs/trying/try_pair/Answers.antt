@@ -3,16 +3,17 @@ use mathlib.Core.Path.{◌≡◌}
 use Prim.Native.Nat.{ℕ}
 use native.Mathlib.Omega.{arith}
 use Rattle.graph.specs.Graph.{Graph}
-use Rattle.graph.specs.Literals.{bit, literals}
+use Rattle.graph.specs.Literals.{bit}
 use Rattle.evaluation.specs.Inner.{nodes_of}
 use Rattle.finder.specs.Meeting.{Unmet, ThirdsMet}
 use Rattle.finder.proofs.Meets.{none_above}
 use Rattle.finder.proofs.Unfit.{unmet_sought, unmet_passed}
 use Rattle.finder.proofs.trying.try_pair.Goals as goal
 use Rattle.finder.proofs.trying.try_pair.Goals.{Start}
+use Rattle.graph.specs.Tables.{lent_table}
 
 abbrev graph : Start → Graph
-graph s = nodes_of s.args.inputs s.args.nodes (literals s.args.node_table.now s.args.node_bits.now)
+graph s = nodes_of s.args.inputs s.args.nodes (lent_table s.args.node_table.now)
 
 -- what the ways leave of thirds
 

@@ -6,11 +6,9 @@ use Rattle.evaluation.specs.Inner.{nodes_of}
 use Rattle.hidden.specs.Inner.{left₁, left₂}
 use Rattle.finder.proofs.Trials.{Going}
 use Rattle.finder.proofs.trying.try_seconds.Given as goal
+use Rattle.graph.specs.Tables.{lent_table}
 
 abbrev pub invariant-loop-b : goal.invariant-loop-b
 invariant-loop-b l =
     let near = take l.m l.list in
-    (l.a < l.b) × (l.b ≤ l.m) × Going (nodes_of l.inputs l.nodes (literals l.node_table l.node_bits)) l.v (left₁ near l.a) (left₂ near l.a l.b) l.initial.scratch l.scratch
-
-abbrev pub decreases-loop-b : goal.decreases-loop-b
-decreases-loop-b l = l.m - l.b
+    (l.a < l.b) × (l.b ≤ l.m) × Going (nodes_of l.inputs l.nodes (lent_table l.node_table)) l.v (left₁ near l.a) (left₂ near l.a l.b) l.initial.scratch l.scratch

@@ -5,7 +5,6 @@ use Prim.Native.Nat.{ℕ, suc, ◌+◌, ◌*◌, ◌≤◌, ◌<◌}
 use native.Mathlib.Omega.{arith}
 use lib.ListN.{get_or, take}
 use Rattle.graph.specs.Graph.{Graph, node}
-use Rattle.graph.specs.Literals.{literals}
 use Rattle.evaluation.specs.Inner.{nodes_of}
 use Rattle.hidden.specs.Truth.{Triple, triple}
 use Rattle.hidden.specs.Inner.{left₂, left₃}
@@ -14,9 +13,10 @@ use Rattle.finder.proofs.Near.{three_rise}
 use Rattle.finder.proofs.Trials.{going_none, going_ready, going_read, tried_on, tried_found, going_end, third_step, thirds_begin, thirds_end, listed_room}
 use Rattle.finder.proofs.trying.try_thirds.Goals as goal
 use Rattle.finder.proofs.trying.try_thirds.Goals.{Start}
+use Rattle.graph.specs.Tables.{lent_table}
 
 abbrev graph : Start → Graph
-graph s = nodes_of s.args.inputs s.args.nodes (literals s.args.node_table.now s.args.node_bits.now)
+graph s = nodes_of s.args.inputs s.args.nodes (lent_table s.args.node_table.now)
 
 abbrev near : Start → List ℕ
 near s = take s.args.m s.args.list.now

@@ -6,11 +6,9 @@ use Rattle.evaluation.specs.Inner.{nodes_of}
 use Rattle.hidden.specs.Inner.{left₃}
 use Rattle.finder.proofs.Trials.{Going}
 use Rattle.finder.proofs.trying.try_thirds.Given as goal
+use Rattle.graph.specs.Tables.{lent_table}
 
 abbrev pub invariant-loop-c : goal.invariant-loop-c
 invariant-loop-c l =
     let near = take l.m l.list in
-    (l.b < l.c) × (l.c ≤ l.m) × Going (nodes_of l.inputs l.nodes (literals l.node_table l.node_bits)) l.v (left₃ near l.a l.b (suc l.b)) (left₃ near l.a l.b l.c) l.initial.scratch l.scratch
-
-abbrev pub decreases-loop-c : goal.decreases-loop-c
-decreases-loop-c l = l.m - l.c
+    (l.b < l.c) × (l.c ≤ l.m) × Going (nodes_of l.inputs l.nodes (lent_table l.node_table)) l.v (left₃ near l.a l.b (suc l.b)) (left₃ near l.a l.b l.c) l.initial.scratch l.scratch

@@ -7,11 +7,9 @@ use Rattle.hidden.specs.Find.{triples}
 use Rattle.hidden.specs.Inner.{left₁}
 use Rattle.finder.proofs.Trials.{Going}
 use Rattle.finder.proofs.trying.try_triples.Given as goal
+use Rattle.graph.specs.Tables.{lent_table}
 
 abbrev pub invariant-loop-a : goal.invariant-loop-a
 invariant-loop-a l =
     let near = take l.m l.list in
-    (l.a ≤ l.m) × Going (nodes_of l.inputs l.nodes (literals l.node_table l.node_bits)) l.v (triples near) (left₁ near l.a) l.initial.scratch l.scratch
-
-abbrev pub decreases-loop-a : goal.decreases-loop-a
-decreases-loop-a l = l.m - l.a
+    (l.a ≤ l.m) × Going (nodes_of l.inputs l.nodes (lent_table l.node_table)) l.v (triples near) (left₁ near l.a) l.initial.scratch l.scratch

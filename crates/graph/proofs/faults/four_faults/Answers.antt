@@ -33,7 +33,7 @@ loop-j-preserved c =
       omega (arith, q.ensures.1),
       omega (arith, r.ensures.1),
       omega (arith, d.ensures.1),
-      four_next a.inputs a.node_table.now a.node_bits.now c.loop-j.j c.thirds_at-b.result c.thirds_at-b.ensures c.loop-j.first c.loop-j.second
+      four_next a.inputs a.node_table.now.indices.now a.node_table.now.bits.now c.loop-j.j c.thirds_at-b.result c.thirds_at-b.ensures c.loop-j.first c.loop-j.second
           c.loop-j.third c.loop-j.fourth p.result q.result r.result d.result c.loop-j.invariant.6 p.ensures.0 q.ensures.0 r.ensures.0 d.ensures.0,
     )
 

@@ -12,7 +12,4 @@ invariant-loop-j l =
     × (l.second ≤ 2051 * l.j)
     × (l.third ≤ 2051 * l.j)
     × (l.fourth ≤ 2051 * l.j)
-    × Counts (sum (12 * l.j) (fault_at l.inputs l.node_table l.node_bits)) (l.first + l.second + l.third + l.fourth)
-
-abbrev pub decreases-loop-j : goal.decreases-loop-j
-decreases-loop-j l = l.turns - l.j
+    × Counts (sum (12 * l.j) (fault_at l.inputs l.node_table.indices.now l.node_table.bits.now)) (l.first + l.second + l.third + l.fourth)

@@ -6,6 +6,3 @@ use Rattle.graph.proofs.faults.high_outputs.Given as goal
 
 abbrev pub invariant-loop-j : goal.invariant-loop-j
 invariant-loop-j l = (l.j ≤ l.outputs) × (l.c ≤ l.j) × (l.c ≡ sum l.j (over_at (l.last + 1) l.output_table))
-
-abbrev pub decreases-loop-j : goal.decreases-loop-j
-decreases-loop-j l = l.outputs - l.j

@@ -7,16 +7,16 @@ use Rattle.graph.proofs.faults.literal_number.Goals as goal
 pub stray_number-requires : goal.stray_number-requires
 stray_number-requires c =
     let a = c.args in
-    omega (arith, c.requires.3, held_literals a.node_table.now a.node_bits.now)
+    omega (arith, c.requires.3, held_literals a.lent.now.node_table.indices.now a.lent.now.node_table.bits.now)
 
 pub stray_number-requires-2 : goal.stray_number-requires-2
 stray_number-requires-2 c =
     let a = c.args in
-    omega (arith, c.requires.4, held_literals a.output_table.now a.output_bits.now)
+    omega (arith, c.requires.4, held_literals a.lent.now.output_table.indices.now a.lent.now.output_table.bits.now)
 
 pub returns : goal.returns
 unfolding literal_number strays_number
 returns c =
     let a = c.args in
     c.first_fault.ensures
-    ∙ rw (c.words_number-words.ensures, c.first_fault-strays.ensures, c.stray_number-2.ensures a.output_table.now, c.stray_number.ensures a.node_table.now)
+    ∙ rw (c.words_number-words.ensures, c.first_fault-strays.ensures, c.stray_number-2.ensures a.lent.now.output_table.indices.now, c.stray_number.ensures a.lent.now.node_table.indices.now)

@@ -6,6 +6,3 @@ use Rattle.graph.proofs.faults.locks_number.Given as goal
 
 abbrev pub invariant-loop-v : goal.invariant-loop-v
 invariant-loop-v l = (l.end ≡ l.nodes) × (l.v ≤ l.end) × (locks_number l.v l.locks ≡ if_less 1 l.most 13 0)
-
-abbrev pub decreases-loop-v : goal.decreases-loop-v
-decreases-loop-v l = l.end - l.v

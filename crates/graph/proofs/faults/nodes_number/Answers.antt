@@ -10,10 +10,10 @@ use Rattle.graph.proofs.Literals.{held_literals}
 use Rattle.graph.proofs.faults.nodes_number.Goals as goal
 
 pub four_faults-fours-requires : goal.four_faults-fours-requires
-four_faults-fours-requires c = let a = c.args in omega (arith, held_literals a.node_table.now a.node_bits.now)
+four_faults-fours-requires c = let a = c.args in omega (arith, held_literals a.node_table.now.indices.now a.node_table.now.bits.now)
 
 pub rest_faults-rest-requires : goal.rest_faults-rest-requires
-rest_faults-rest-requires c = let a = c.args in omega (arith, held_literals a.node_table.now a.node_bits.now)
+rest_faults-rest-requires c = let a = c.args in omega (arith, held_literals a.node_table.now.indices.now a.node_table.now.bits.now)
 
 pub overflow_add-fours : goal.overflow_add-fours
 overflow_add-fours c = omega (arith, c.rest_faults-rest.ensures.1, c.four_faults-fours.ensures.1)
@@ -21,8 +21,8 @@ overflow_add-fours c = omega (arith, c.rest_faults-rest.ensures.1, c.four_faults
 pub returns : goal.returns
 returns c o os =
     let a = c.args in
-    let us = a.node_table.now in
-    let bs = a.node_bits.now in
+    let us = a.node_table.now.indices.now in
+    let bs = a.node_table.now.bits.now in
     let f : ℕ → ℕ = fault_at a.inputs us bs in
     let p = c.four_faults-fours in
     let q = c.rest_faults-rest in

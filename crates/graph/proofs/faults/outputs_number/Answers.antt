@@ -9,14 +9,14 @@ use Rattle.graph.proofs.Literals.{held_literals}
 use Rattle.graph.proofs.faults.outputs_number.Goals as goal
 
 pub high_outputs-requires : goal.high_outputs-requires
-high_outputs-requires c = let a = c.args in omega (arith, held_literals a.output_table.now a.output_bits.now)
+high_outputs-requires c = let a = c.args in omega (arith, held_literals a.output_table.now.indices.now a.output_table.now.bits.now)
 
 pub returns : goal.returns
 unfolding output_number
 returns c ns =
     let a = c.args in
-    let us = a.output_table.now in
-    let bs = a.output_bits.now in
+    let us = a.output_table.now.indices.now in
+    let bs = a.output_table.now.bits.now in
     let e : a.inputs + 1 + a.nodes ≡ a.inputs + a.nodes + 1 = omega arith in
     let end = a.inputs + a.nodes + 1 in
     c.if_any.ensures

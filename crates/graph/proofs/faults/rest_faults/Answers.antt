@@ -23,11 +23,11 @@ loop-v-preserved c =
     let b = c.bit_at in
     let a = c.args in
     let q = rw b.ensures.0 at r.ensures.0 in
-    let n = node_next a.inputs a.node_table.now a.node_bits.now c.loop-v.v (3 * c.loop-v.v) (a.inputs + c.loop-v.v + 1) refl (omega arith) r.result q in
+    let n = node_next a.inputs a.node_table.now.indices.now a.node_table.now.bits.now c.loop-v.v (3 * c.loop-v.v) (a.inputs + c.loop-v.v + 1) refl (omega arith) r.result q in
     (omega arith, omega (arith, r.ensures.1), omega (arith, n, c.loop-v.invariant.2))
 
 pub returns : goal.returns
 returns c =
     let a = c.args in
     let e : c.loop-v.v ≡ a.nodes = omega arith in
-    (c.loop-v.invariant.2 ∙ ap (λ (n : ℕ). sum (3 * n) (fault_at a.inputs a.node_table.now a.node_bits.now)) e, omega arith)
+    (c.loop-v.invariant.2 ∙ ap (λ (n : ℕ). sum (3 * n) (fault_at a.inputs a.node_table.now.indices.now a.node_table.now.bits.now)) e, omega arith)

@@ -8,7 +8,4 @@ abbrev pub invariant-loop-v : goal.invariant-loop-v
 invariant-loop-v l =
     (l.v ≤ l.nodes)
     × (l.c ≤ 2051 * l.v)
-    × (sum (12 * (l.nodes / 4)) (fault_at l.inputs l.node_table l.node_bits) + l.c ≡ sum (3 * l.v) (fault_at l.inputs l.node_table l.node_bits))
-
-abbrev pub decreases-loop-v : goal.decreases-loop-v
-decreases-loop-v l = l.nodes - l.v
+    × (sum (12 * (l.nodes / 4)) (fault_at l.inputs l.node_table.indices.now l.node_table.bits.now) + l.c ≡ sum (3 * l.v) (fault_at l.inputs l.node_table.indices.now l.node_table.bits.now))

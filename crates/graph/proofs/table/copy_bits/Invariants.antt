@@ -5,6 +5,3 @@ use Rattle.graph.proofs.table.copy_bits.Given as goal
 
 abbrev pub invariant-loop-j : goal.invariant-loop-j
 invariant-loop-j l = (l.j ≤ l.n) × (l.to ≡ swept (λ i. get_or l.bits i 0) l.initial.to l.j)
-
-abbrev pub decreases-loop-j : goal.decreases-loop-j
-decreases-loop-j l = l.n - l.j

@@ -6,6 +6,3 @@ use Rattle.graph.proofs.table.ones_in.Given as goal
 
 abbrev pub invariant-loop-k : goal.invariant-loop-k
 invariant-loop-k l = (l.k ≤ l.words) × (l.c ≤ 64 * l.k) × (l.c ≡ sum (64 * l.k) (bit_at l.bits)) × (l.c ≡ ones_in l.k l.bits)
-
-abbrev pub decreases-loop-k : goal.decreases-loop-k
-decreases-loop-k l = l.words - l.k

@@ -6,6 +6,3 @@ use Rattle.join.proofs.fill.copy_locks.Given as goal
 
 abbrev pub invariant-loop-v : goal.invariant-loop-v
 invariant-loop-v l = (l.v ≤ l.count) × (l.joined_locks ≡ paste l.initial.joined_locks l.start l.locks l.v)
-
-abbrev pub decreases-loop-v : goal.decreases-loop-v
-decreases-loop-v l = l.count - l.v

@@ -11,6 +11,7 @@ use Rattle.graph.proofs.Literals.{held_le}
 use Rattle.graph.proofs.Words.{word_below}
 use Rattle.join.proofs.Filling.{room_kept, place_next}
 use Rattle.join.proofs.fill.copy_nodes.Goals as goal
+use Rattle.graph.specs.Tables.{lent_table}
 
 pub copy_words-requires : goal.copy_words-requires
 copy_words-requires c =
@@ -40,7 +41,7 @@ loop-j-preserved c =
     let l = c.loop-j in
     let a = c.args in (
       omega arith,
-      (λ m h e. place_next (λ k. get_or (literals a.node_table.now a.node_bits.now) k 0) m _ _ l.j _ (omega arith) (l.invariant.1 m h e) c.word_at-x.ensures p.ensures),
+      (λ m h e. place_next (λ k. get_or (lent_table a.node_table.now) k 0) m _ _ l.j _ (omega arith) (l.invariant.1 m h e) c.word_at-x.ensures p.ensures),
       p.auto.table ∙ l.invariant.2,
       p.auto.bits ∙ l.invariant.3,
     )

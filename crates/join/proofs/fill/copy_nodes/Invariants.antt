@@ -8,13 +8,11 @@ use Rattle.graph.specs.Finite.{tab}
 use Rattle.graph.specs.Inner.{begun}
 use Rattle.graph.specs.Literals.{literals, filled}
 use Rattle.join.proofs.fill.copy_nodes.Given as goal
+use Rattle.graph.specs.Tables.{lent_table}
 
 abbrev pub invariant-loop-j : goal.invariant-loop-j
 invariant-loop-j l =
     (l.j ≤ 3 * l.nodes)
-    × ((m : List ℕ) → 3 * l.nodes ≤ length m → literals l.initial.joined_node_table l.initial.joined_node_bits ≡ filled (tab l.initial.j (λ k. get_or (literals l.node_table l.node_bits) k 0)) m → literals l.joined_node_table (begun l.j l.got l.joined_node_bits) ≡ filled (tab l.j (λ k. get_or (literals l.node_table l.node_bits) k 0)) m)
+    × ((m : List ℕ) → 3 * l.nodes ≤ length m → literals l.initial.joined_node_table l.initial.joined_node_bits ≡ filled (tab l.initial.j (λ k. get_or (lent_table l.node_table) k 0)) m → literals l.joined_node_table (begun l.j l.got l.joined_node_bits) ≡ filled (tab l.j (λ k. get_or (lent_table l.node_table) k 0)) m)
     × (length l.joined_node_table ≡ length l.initial.joined_node_table)
     × (length l.joined_node_bits ≡ length l.initial.joined_node_bits)
-
-abbrev pub decreases-loop-j : goal.decreases-loop-j
-decreases-loop-j l = 3 * l.nodes - l.j

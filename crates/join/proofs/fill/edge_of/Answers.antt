@@ -11,6 +11,7 @@ use Rattle.graph.proofs.Literals.{bit_at_le, bit_at_lem, edge_parts, held_at, he
 use Rattle.graph.proofs.Words.{three_apart}
 use Rattle.join.proofs.fill.edge_of.Goals as goal
 use Rattle.join.proofs.fill.edge_of.Goals.{Start}
+use Rattle.graph.specs.Tables.{lent_table}
 
 -- word k, by its index and its bit of the three
 
@@ -24,11 +25,11 @@ module _ (us bs : List ℕ) (v k u t : ℕ) (r : Readable (literals us bs) v) (h
       let p = edge_parts (index_at us (3 * v + k)) (bit_at bs (3 * v + k)) (bit_at_le bs (3 * v + k)) (rw held at low) in
       (omega (arith, p.0, e), rw (e, bit_is) (sym (held ∙ p.1)))
 
-edge : (s : Start) (u : ℕ) → u ≡ index_at s.args.table.now (3 * s.args.v + s.args.k) → (u < 2147483647) × (2 * u + s.args.three / 2 ^ s.args.k % 2 ≡ get_or (literals s.args.table.now s.args.bits.now) (3 * s.args.v + s.args.k) 0)
-edge s u e = let a = s.args in edge-is a.table.now a.bits.now a.v a.k u a.three s.requires.0 s.requires.1 s.requires.2 e s.requires.3
+edge : (s : Start) (u : ℕ) → u ≡ index_at s.args.table.now.indices.now (3 * s.args.v + s.args.k) → (u < 2147483647) × (2 * u + s.args.three / 2 ^ s.args.k % 2 ≡ get_or (lent_table s.args.table.now) (3 * s.args.v + s.args.k) 0)
+edge s u e = let a = s.args in edge-is a.table.now.indices.now a.table.now.bits.now a.v a.k u a.three s.requires.0 s.requires.1 s.requires.2 e s.requires.3
 
 pub raw_at-requires : goal.raw_at-requires
-raw_at-requires c = omega (arith, c.requires.0.there, c.requires.1, held_literals c.args.table.now c.args.bits.now)
+raw_at-requires c = omega (arith, c.requires.0.there, c.requires.1, held_literals c.args.table.now.indices.now c.args.table.now.bits.now)
 
 pub overflow_mul-result : goal.overflow_mul-result
 overflow_mul-result c = omega (arith, (edge (goal.at.overflow_mul-result c).Start c.raw_at.result c.raw_at.ensures).0)

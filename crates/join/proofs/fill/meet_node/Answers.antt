@@ -4,15 +4,15 @@ use Prim.Native.Nat.{ℕ, ◌+◌, ◌*◌, ◌≤◌, ◌<◌}
 use native.Mathlib.Omega.{arith}
 use lib.ListN.{get_or}
 use Rattle.graph.specs.Graph.{index}
-use Rattle.graph.specs.Literals.{literals}
 use Rattle.join.proofs.Filling.{early_low, third_low, node_met}
 use Rattle.join.proofs.fill.meet_node.Goals as goal
 use Rattle.join.proofs.fill.meet_node.Goals.{Start}
+use Rattle.graph.specs.Tables.{lent_table}
 
 -- word k of node v of the second, k below 2
 
-early : (s : Start) (k : ℕ) → k < 2 → index (get_or (literals s.args.second_node_table.now s.args.second_node_bits.now) (3 * s.args.v + k) 0) ≤ 104096
-early s k h = let a = s.args in early_low (literals a.second_node_table.now a.second_node_bits.now) (a.v + 1) s.requires.stand (3 * a.v + k) (omega arith) (omega arith)
+early : (s : Start) (k : ℕ) → k < 2 → index (get_or (lent_table s.args.second_node_table.now) (3 * s.args.v + k) 0) ≤ 104096
+early s k h = let a = s.args in early_low (lent_table a.second_node_table.now) (a.v + 1) s.requires.stand (3 * a.v + k) (omega arith) (omega arith)
 
 pub three_at-three-requires : goal.three_at-three-requires
 three_at-three-requires c = c.requires.stand.readable c.args.v (omega arith)
@@ -38,7 +38,7 @@ pub met_third-z-requires : goal.met_third-z-requires
 met_third-z-requires c =
     let a = c.args in
     let e = c.word_of-third.ensures in
-    (c.requires.meets, λ n. rw e (third_low (literals a.second_node_table.now a.second_node_bits.now) (a.v + 1) c.requires.stand (3 * a.v + 2) (omega arith) (λ z. n (e ∙ z))))
+    (c.requires.meets, λ n. rw e (third_low (lent_table a.second_node_table.now) (a.v + 1) c.requires.stand (3 * a.v + 2) (omega arith) (λ z. n (e ∙ z))))
 
 pub put_node-requires : goal.put_node-requires
 put_node-requires c =
@@ -47,4 +47,4 @@ put_node-requires c =
 pub returns : goal.returns
 returns c =
     let a = c.args in
-    node_met (literals a.second_node_table.now a.second_node_bits.now) (literals a.output_table.now a.output_bits.now) a.base a.inputs a.v a.at _ _ _ _ _ _ _ _ c.edge_of-first.ensures c.met-x.ensures.0 c.edge_of-second.ensures c.met-y.ensures.0 c.word_of-third.ensures c.met_third-z.ensures.0 c.put_node.ensures
+    node_met (lent_table a.second_node_table.now) (lent_table a.output_table.now) a.base a.inputs a.v a.at _ _ _ _ _ _ _ _ c.edge_of-first.ensures c.met-x.ensures.0 c.edge_of-second.ensures c.met-y.ensures.0 c.word_of-third.ensures c.met_third-z.ensures.0 c.put_node.ensures

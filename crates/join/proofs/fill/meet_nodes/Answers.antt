@@ -7,6 +7,7 @@ use Rattle.graph.proofs.Literals.{held_literals}
 use Rattle.join.specs.Filling.{met_word_by}
 use Rattle.join.proofs.Filling.{none_put, node_next, stand_less}
 use Rattle.join.proofs.fill.meet_nodes.Goals as goal
+use Rattle.graph.specs.Tables.{lent_table}
 
 pub loop-v-init : goal.loop-v-init
 loop-v-init c = let a = c.args in (omega arith, none_put a.joined_node_table.now a.joined_node_bits.now a.start a.got _, refl, refl)
@@ -25,7 +26,7 @@ loop-v-preserved c =
     let f = c.meet_node-more in
     let l = c.loop-v in
     let a = c.args in
-    let word : ℕ → ℕ = met_word_by (literals a.second_node_table.now a.second_node_bits.now) (literals a.output_table.now a.output_bits.now) a.base a.inputs in (
+    let word : ℕ → ℕ = met_word_by (lent_table a.second_node_table.now) (lent_table a.output_table.now) a.base a.inputs in (
       omega arith,
       node_next a.start (a.start + 3 * l.v) l.v (a.start + 3 * (l.v + 1)) (a.start + 3 * l.v + 3) f.result word _ _ _ _ refl (omega arith) l.invariant.1 f.ensures,
       f.auto.joined_node_table ∙ l.invariant.2,

@@ -6,6 +6,7 @@ use Rattle.graph.proofs.Filled.{filled_start}
 use Rattle.graph.proofs.Literals.{held_literals, held_le}
 use Rattle.join.proofs.Filling.{output_next}
 use Rattle.join.proofs.fill.meet_outputs.Goals as goal
+use Rattle.graph.specs.Tables.{lent_table}
 
 pub loop-j-init : goal.loop-j-init
 loop-j-init c = let a = c.args in (omega arith, filled_start a.joined_output_table.now a.joined_output_bits.now _, refl, refl)
@@ -30,7 +31,7 @@ loop-j-preserved c =
     let l = c.loop-j in
     let a = c.args in (
       omega arith,
-      output_next (literals a.second_output_table.now a.second_output_bits.now) (literals a.output_table.now a.output_bits.now) a.base a.inputs (literals a.joined_output_table.now a.joined_output_bits.now) _ _ l.j _ _ (omega (arith, c.requires.outputs_bound, held_le (literals a.joined_output_table.now a.joined_output_bits.now))) l.invariant.1 c.edge_at-x.ensures c.met-y.ensures.0 c.put_word-got.ensures,
+      output_next (lent_table a.second_output_table.now) (lent_table a.output_table.now) a.base a.inputs (literals a.joined_output_table.now a.joined_output_bits.now) _ _ l.j _ _ (omega (arith, c.requires.outputs_bound, held_le (literals a.joined_output_table.now a.joined_output_bits.now))) l.invariant.1 c.edge_at-x.ensures c.met-y.ensures.0 c.put_word-got.ensures,
       c.put_word-got.auto.table ∙ l.invariant.2,
       c.put_word-got.auto.bits ∙ l.invariant.3,
     )

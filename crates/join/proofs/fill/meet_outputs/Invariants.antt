@@ -7,11 +7,12 @@ use Rattle.graph.specs.Inner.{begun}
 use Rattle.graph.specs.Literals.{literals, filled}
 use Rattle.join.specs.Filling.{met_by}
 use Rattle.join.proofs.fill.meet_outputs.Given as goal
+use Rattle.graph.specs.Tables.{lent_table}
 
 abbrev pub invariant-loop-j : goal.invariant-loop-j
 invariant-loop-j l =
     (l.j ≤ l.outputs)
-    × (literals l.joined_output_table (begun l.j l.got l.joined_output_bits) ≡ filled (tab l.j (λ k. met_by (literals l.output_table l.output_bits) l.base l.inputs (get_or (literals l.second_output_table l.second_output_bits) k 0))) (literals l.initial.joined_output_table l.initial.joined_output_bits))
+    × (literals l.joined_output_table (begun l.j l.got l.joined_output_bits) ≡ filled (tab l.j (λ k. met_by (lent_table l.output_table) l.base l.inputs (get_or (lent_table l.second_output_table) k 0))) (literals l.initial.joined_output_table l.initial.joined_output_bits))
     × (length l.joined_output_table ≡ length l.initial.joined_output_table)
     × (length l.joined_output_bits ≡ length l.initial.joined_output_bits)
 

@@ -7,9 +7,10 @@ use Rattle.majority_call.specs.Valuing.{unvalued}
 use Rattle.majority_call.proofs.Stacked.{Rising}
 use Rattle.graph.specs.Literals.{literals}
 use Rattle.majority_call.proofs.valuing.truth.Given as goal
+use Rattle.graph.specs.Tables.{lent_table}
 
 abbrev pub invariant-loop-v : goal.invariant-loop-v
-invariant-loop-v l = Rising (nodes_of l.inputs l.nodes (literals l.node_table l.node_bits)) (triple l.one l.two l.three) l.u l.v l.initial.scratch l.scratch
+invariant-loop-v l = Rising (nodes_of l.inputs l.nodes (lent_table l.node_table)) (triple l.one l.two l.three) l.u l.v l.initial.scratch l.scratch
 
 abbrev pub decreases-loop-v : goal.decreases-loop-v
 decreases-loop-v l = unvalued l.scratch (triple l.one l.two l.three) (l.u + 1)

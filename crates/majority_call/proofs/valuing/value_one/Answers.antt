@@ -6,12 +6,12 @@ use Rattle.graph.specs.Graph.{Graph}
 use Rattle.evaluation.specs.Inner.{nodes_of}
 use Rattle.hidden.specs.Truth.{Triple, triple}
 use Rattle.majority_call.proofs.Stacked.{lower, asked_going, going_first, linked_down, valued_now}
-use Rattle.graph.specs.Literals.{literals}
 use Rattle.majority_call.proofs.valuing.value_one.Goals as goal
 use Rattle.majority_call.proofs.valuing.value_one.Goals.{Start}
+use Rattle.graph.specs.Tables.{lent_table}
 
 abbrev graph : Start → Graph
-graph s = nodes_of s.args.inputs s.args.nodes (literals s.args.node_table.now s.args.node_bits.now)
+graph s = nodes_of s.args.inputs s.args.nodes (lent_table s.args.node_table.now)
 
 abbrev three : Start → Triple
 three s = triple s.args.one s.args.two s.args.three

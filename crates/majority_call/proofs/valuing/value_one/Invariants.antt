@@ -4,10 +4,11 @@ use Rattle.hidden.specs.Truth.{triple}
 use Rattle.majority_call.proofs.Stacked.{Going}
 use Rattle.graph.specs.Literals.{literals}
 use Rattle.majority_call.proofs.valuing.value_one.Given as goal
+use Rattle.graph.specs.Tables.{lent_table}
 
 abbrev pub invariant-loop-seen : goal.invariant-loop-seen
 invariant-loop-seen l =
-    Going (nodes_of l.inputs l.nodes (literals l.node_table l.node_bits)) (triple l.one l.two l.three) l.start l.v l.initial.scratch l.scratch l.seen
+    Going (nodes_of l.inputs l.nodes (lent_table l.node_table)) (triple l.one l.two l.three) l.start l.v l.initial.scratch l.scratch l.seen
 
 abbrev pub decreases-loop-seen : goal.decreases-loop-seen
 decreases-loop-seen l = l.v

@@ -8,15 +8,15 @@ use Rattle.graph.specs.Finite.{first_of}
 use Rattle.graph.specs.Graph.{graph_of}
 use Rattle.graph.proofs.Steps.{stays, one_further}
 use Rattle.many.specs.Many.{entry_number, list_number}
-use Rattle.graph.specs.Literals.{literals}
 use Rattle.many.proofs.faults.list_number.Goals as goal
 use Rattle.many.proofs.faults.list_number.Goals.{After-entry_number-fault}
+use Rattle.graph.specs.Tables.{lent_table}
 
 -- after the entry that was looked at
 
 further : (c : After-entry_number-fault) (o : ℕ) (os : List ℕ) →
     let a = c.args in
-    c.entry_number-fault.result ≡ first_of (c.loop-j.j + 1) (entry_number (graph_of a.inputs a.nodes o (literals a.node_table.now a.node_bits.now) os) a.locks.now a.list.now a.bytes.now)
+    c.entry_number-fault.result ≡ first_of (c.loop-j.j + 1) (entry_number (graph_of a.inputs a.nodes o (lent_table a.node_table.now) os) a.locks.now a.list.now a.bytes.now)
 further c o os = one_further c.loop-j.j _ _ (c.loop-j.invariant.1 o os) (c.entry_number-fault.ensures o os)
 
 pub loop-j-init : goal.loop-j-init
@@ -31,9 +31,6 @@ unfolding list_number
 returns-then-fault-ne0 c =
     λ o os. further (goal.at.returns-then-fault-ne0 c).After-entry_number-fault o os ∙ sym (stays (c.loop-j.j + 1) _ _ (λ z. c.if-fault-ne0.true (further (goal.at.returns-then-fault-ne0 c).After-entry_number-fault o os ∙ z)) (omega (arith, c.loop-j-test.true)))
 
-pub overflow_add-j : goal.overflow_add-j
-overflow_add-j c = omega (arith, c.loop-j-test.true)
-
 pub loop-j-smaller : goal.loop-j-smaller
 loop-j-smaller c = omega (arith, c.loop-j-test.true)
 
@@ -45,4 +42,4 @@ unfolding list_number
 returns c =
     let a = c.args in
     let e : c.loop-j.j ≡ length a.list.now = omega (arith, c.loop-j-test.false, c.loop-j.invariant.0) in
-    λ o os. sym (c.loop-j.invariant.1 o os) ∙ ap (λ (n : ℕ). first_of n (entry_number (graph_of a.inputs a.nodes o (literals a.node_table.now a.node_bits.now) os) a.locks.now a.list.now a.bytes.now)) e
+    λ o os. sym (c.loop-j.invariant.1 o os) ∙ ap (λ (n : ℕ). first_of n (entry_number (graph_of a.inputs a.nodes o (lent_table a.node_table.now) os) a.locks.now a.list.now a.bytes.now)) e

@@ -8,9 +8,7 @@ use Rattle.graph.specs.Graph.{graph_of}
 use Rattle.many.specs.Many.{entry_number}
 use Rattle.graph.specs.Literals.{literals}
 use Rattle.many.proofs.faults.list_number.Given as goal
+use Rattle.graph.specs.Tables.{lent_table}
 
 abbrev pub invariant-loop-j : goal.invariant-loop-j
-invariant-loop-j l = (l.j ≤ length l.list) × ((o : ℕ) (os : List ℕ) → first_of l.j (entry_number (graph_of l.inputs l.nodes o (literals l.node_table l.node_bits) os) l.locks l.list l.bytes) ≡ 0)
-
-abbrev pub decreases-loop-j : goal.decreases-loop-j
-decreases-loop-j l = length l.list - l.j
+invariant-loop-j l = (l.j ≤ length l.list) × ((o : ℕ) (os : List ℕ) → first_of l.j (entry_number (graph_of l.inputs l.nodes o (lent_table l.node_table) os) l.locks l.list l.bytes) ≡ 0)

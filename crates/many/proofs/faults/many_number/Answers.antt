@@ -10,14 +10,14 @@ use Rattle.graph.proofs.Admit.{tables_are, admitted_by}
 use Rattle.graph.proofs.Tests.{fault, none, both, short_slice, long_slice}
 use Rattle.graph.proofs.Words.{readable}
 use Rattle.many.specs.Many.{many_number}
-use Rattle.graph.specs.Literals.{literals}
 use Rattle.many.proofs.faults.many_number.Goals as goal
 use Rattle.many.proofs.faults.many_number.Goals.{Else-bytes-list, Else-room-ne0}
+use Rattle.graph.specs.Tables.{lent_graph, lent_table}
 
 -- what each test that was passed has shown
 
 room-held : (c : Else-room-ne0) → let a = c.args in
-    tables_number (graph_of a.inputs a.nodes a.outputs (literals a.node_table.now a.node_bits.now) (literals a.output_table.now a.output_bits.now)) a.locks.now ≡ 0
+    tables_number (lent_graph a.lent.now) a.lent.now.locks.now ≡ 0
 unfolding tables_number
 room-held c = sym c.tables_number-room.ensures ∙ c.if-room-ne0.false
 
@@ -46,13 +46,13 @@ pub list_number-requires : goal.list_number-requires
 unfolding content_number
 list_number-requires c =
     let a = c.args in
-    let g = graph_of a.inputs a.nodes a.outputs (literals a.node_table.now a.node_bits.now) (literals a.output_table.now a.output_bits.now) in
-    let r = tables_are g a.locks.now (room-held (goal.at.list_number-requires c).Else-room-ne0) in
-    let w = admitted_by g a.locks.now (room-held (goal.at.list_number-requires c).Else-room-ne0) (both _ _ (sym c.content_number-content.ensures ∙ c.if-content-ne0.false)).0 in
+    let g = lent_graph a.lent.now in
+    let r = tables_are g a.lent.now.locks.now (room-held (goal.at.list_number-requires c).Else-room-ne0) in
+    let w = admitted_by g a.lent.now.locks.now (room-held (goal.at.list_number-requires c).Else-room-ne0) (both _ _ (sym c.content_number-content.ensures ∙ c.if-content-ne0.false)).0 in
     (record { few_inputs = r.few_inputs; few_nodes = r.few_nodes; words = readable g w; enough_locks = r.enough_locks }, omega (arith, c.if-bytes-list.false))
 
 pub returns : goal.returns
 unfolding many_number
 returns c =
     let a = c.args in
-    none _ _ (room-held (goal.at.returns c).Else-room-ne0) (none _ _ (enough (goal.at.returns c).Else-bytes-list) (none _ _ (sym c.content_number-content.ensures ∙ c.if-content-ne0.false) (c.list_number.ensures a.outputs (literals a.output_table.now a.output_bits.now))))
+    none _ _ (room-held (goal.at.returns c).Else-room-ne0) (none _ _ (enough (goal.at.returns c).Else-bytes-list) (none _ _ (sym c.content_number-content.ensures ∙ c.if-content-ne0.false) (c.list_number.ensures a.lent.now.outputs (lent_table a.lent.now.output_table))))

@@ -6,11 +6,12 @@ use Prim.Native.Nat.{ℕ, ◌+◌, ◌-◌, ◌*◌, ◌≤◌, ◌<◌}
 use mir.Val.{bool_byte}
 use lib.ListN.{get_or}
 use Rattle.graph.specs.Graph.{index}
-use Rattle.graph.specs.Literals.{bit_at, literals}
+use Rattle.graph.specs.Literals.{bit_at}
 use Rattle.graph.proofs.Literals.{held_index, names_index}
 use Rattle.many.specs.Making.{named}
 use Rattle.many.proofs.making.third_turns.Goals as goal
 use Rattle.many.proofs.making.third_turns.Goals.{After-index_at-third}
+use Rattle.graph.specs.Tables.{lent_table}
 
 either-below : (k : Bool) (u v end : ℕ) → u < end → (k ≡ false → v < end) → cond k u v < end
 either-below true u v end h f = h
@@ -33,14 +34,14 @@ either-few false f b p q = omega arith
 -- the third index, where there is one
 
 third-named : (c : After-index_at-third) → c.args.xor ≡ false
-    → c.index_at-third.result ≡ index (get_or (literals c.args.table.now c.args.bits.now) (c.args.at + 2) 0)
+    → c.index_at-third.result ≡ index (get_or (lent_table c.args.table.now) (c.args.at + 2) 0)
 third-named c k = names_index c.index_at-third.ensures (omega (arith, c.requires.3 k))
 
 pub index_at-first-requires : goal.index_at-first-requires
 index_at-first-requires c = omega (arith, c.requires.1)
 
 pub overflow_add-at : goal.overflow_add-at
-overflow_add-at c = omega (arith, held_index c.args.table.now c.args.bits.now (c.args.at + 2) c.requires.1)
+overflow_add-at c = omega (arith, held_index c.args.table.now.indices.now c.args.table.now.bits.now (c.args.at + 2) c.requires.1)
 
 pub bit_at-requires : goal.bit_at-requires
 bit_at-requires c =

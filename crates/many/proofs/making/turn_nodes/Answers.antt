@@ -56,9 +56,6 @@ turn_node-requires c =
 pub next_place-k-requires : goal.next_place-k-requires
 next_place-k-requires c = (c.requires.0.listed.rises, c.loop-v.invariant.3)
 
-pub overflow_add-v : goal.overflow_add-v
-overflow_add-v c = omega (arith, c.loop-v-test.true, c.requires.0.admitted.few_nodes)
-
 pub loop-v-smaller : goal.loop-v-smaller
 loop-v-smaller c = omega (arith, c.loop-v-test.true)
 

@@ -12,6 +12,3 @@ invariant-loop-v l =
     let ns = literals l.node_table l.initial.node_bits in
     (l.v ≤ l.nodes) × (length l.node_bits ≡ length l.initial.node_bits) × (length l.seen ≡ length l.initial.seen) × Stands l.list (l.inputs + 1 + l.v) l.k
     × (literals l.node_table l.node_bits ≡ nodes_to l.inputs l.nodes ns (chosen l.list l.bytes) (3 * l.v)) × Noted (bare l.inputs l.nodes ns) (chosen l.list l.bytes) l.seen (l.inputs + 1 + l.v)
-
-abbrev pub decreases-loop-v : goal.decreases-loop-v
-decreases-loop-v l = l.nodes - l.v

@@ -35,9 +35,6 @@ turns_at-t-requires c = (omega arith, (asks (goal.at.turns_at-t-requires c).In-l
 pub turn_word-requires : goal.turn_word-requires
 turn_word-requires c = (c.turns_at-t.ensures.1, (asks (goal.at.turn_word-requires c).In-loop-j).0, λ p. omega (arith, (asks (goal.at.turn_word-requires c).In-loop-j).1))
 
-pub overflow_add-j : goal.overflow_add-j
-overflow_add-j c = omega (arith, c.loop-j-test.true)
-
 pub loop-j-smaller : goal.loop-j-smaller
 loop-j-smaller c = omega (arith, c.loop-j-test.true)
 

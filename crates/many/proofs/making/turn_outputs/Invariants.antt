@@ -12,6 +12,3 @@ abbrev pub invariant-loop-j : goal.invariant-loop-j
 invariant-loop-j l =
     (l.j ≤ l.outputs) × (length l.output_bits ≡ length l.initial.output_bits)
     × (literals l.output_table l.output_bits ≡ turned_table (literals l.output_table l.initial.output_bits) (up_to l.j (named l.seen (literals l.output_table l.initial.output_bits))))
-
-abbrev pub decreases-loop-j : goal.decreases-loop-j
-decreases-loop-j l = l.outputs - l.j

@@ -4,13 +4,14 @@ use native.Mathlib.Omega.{arith}
 use Prim.Native.Nat.{ℕ, ◌+◌}
 use lib.ListN.{get_or}
 use Rattle.graph.specs.Graph.{index}
-use Rattle.graph.specs.Literals.{bit_at, literals}
+use Rattle.graph.specs.Literals.{bit_at}
 use Rattle.graph.proofs.Literals.{names_index}
 use Rattle.many.specs.Making.{named}
 use Rattle.many.proofs.making.turns_at.Goals as goal
 use Rattle.many.proofs.making.turns_at.Goals.{After-index_at-u}
+use Rattle.graph.specs.Tables.{lent_table}
 
-named_here : (c : After-index_at-u) → let a = c.args in c.index_at-u.result ≡ index (get_or (literals a.table.now a.bits.now) a.j 0)
+named_here : (c : After-index_at-u) → let a = c.args in c.index_at-u.result ≡ index (get_or (lent_table a.table.now) a.j 0)
 named_here c = names_index c.index_at-u.ensures (omega (arith, c.requires.2))
 
 pub bit_at-requires : goal.bit_at-requires

@@ -5,6 +5,3 @@ use Rattle.moves.proofs.decide.best_numbered.Given as goal
 
 abbrev pub invariant-loop-c : goal.invariant-loop-c
 invariant-loop-c l = (l.c ≤ l.all) × (l.all ≤ 16) × GreatestBelow l.named l.node l.which l.c l.best
-
-abbrev pub decreases-loop-c : goal.decreases-loop-c
-decreases-loop-c l = l.all - l.c

@@ -1,11 +1,11 @@
 -- `count_names` meets its contract: the words passed are tallied. From the laws on tallies.
 use Rattle.std.proofs.Common.{◌≡◌, arith}
-use Rattle.graph.specs.Literals.{literals}
 use Rattle.moves.proofs.Tally.{tally_zero}
 use Rattle.moves.proofs.reading.count_names.Goals as goal
+use Rattle.graph.specs.Tables.{lent_table}
 
 pub loop-j-init : goal.loop-j-init
-loop-j-init c = let a = c.args in (omega arith, tally_zero (literals a.table.now a.bits.now) a.u)
+loop-j-init c = let a = c.args in (omega arith, tally_zero (lent_table a.table.now) a.u)
 
 pub tally_at-t-requires : goal.tally_at-t-requires
 tally_at-t-requires c =

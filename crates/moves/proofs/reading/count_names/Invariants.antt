@@ -3,9 +3,7 @@ use Rattle.std.proofs.Common.{◌-◌, ◌≤◌}
 use Rattle.graph.specs.Literals.{literals}
 use Rattle.moves.specs.Decide.{Tallied}
 use Rattle.moves.proofs.reading.count_names.Given as goal
+use Rattle.graph.specs.Tables.{lent_table}
 
 abbrev pub invariant-loop-j : goal.invariant-loop-j
-invariant-loop-j l = (l.j ≤ l.n) × Tallied (literals l.table l.bits) l.j l.u l.t.count l.t.odd
-
-abbrev pub decreases-loop-j : goal.decreases-loop-j
-decreases-loop-j l = l.n - l.j
+invariant-loop-j l = (l.j ≤ l.n) × Tallied (lent_table l.table) l.j l.u l.t.count l.t.odd

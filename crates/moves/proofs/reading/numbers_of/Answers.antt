@@ -2,17 +2,17 @@
 use Rattle.std.proofs.Common.{arith}
 use Rattle.moves.specs.Decide.{numbers_of}
 use Rattle.graph.specs.Inner.{Readable}
-use Rattle.graph.specs.Literals.{graph_in, literals}
 use Rattle.graph.proofs.Words.{readable}
 use Rattle.moves.proofs.reading.numbers_of.Goals as goal
 use Rattle.moves.proofs.reading.numbers_of.Goals.{Start}
+use Rattle.graph.specs.Tables.{lent_graph, lent_table}
 
 -- its words can be read
 
-read : (s : Start) → Readable (literals s.args.node_table.now s.args.node_bits.now) s.args.v
+read : (s : Start) → Readable (lent_table s.args.lent.now.node_table) s.args.v
 read s =
     let a = s.args in
-    readable (graph_in a.inputs a.nodes a.outputs a.node_table.now a.node_bits.now a.output_table.now a.output_bits.now) s.requires.0 a.v s.requires.1
+    readable (lent_graph a.lent.now) s.requires.0 a.v s.requires.1
 
 pub is_xor-requires : goal.is_xor-requires
 is_xor-requires c = read (goal.at.is_xor-requires c).Start
@@ -28,9 +28,9 @@ unfolding numbers_of
 returns c =
     let a = c.args in
     rw (
-      c.is_xor.ensures a.inputs a.nodes a.outputs (literals a.output_table.now a.output_bits.now),
-      c.moves_at.ensures a.inputs a.nodes a.outputs (literals a.output_table.now a.output_bits.now) (omega arith),
-      c.own_costs.ensures a.inputs a.nodes a.outputs (literals a.output_table.now a.output_bits.now),
+      c.is_xor.ensures a.lent.now.inputs a.lent.now.nodes a.lent.now.outputs (lent_table a.lent.now.output_table),
+      c.moves_at.ensures a.lent.now.inputs a.lent.now.nodes a.lent.now.outputs (lent_table a.lent.now.output_table) (omega arith),
+      c.own_costs.ensures a.lent.now.inputs a.lent.now.nodes a.lent.now.outputs (lent_table a.lent.now.output_table),
       c.readers_of-all.ensures.all,
       c.readers_of-all.ensures.odd,
     )

@@ -1,10 +1,10 @@
 -- `own_costs` meets its contract. From the law of a node's bits.
 use Rattle.std.proofs.Common.{◌∙◌, arith}
 use Rattle.graph.specs.Graph.{Graph, graph_of}
-use Rattle.graph.specs.Literals.{literals}
 use Rattle.graph.proofs.Words.{edge_bit_lem}
 use Rattle.moves.proofs.Deciding.{first_place, own_costs_are, third_low}
 use Rattle.moves.proofs.words.own_costs.Goals as goal
+use Rattle.graph.specs.Tables.{lent_table}
 
 pub overflow_mul-at : goal.overflow_mul-at
 overflow_mul-at c = omega (arith, c.requires.few)
@@ -30,10 +30,10 @@ costs_of-requires c = (c.odd_at-x.ensures.1, c.odd_at-y.ensures.1, c.odd_at-z.en
 pub returns : goal.returns
 returns c i n o os =
     let a = c.args in
-    let g : Graph = graph_of i n o (literals a.node_table.now a.node_bits.now) os in
+    let g : Graph = graph_of i n o (lent_table a.node_table.now) os in
     c.costs_of.ensures
     ∙ own_costs_are g a.v _ _ _ _
-    (rw (← first_place (literals a.node_table.now a.node_bits.now) a.v) (c.odd_at-x.ensures.0 ∙ edge_bit_lem _ c.requires.first))
+    (rw (← first_place (lent_table a.node_table.now) a.v) (c.odd_at-x.ensures.0 ∙ edge_bit_lem _ c.requires.first))
     (c.odd_at-y.ensures.0 ∙ edge_bit_lem _ c.requires.second)
     (c.is_xor-xor.ensures i n o os)
     (λ k. c.odd_at-z.ensures.0 ∙ edge_bit_lem _ (third_low g a.v c.requires.third k))

@@ -1,9 +1,9 @@
 -- `which_name` meets its contract. From its callees'.
 use Rattle.std.proofs.Common.{arith}
-use Rattle.graph.specs.Literals.{literals}
 use Rattle.moves.specs.Decide.{naming}
 use Rattle.moves.proofs.Deciding.{first_place}
 use Rattle.moves.proofs.words.which_name.Goals as goal
+use Rattle.graph.specs.Tables.{lent_table}
 
 pub overflow_mul-at : goal.overflow_mul-at
 overflow_mul-at c = omega (arith, c.requires.0.few)
@@ -28,7 +28,7 @@ unfolding naming
 returns c i n o os =
     let a = c.args in
     rw (
-      ← first_place (literals a.node_table.now a.node_bits.now) a.v,
+      ← first_place (lent_table a.node_table.now) a.v,
       c.names_at-x.ensures,
       c.names_at-y.ensures,
       c.names_at-z.ensures,

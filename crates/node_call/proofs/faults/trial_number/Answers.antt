@@ -3,20 +3,20 @@ use native.Mathlib.Omega.{arith}
 use mathlib.Core.Path.{◌∙◌, sym}
 use Prim.Native.Nat.{◌<◌}
 use Rattle.graph.specs.Graph.{Graph, graph_of}
-use Rattle.graph.specs.Literals.{literals}
 use Rattle.graph.proofs.Tests.{fault}
 use Rattle.graph.proofs.Words.{readable}
 use Rattle.moves.specs.Call.{named_by, trial_number}
 use Rattle.node_call.proofs.Refusing.{AcceptedWord, pair_accepted, named_below, named_low, within_three, trial_is}
 use Rattle.node_call.proofs.faults.trial_number.Goals as goal
 use Rattle.node_call.proofs.faults.trial_number.Goals.{Else-number-ne0, Start}
+use Rattle.graph.specs.Tables.{lent_graph, lent_table}
 
 abbrev graph : Start → Graph
-graph s = let a = s.args in graph_of a.inputs a.nodes a.outputs (literals a.node_table.now a.node_bits.now) (literals a.output_table.now a.output_bits.now)
+graph s = let a = s.args in lent_graph a.lent.now
 
-known : (c : Else-number-ne0) → AcceptedWord ((graph_of c.args.inputs c.args.nodes c.args.outputs (literals c.args.node_table.now c.args.node_bits.now) (literals c.args.output_table.now c.args.output_bits.now))) c.args.locks.now c.args.node c.args.word
+known : (c : Else-number-ne0) → AcceptedWord ((lent_graph c.args.lent.now)) c.args.lent.now.locks.now c.args.node c.args.word
 known c =
-    pair_accepted ((graph_of c.args.inputs c.args.nodes c.args.outputs (literals c.args.node_table.now c.args.node_bits.now) (literals c.args.output_table.now c.args.output_bits.now))) c.args.locks.now c.args.node c.args.word (sym c.pair_number-number.ensures ∙ c.if-number-ne0.false)
+    pair_accepted ((lent_graph c.args.lent.now)) c.args.lent.now.locks.now c.args.node c.args.word (sym c.pair_number-number.ensures ∙ c.if-number-ne0.false)
 
 pub returns-then-number-ne0 : goal.returns-then-number-ne0
 unfolding trial_number
@@ -27,15 +27,15 @@ unfolding named_by
 named_by-named-requires c =
     let w = known (goal.at.named_by-named-requires c).Else-number-ne0 in
     let d = w.at_node in
-    omega (arith, d.after, d.before, w.from_one, within_three (graph (goal.at.named_by-named-requires c).Start) c.args.locks.now c.args.node c.args.word w, named_low (graph (goal.at.named_by-named-requires c).Start) c.args.locks.now c.args.node c.args.word w, d.admitted.few_inputs, d.admitted.few_nodes, d.admitted.held_nodes)
+    omega (arith, d.after, d.before, w.from_one, within_three (graph (goal.at.named_by-named-requires c).Start) c.args.lent.now.locks.now c.args.node c.args.word w, named_low (graph (goal.at.named_by-named-requires c).Start) c.args.lent.now.locks.now c.args.node c.args.word w, d.admitted.few_inputs, d.admitted.few_nodes, d.admitted.held_nodes)
 
 pub moves_number-requires : goal.moves_number-requires
 moves_number-requires c =
     let a = c.args in
     let w = known (goal.at.moves_number-requires c).Else-number-ne0 in
     let d = w.at_node in
-    let e = c.named_by-named.ensures a.nodes a.outputs (literals a.output_table.now a.output_bits.now) in
-    let b : named_by (graph (goal.at.moves_number-requires c).Start) a.node a.word < a.node = named_below (graph (goal.at.moves_number-requires c).Start) a.locks.now a.node a.word w in (
+    let e = c.named_by-named.ensures a.lent.now.nodes a.lent.now.outputs (lent_table a.lent.now.output_table) in
+    let b : named_by (graph (goal.at.moves_number-requires c).Start) a.node a.word < a.node = named_below (graph (goal.at.moves_number-requires c).Start) a.lent.now.locks.now a.node a.word w in (
       d.after,
       omega (arith, d.before, d.admitted.few_inputs, d.admitted.few_nodes),
       omega (arith, e, b),
@@ -45,5 +45,5 @@ moves_number-requires c =
 pub returns : goal.returns
 returns c =
     let a = c.args in
-    let os = literals a.output_table.now a.output_bits.now in
-    trial_is (graph (goal.at.returns c).Start) a.locks.now a.node a.word a.a a.m _ _ (c.named_by-named.ensures a.nodes a.outputs os) (sym c.pair_number-number.ensures ∙ c.if-number-ne0.false) (c.moves_number.ensures a.nodes a.outputs os (known (goal.at.returns c).Else-number-ne0).at_node.before)
+    let os = lent_table a.lent.now.output_table in
+    trial_is (graph (goal.at.returns c).Start) a.lent.now.locks.now a.node a.word a.a a.m _ _ (c.named_by-named.ensures a.lent.now.nodes a.lent.now.outputs os) (sym c.pair_number-number.ensures ∙ c.if-number-ne0.false) (c.moves_number.ensures a.lent.now.nodes a.lent.now.outputs os (known (goal.at.returns c).Else-number-ne0).at_node.before)

@@ -9,6 +9,3 @@ use Rattle.node_call.proofs.write.turn_readers.Given as goal
 
 abbrev pub invariant-loop-j : goal.invariant-loop-j
 invariant-loop-j l = (l.j ≤ l.n) × (length l.bits ≡ length l.initial.bits) × SweptTo (read_turns l.u l.t) (literals l.table l.initial.bits) l.j (literals l.table l.bits)
-
-abbrev pub decreases-loop-j : goal.decreases-loop-j
-decreases-loop-j l = l.n - l.j

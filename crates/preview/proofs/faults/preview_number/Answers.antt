@@ -10,16 +10,16 @@ pub returns-then-room-ne0 : goal.returns-then-room-ne0
 unfolding preview_number tables_number
 returns-then-room-ne0 c = let e = c.tables_number-room.ensures in fault _ _ e (λ z. c.if-room-ne0.true (e ∙ z))
 
-pub returns-then-bytes-nodes : goal.returns-then-bytes-nodes
+pub returns-then-bytes-lent : goal.returns-then-bytes-lent
 unfolding preview_number tables_number
-returns-then-bytes-nodes c =
+returns-then-bytes-lent c =
     let a = c.args in
-    let e = short_slice a.bytes a.nodes (omega arith) in
+    let e = short_slice a.bytes a.lent.now.nodes (omega arith) in
     none _ _ (sym c.tables_number-room.ensures ∙ c.if-room-ne0.false) (fault _ _ e (λ z. omega (arith, e, z)))
 
 pub returns : goal.returns
 unfolding preview_number tables_number
 returns c =
     let a = c.args in
-    let e = long_slice a.bytes a.nodes (omega arith) in
+    let e = long_slice a.bytes a.lent.now.nodes (omega arith) in
     none _ _ (sym c.tables_number-room.ensures ∙ c.if-room-ne0.false) (none _ _ (sym e) c.tree_number.ensures)

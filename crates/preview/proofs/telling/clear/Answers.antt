@@ -40,9 +40,6 @@ loop-v-init c = record { within = omega arith; same = refl; none = λ j i. absur
 pub bounds-bytes-v : goal.bounds-bytes-v
 bounds-bytes-v c = omega (arith, c.loop-v.invariant.same, c.wide-n.ensures, c.requires.1)
 
-pub overflow_add-v : goal.overflow_add-v
-overflow_add-v c = omega (arith, c.wide-n.ensures, c.requires.0)
-
 pub loop-v-smaller : goal.loop-v-smaller
 loop-v-smaller c = omega arith
 

@@ -13,6 +13,3 @@ pub record Inv (n : ℕ) (bs₀ bs : List ℕ) (v : ℕ) : Type 0 where
 
 abbrev pub invariant-loop-v : goal.invariant-loop-v
 invariant-loop-v l = Inv l.n l.initial.bytes l.bytes l.v
-
-abbrev pub decreases-loop-v : goal.decreases-loop-v
-decreases-loop-v l = l.n - l.v

@@ -10,6 +10,7 @@ use Rattle.state.specs.State.{field, stands}
 use Rattle.trees.proofs.Falling.{bound_of}
 use Rattle.graph.specs.Literals.{literals}
 use Rattle.preview.proofs.telling.tell.Given as goal
+use Rattle.graph.specs.Tables.{lent_graph}
 
 pub record Inv (g : Graph) (sc : List ℕ) (r : ℕ) (bs₀ bs : List ℕ) (v : ℕ) : Type 0 where
   pub same : length bs ≡ length bs₀
@@ -18,7 +19,7 @@ pub record Inv (g : Graph) (sc : List ℕ) (r : ℕ) (bs₀ bs : List ℕ) (v : 
   pub here : v ≢ mark → (v ≤ r) × (root_of (stands g sc) (node (stands g sc) v) ≡ node (stands g sc) r)
 
 abbrev pub invariant-loop-v : goal.invariant-loop-v
-invariant-loop-v l = Inv (graph_of l.inputs l.nodes l.outputs (literals l.node_table l.node_bits) (literals l.output_table l.output_bits)) l.scratch l.root l.initial.bytes l.bytes l.v
+invariant-loop-v l = Inv (lent_graph l.lent) l.scratch l.root l.initial.bytes l.bytes l.v
 
 abbrev pub decreases-loop-v : goal.decreases-loop-v
 decreases-loop-v l = bound_of l.v

@@ -4,8 +4,8 @@ use mathlib.Core.Path.{refl}
 use Rattle.tagged_file.proofs.Emitted.{left_more, left_none}
 use Rattle.report.specs.Report.{node_line_at}
 use Rattle.report.proofs.LineLaws.{node_put}
-use Rattle.graph.specs.Literals.{literals}
 use Rattle.report.proofs.lines.put_nodes.Goals as goal
+use Rattle.graph.specs.Tables.{lent_table}
 
 pub loop-left-init : goal.loop-left-init
 loop-left-init c = (record { counted = omega arith; fits = refl; same = refl; bytes = refl }, omega arith, omega arith)
@@ -41,8 +41,8 @@ pub loop-left-preserved : goal.loop-left-preserved
 loop-left-preserved c =
     let l = c.loop-left in
     let a = c.args in
-    let p = node_put a.inputs (literals a.node_table.now a.node_bits.now) l.v l.index l.at _ 54 _ _ _ l.buffer _ l.invariant.1 c.word_at.ensures c.word_at-in-loop-left.ensures c.word_at-in-loop-left-2.ensures c.put_node-at.ensures in
-    (left_more (node_line_at a.inputs (literals a.node_table.now a.node_bits.now)) _ _ _ l.buffer l.at l.v l.left l.invariant.0 (omega arith) _ _ p.1 p.0, omega arith, omega (arith, c.put_node-at.ensures.1))
+    let p = node_put a.inputs (lent_table a.node_table.now) l.v l.index l.at _ 54 _ _ _ l.buffer _ l.invariant.1 c.word_at.ensures c.word_at-in-loop-left.ensures c.word_at-in-loop-left-2.ensures c.put_node-at.ensures in
+    (left_more (node_line_at a.inputs (lent_table a.node_table.now)) _ _ _ l.buffer l.at l.v l.left l.invariant.0 (omega arith) _ _ p.1 p.0, omega arith, omega (arith, c.put_node-at.ensures.1))
 
 pub shape_of-buffer : goal.shape_of-buffer
 shape_of-buffer c = c.loop-left.invariant.0.same
@@ -51,5 +51,5 @@ pub returns : goal.returns
 returns c =
     let l = c.loop-left in
     let a = c.args in
-    let e = left_none (node_line_at a.inputs (literals a.node_table.now a.node_bits.now)) _ _ _ l.buffer l.at l.v l.left l.invariant.0 (omega arith) in
+    let e = left_none (node_line_at a.inputs (lent_table a.node_table.now)) _ _ _ l.buffer l.at l.v l.left l.invariant.0 (omega arith) in
     (e.0, omega arith, e.1)

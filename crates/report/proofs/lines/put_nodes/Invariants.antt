@@ -5,10 +5,11 @@ use Rattle.tagged_file.proofs.Emitted.{Left}
 use Rattle.report.specs.Report.{node_line_at}
 use Rattle.graph.specs.Literals.{literals}
 use Rattle.report.proofs.lines.put_nodes.Given as goal
+use Rattle.graph.specs.Tables.{lent_table}
 
 abbrev pub invariant-loop-left : goal.invariant-loop-left
 invariant-loop-left l =
-    Left (node_line_at l.inputs (literals l.node_table l.node_bits)) l.nodes l.start l.initial.buffer l.buffer l.at l.v l.left × (l.index ≡ l.inputs + 1 + l.v) × (l.at + 54 * l.left ≤ l.start + 54 * l.nodes)
+    Left (node_line_at l.inputs (lent_table l.node_table)) l.nodes l.start l.initial.buffer l.buffer l.at l.v l.left × (l.index ≡ l.inputs + 1 + l.v) × (l.at + 54 * l.left ≤ l.start + 54 * l.nodes)
 
 abbrev pub decreases-loop-left : goal.decreases-loop-left
 decreases-loop-left l = l.left

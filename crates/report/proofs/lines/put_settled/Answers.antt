@@ -6,13 +6,13 @@ use Rattle.tagged_file.specs.Write.{in_order}
 use Rattle.report.specs.Report.{sizes_line, counts_line, node_line_at, output_line_at, settled_text}
 use Rattle.report.proofs.Put.{three_parts}
 use Rattle.graph.specs.Graph.{Graph}
-use Rattle.graph.specs.Literals.{literals, graph_in}
 use Rattle.graph.proofs.Words.{word_fits, output_fits}
 use Rattle.report.proofs.lines.put_settled.Goals as goal
 use Rattle.report.proofs.lines.put_settled.Goals.{Start}
+use Rattle.graph.specs.Tables.{lent_graph, lent_table}
 
 abbrev graph-of : Start → Graph
-graph-of s = graph_in s.args.inputs s.args.nodes s.args.outputs s.args.node_table.now s.args.node_bits.now s.args.output_table.now s.args.output_bits.now
+graph-of s = lent_graph s.args.lent.now
 
 pub put_nodes-middle-requires : goal.put_nodes-middle-requires
 put_nodes-middle-requires c =
@@ -28,9 +28,9 @@ pub returns : goal.returns
 unfolding settled_text
 returns c =
     let a = c.args in
-    let h : List ℕ = sizes_line a.inputs a.nodes a.outputs ++ counts_line a.before a.after a.rounds in
-    let ns : List ℕ = in_order (node_line_at a.inputs (literals a.node_table.now a.node_bits.now)) 0 a.nodes in
-    let os : List ℕ = in_order (output_line_at (literals a.output_table.now a.output_bits.now)) 0 a.outputs in
+    let h : List ℕ = sizes_line a.lent.now.inputs a.lent.now.nodes a.lent.now.outputs ++ counts_line a.before a.after a.rounds in
+    let ns : List ℕ = in_order (node_line_at a.lent.now.inputs (lent_table a.lent.now.node_table)) 0 a.lent.now.nodes in
+    let os : List ℕ = in_order (output_line_at (lent_table a.lent.now.output_table)) 0 a.lent.now.outputs in
     let p = c.put_head-first.ensures in
     let q = c.put_nodes-middle.ensures in
     let u = c.put_outputs.ensures in

@@ -3,15 +3,15 @@ use mathlib.Core.Path.{ap}
 use Prim.Native.Nat.{◌/◌}
 use native.Mathlib.Omega.{arith}
 use Rattle.graph.specs.Graph.{Graph}
-use Rattle.graph.specs.Literals.{graph_in}
 use Rattle.graph.proofs.Words.{readable}
 use Rattle.resistive_call.proofs.Reading.{low_as, moves_some, reader_now, found_root, found_other}
 use Rattle.resistive_call.proofs.Families.{weighed_all, weighed_still}
 use Rattle.resistive_call.proofs.deciding.decide_key.Goals as goal
 use Rattle.resistive_call.proofs.deciding.decide_key.Goals.{Start}
+use Rattle.graph.specs.Tables.{lent_graph}
 
 abbrev graph-of : Start → Graph
-graph-of s = graph_in s.args.inputs s.args.nodes s.args.outputs s.args.node_table.now s.args.node_bits.now s.args.output_table.now s.args.output_bits.now
+graph-of s = lent_graph s.args.lent.now
 
 pub is_xor-xor-requires : goal.is_xor-xor-requires
 is_xor-xor-requires c = readable (graph-of (goal.at.is_xor-xor-requires c).Start) c.requires.0.admitted c.args.v c.requires.1
@@ -21,7 +21,7 @@ moves_at-moves-requires c = (readable (graph-of (goal.at.moves_at-moves-requires
 
 pub first_score-requires : goal.first_score-requires
 first_score-requires c =
-    let n = weighed_still _ _ _ (moves_some (graph-of (goal.at.first_score-requires c).Start) c.args.locks.now c.args.scratch.now c.args.v _ _ (c.is_xor-xor.ensures _ _ _ _) (c.moves_at-moves.ensures _ _ _ _ c.requires.1)) c.still_moves.ensures in
+    let n = weighed_still _ _ _ (moves_some (graph-of (goal.at.first_score-requires c).Start) c.args.lent.now.locks.now c.args.scratch.now c.args.v _ _ (c.is_xor-xor.ensures _ _ _ _) (c.moves_at-moves.ensures _ _ _ _ c.requires.1)) c.still_moves.ensures in
     (low_as _ _ _ _ _ _ c.numbers_at-z.ensures c.requires.4.own, omega arith, omega arith, n)
 
 pub returns-then-place : goal.returns-then-place
@@ -35,7 +35,7 @@ reader_keys-beside-requires c =
 
 pub first_score-requires-2 : goal.first_score-requires-2
 first_score-requires-2 c =
-    let n = weighed_all _ _ (moves_some (graph-of (goal.at.first_score-requires-2 c).Start) c.args.locks.now c.args.scratch.now c.args.v _ _ (c.is_xor-xor.ensures _ _ _ _) (c.moves_at-moves.ensures _ _ _ _ c.requires.1)) in
+    let n = weighed_all _ _ (moves_some (graph-of (goal.at.first_score-requires-2 c).Start) c.args.lent.now.locks.now c.args.scratch.now c.args.v _ _ (c.is_xor-xor.ensures _ _ _ _) (c.moves_at-moves.ensures _ _ _ _ c.requires.1)) in
     let l = c.reader_keys-beside.ensures.1 in
     (low_as _ _ _ _ _ _ c.numbers_at-z.ensures c.requires.4.own, l 0, l 1, n)
 

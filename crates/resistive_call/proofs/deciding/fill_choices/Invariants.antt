@@ -7,12 +7,13 @@ use Rattle.resistive_call.proofs.ChoicePass.{ChoiceRight}
 use Rattle.trees.proofs.Passes.{FallenTo}
 use Rattle.graph.specs.Literals.{graph_in}
 use Rattle.resistive_call.proofs.deciding.fill_choices.Given as goal
+use Rattle.graph.specs.Tables.{lent_graph}
 
 abbrev pub Inv : Graph → List ℕ → List ℕ → ℕ → List ℕ → ℕ → Type 0
 Inv g ls sc₁ r sc v = FallenTo g (ChoiceRight g ls r) sc₁ r v sc
 
 abbrev pub invariant-loop-v : goal.invariant-loop-v
-invariant-loop-v l = Inv (graph_in l.inputs l.nodes l.outputs l.node_table l.node_bits l.output_table l.output_bits) l.locks l.initial.scratch l.root l.scratch l.v
+invariant-loop-v l = Inv (lent_graph l.lent) l.lent.locks.now l.initial.scratch l.root l.scratch l.v
 
 abbrev pub decreases-loop-v : goal.decreases-loop-v
 decreases-loop-v l = bound_of l.v

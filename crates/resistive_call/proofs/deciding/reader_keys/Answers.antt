@@ -1,13 +1,13 @@
 -- `reader_keys` meets its contract. From what a family is worked out from.
 use Rattle.graph.specs.Graph.{Graph}
-use Rattle.graph.specs.Literals.{graph_in}
 use Rattle.graph.proofs.Words.{readable}
 use Rattle.resistive_call.proofs.Reading.{low_as, low_two, row_as, reader_as}
 use Rattle.resistive_call.proofs.deciding.reader_keys.Goals as goal
 use Rattle.resistive_call.proofs.deciding.reader_keys.Goals.{Start}
+use Rattle.graph.specs.Tables.{lent_graph}
 
 abbrev graph-of : Start → Graph
-graph-of s = graph_in s.args.inputs s.args.nodes s.args.outputs s.args.node_table.now s.args.node_bits.now s.args.output_table.now s.args.output_bits.now
+graph-of s = lent_graph s.args.lent.now
 
 pub is_xor-xor-requires : goal.is_xor-xor-requires
 is_xor-xor-requires c = readable (graph-of (goal.at.is_xor-xor-requires c).Start) c.requires.0.admitted c.args.w c.requires.2

@@ -4,9 +4,10 @@ use Rattle.trees.proofs.Passes.{RisenTo}
 use Rattle.resistive_call.proofs.KeyPass.{KeyRight}
 use Rattle.graph.specs.Literals.{graph_in}
 use Rattle.resistive_call.proofs.keys.fill_keys.Given as goal
+use Rattle.graph.specs.Tables.{lent_graph}
 
 abbrev pub invariant-loop-v : goal.invariant-loop-v
-invariant-loop-v l = RisenTo (graph_in l.inputs l.nodes l.outputs l.node_table l.node_bits l.output_table l.output_bits) (KeyRight (graph_in l.inputs l.nodes l.outputs l.node_table l.node_bits l.output_table l.output_bits) l.locks) l.initial.scratch l.scratch l.root l.v
+invariant-loop-v l = RisenTo (lent_graph l.lent) (KeyRight (lent_graph l.lent) l.lent.locks.now) l.initial.scratch l.scratch l.root l.v
 
 abbrev pub decreases-loop-v : goal.decreases-loop-v
 decreases-loop-v l = l.root - l.v

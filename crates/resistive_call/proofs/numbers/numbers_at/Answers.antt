@@ -3,19 +3,19 @@ use mathlib.Core.Path.{◌≡◌, sym, ◌∙◌}
 use Prim.Native.Nat.{◌+◌, ◌*◌}
 use native.Mathlib.Omega.{arith}
 use Rattle.graph.specs.Graph.{Graph, is_xor}
-use Rattle.graph.specs.Literals.{graph_in, literals}
 use Rattle.graph.proofs.Edge.{edge_early, third_majority, third_xor}
 use Rattle.graph.proofs.Words.{readable}
 use Rattle.resistive_call.specs.Keys.{word_keys}
 use Rattle.resistive_call.proofs.Reading.{mark_even, mark_odd}
 use Rattle.resistive_call.proofs.numbers.numbers_at.Goals as goal
 use Rattle.resistive_call.proofs.numbers.numbers_at.Goals.{After-is_xor, Start}
+use Rattle.graph.specs.Tables.{lent_graph, lent_table}
 
 abbrev graph-of : Start → Graph
-graph-of s = graph_in s.args.inputs s.args.nodes s.args.outputs s.args.node_table.now s.args.node_bits.now s.args.output_table.now s.args.output_bits.now
+graph-of s = lent_graph s.args.lent.now
 
 kind : (c : After-is_xor) → c.is_xor.result ≡ is_xor (graph-of (goal.at.After-is_xor c).Start) c.args.w
-kind c = let a = c.args in c.is_xor.ensures a.inputs a.nodes a.outputs (literals a.output_table.now a.output_bits.now)
+kind c = let a = c.args in c.is_xor.ensures a.lent.now.inputs a.lent.now.nodes a.lent.now.outputs (lent_table a.lent.now.output_table)
 
 pub word_keys-x-requires : goal.word_keys-x-requires
 word_keys-x-requires c = (c.requires.0, c.requires.1, omega arith, edge_early (graph-of (goal.at.word_keys-x-requires c).Start) (3 * c.args.w + 0) (omega arith), c.requires.2, c.requires.3)

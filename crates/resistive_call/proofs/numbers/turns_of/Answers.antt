@@ -1,17 +1,17 @@
 -- `turns_of` meets its contract: by where the index stands. From what its turns cost.
 use native.Mathlib.Omega.{arith}
 use Rattle.graph.specs.Graph.{Graph}
-use Rattle.graph.specs.Literals.{graph_in}
 use Rattle.graph.proofs.Words.{readable}
 use Rattle.resistive_call.proofs.Reading.{turns_input, turns_root, turns_below, turns_own, turns_above}
 use Rattle.resistive_call.proofs.numbers.turns_of.Goals as goal
 use Rattle.resistive_call.proofs.numbers.turns_of.Goals.{Start}
+use Rattle.graph.specs.Tables.{lent_graph}
 
 abbrev graph-of : Start → Graph
-graph-of s = graph_in s.args.inputs s.args.nodes s.args.outputs s.args.node_table.now s.args.node_bits.now s.args.output_table.now s.args.output_bits.now
+graph-of s = lent_graph s.args.lent.now
 
-pub returns-then-u-inputs : goal.returns-then-u-inputs
-returns-then-u-inputs c = turns_input _ _ _ _ _ (omega arith)
+pub returns-then-u-lent : goal.returns-then-u-lent
+returns-then-u-lent c = turns_input _ _ _ _ _ (omega arith)
 
 pub returns-then-read : goal.returns-then-read
 returns-then-read c = turns_root _ _ _ _ _ _ (omega arith) c.wide-w.ensures (omega (arith, c.read.ensures))

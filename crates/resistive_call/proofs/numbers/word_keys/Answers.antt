@@ -2,14 +2,14 @@
 use Prim.Native.Nat.{◌+◌, ◌-◌, ◌*◌, ◌%◌}
 use native.Mathlib.Omega.{arith}
 use Rattle.graph.specs.Graph.{Graph}
-use Rattle.graph.specs.Literals.{graph_in}
 use Rattle.graph.proofs.Words.{edge_low}
 use Rattle.resistive_call.proofs.Reading.{key_edge}
 use Rattle.resistive_call.proofs.numbers.word_keys.Goals as goal
 use Rattle.resistive_call.proofs.numbers.word_keys.Goals.{Start}
+use Rattle.graph.specs.Tables.{lent_graph}
 
 abbrev graph-of : Start → Graph
-graph-of s = graph_in s.args.inputs s.args.nodes s.args.outputs s.args.node_table.now s.args.node_bits.now s.args.output_table.now s.args.output_bits.now
+graph-of s = lent_graph s.args.lent.now
 
 pub overflow_mul-w : goal.overflow_mul-w
 overflow_mul-w c = omega (arith, c.requires.0.admitted.few_nodes, c.requires.1)

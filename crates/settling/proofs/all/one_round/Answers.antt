@@ -26,6 +26,6 @@ pair_calls-requires c =
 
 pub returns : goal.returns
 returns c =
-    let n = c.args.nodes in
+    let n = c.args.lent.now.nodes in
     phase_most _ (n + n + 3 * n) 500000 _ _ _ _ _ (omega (arith, c.requires.0.admitted.few_nodes))
     (phase_then _ _ (n + n) (3 * n) _ _ _ _ _ _ _ (phase_then _ _ n n _ _ _ _ _ _ _ c.tree_calls-a.ensures c.single_calls-b.ensures) c.pair_calls.ensures)

@@ -24,5 +24,5 @@ shape_of-scratch c = c.loop-v.invariant.2.long
 
 pub returns : goal.returns
 returns c =
-    let e : c.loop-v.v ≡ c.args.nodes = omega arith in
+    let e : c.loop-v.v ≡ c.args.lent.now.nodes = omega arith in
     rw e at c.loop-v.invariant.2

@@ -5,10 +5,8 @@ use Rattle.graph.specs.Literals.{graph_in}
 use Rattle.rounds.specs.Round.{each, pairs_at}
 use Rattle.settling.specs.Phase.{Phase}
 use Rattle.settling.proofs.phases.pair_calls.Given as goal
+use Rattle.graph.specs.Tables.{lent_graph}
 
 abbrev pub invariant-loop-v : goal.invariant-loop-v
 invariant-loop-v l =
-    (l.v ≤ l.nodes) × (l.end ≡ l.nodes) × Phase (each (pairs_at l.locks) l.v) (3 * l.v) (graph_in l.inputs l.nodes l.outputs l.node_table l.node_bits l.output_table l.output_bits) l.initial.scratch l.initial.t l.scratch l.t
-
-abbrev pub decreases-loop-v : goal.decreases-loop-v
-decreases-loop-v l = l.end - l.v
+    (l.v ≤ l.lent.nodes) × (l.end ≡ l.lent.nodes) × Phase (each (pairs_at l.lent.locks.now) l.v) (3 * l.v) (lent_graph l.lent) l.initial.scratch l.initial.t l.scratch l.t

@@ -8,7 +8,7 @@ use Rattle.settling.proofs.phases.tree_calls.Goals as goal
 
 pub loop-left-init : goal.loop-left-init
 loop-left-init c =
-    let e : c.args.nodes - c.args.nodes ≡ 0 = omega arith in
+    let e : c.args.lent.now.nodes - c.args.lent.now.nodes ≡ 0 = omega arith in
     (omega arith, refl, rw e (each_none (tree_at _) _ _ _ c.requires.0 c.requires.1))
 
 pub tree_call_at-t-requires : goal.tree_call_at-t-requires
@@ -20,15 +20,15 @@ tree_call_at-t-requires c =
 pub loop-left-preserved : goal.loop-left-preserved
 loop-left-preserved c =
     let a = c.args in
-    let n : ℕ = a.nodes - c.loop-left.left in
-    let e : a.nodes - (c.loop-left.left - 1) ≡ n + 1 = omega arith in
-    (omega arith, refl, rw e (each_more (tree_at a.locks.now) _ _ n n 1 _ _ _ _ _ c.loop-left.invariant.2 c.tree_call_at-t.ensures))
+    let n : ℕ = a.lent.now.nodes - c.loop-left.left in
+    let e : a.lent.now.nodes - (c.loop-left.left - 1) ≡ n + 1 = omega arith in
+    (omega arith, refl, rw e (each_more (tree_at a.lent.now.locks.now) _ _ n n 1 _ _ _ _ _ c.loop-left.invariant.2 c.tree_call_at-t.ensures))
 
 pub shape_of-scratch : goal.shape_of-scratch
 shape_of-scratch c = c.loop-left.invariant.2.long
 
 pub returns : goal.returns
 returns c =
-    let n : ℕ = c.args.nodes in
+    let n : ℕ = c.args.lent.now.nodes in
     let e : n - c.loop-left.left ≡ n = omega arith in
     rw e at c.loop-left.invariant.2

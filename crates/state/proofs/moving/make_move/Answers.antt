@@ -1,14 +1,14 @@
 -- `make_move` makes a move and follows C. From what a move costs by its node's numbers; move 0 changes nothing.
 use native.Mathlib.Omega.{arith}
 use Rattle.graph.specs.Graph.{Graph, node}
-use Rattle.graph.specs.Literals.{graph_in}
 use Rattle.moves.proofs.Moves.{moves_no_more}
 use Rattle.state.proofs.Counting.{made_none, asked, counted_is}
 use Rattle.state.proofs.moving.make_move.Goals as goal
 use Rattle.state.proofs.moving.make_move.Goals.{Start}
+use Rattle.graph.specs.Tables.{lent_graph}
 
 abbrev graph-of : Start → Graph
-graph-of s = graph_in s.args.inputs s.args.nodes s.args.outputs s.args.node_table.now s.args.node_bits.now s.args.output_table.now s.args.output_bits.now
+graph-of s = lent_graph s.args.lent.now
 
 pub returns-then-m-eq0 : goal.returns-then-m-eq0
 returns-then-m-eq0 c =
@@ -18,12 +18,12 @@ returns-then-m-eq0 c =
 pub count_after-after-requires : goal.count_after-after-requires
 count_after-after-requires c =
     let a = c.args in
-    asked (graph-of (goal.at.count_after-after-requires c).Start) a.locks.now a.scratch.now c.requires.0 a.v c.requires.1 c.numbers_now-node.result c.numbers_now-node.ensures a.m a.count c.requires.2 c.requires.3
+    asked (graph-of (goal.at.count_after-after-requires c).Start) a.lent.now.locks.now a.scratch.now c.requires.0 a.v c.requires.1 c.numbers_now-node.result c.numbers_now-node.ensures a.m a.count c.requires.2 c.requires.3
 
 pub turn_node-requires : goal.turn_node-requires
 turn_node-requires c =
     let a = c.args in
-    (c.requires.0, c.requires.1, omega (arith, c.requires.2, moves_no_more (graph-of (goal.at.turn_node-requires c).Start) a.locks.now (node (graph-of (goal.at.turn_node-requires c).Start) a.v)))
+    (c.requires.0, c.requires.1, omega (arith, c.requires.2, moves_no_more (graph-of (goal.at.turn_node-requires c).Start) a.lent.now.locks.now (node (graph-of (goal.at.turn_node-requires c).Start) a.v)))
 
 pub returns : goal.returns
 returns c =
@@ -32,5 +32,5 @@ returns c =
     let a = c.args in
     record {
       became = c.turn_node.ensures;
-      count = counted_is (graph-of (goal.at.returns c).Start) a.locks.now a.scratch.now c.requires.0 a.v c.requires.1 n.result n.ensures a.m a.count k.result c.requires.3 k.ensures;
+      count = counted_is (graph-of (goal.at.returns c).Start) a.lent.now.locks.now a.scratch.now c.requires.0 a.v c.requires.1 n.result n.ensures a.m a.count k.result c.requires.3 k.ensures;
     }

@@ -3,36 +3,37 @@ use mathlib.Core.Path.{◌≡◌, refl}
 use Prim.Native.Nat.{◌+◌, ◌-◌, ◌*◌, ◌≤◌, ◌<◌}
 use native.Mathlib.Omega.{arith}
 use Rattle.graph.specs.Graph.{Graph, word, index}
-use Rattle.graph.specs.Literals.{graph_in, literals, held}
+use Rattle.graph.specs.Literals.{held}
 use Rattle.graph.proofs.Literals.{names_index}
 use Rattle.state.proofs.Pairs.{has_word, named_below, pair_none, pair_is}
 use Rattle.state.proofs.moving.pair_step.Goals as goal
 use Rattle.state.proofs.moving.pair_step.Goals.{After-index_at-u, Start}
+use Rattle.graph.specs.Tables.{lent_graph, lent_table}
 
 abbrev graph-of : Start → Graph
-graph-of s = graph_in s.args.inputs s.args.nodes s.args.outputs s.args.node_table.now s.args.node_bits.now s.args.output_table.now s.args.output_bits.now
+graph-of s = lent_graph s.args.lent.now
 
 -- the word's place, and what it names
 
 record Placed (s : Start) : Type 0 where
   low : 1 ≤ s.args.k
   high : s.args.k ≤ 3
-  few : s.args.nodes ≤ 100000
-  within : 3 * s.args.v + (s.args.k - 1) < held (literals s.args.node_table.now s.args.node_bits.now)
-  below : index (word (graph-of s) (3 * s.args.v + (s.args.k - 1))) < s.args.inputs + 1 + s.args.v
-  few_inputs : s.args.inputs ≤ 4096
+  few : s.args.lent.now.nodes ≤ 100000
+  within : 3 * s.args.v + (s.args.k - 1) < held (lent_table s.args.lent.now.node_table)
+  below : index (word (graph-of s) (3 * s.args.v + (s.args.k - 1))) < s.args.lent.now.inputs + 1 + s.args.v
+  few_inputs : s.args.lent.now.inputs ≤ 4096
 
 placed : (s : Start) → Placed s
 placed s =
     let a = s.args in
     let o = s.requires.0 in
-    let h = has_word (graph-of s) a.locks.now a.scratch.now o a.v a.k s.requires.1 s.requires.2 in
+    let h = has_word (graph-of s) a.lent.now.locks.now a.scratch.now o a.v a.k s.requires.1 s.requires.2 in
     record {
       low = h.0;
       high = h.1;
       few = o.admitted.few_nodes;
       within = omega (arith, h.0, h.1, s.requires.1, o.admitted.held_nodes);
-      below = named_below (graph-of s) a.locks.now a.scratch.now o a.v a.k s.requires.1 s.requires.2;
+      below = named_below (graph-of s) a.lent.now.locks.now a.scratch.now o a.v a.k s.requires.1 s.requires.2;
       few_inputs = o.admitted.few_inputs;
     }
 
@@ -50,18 +51,18 @@ overflow_add-at c = let p = placed (goal.at.overflow_add-at c).Start in omega (a
 pub index_at-u-requires : goal.index_at-u-requires
 index_at-u-requires c = (placed (goal.at.index_at-u-requires c).Start).within
 
-pub returns-then-u-inputs : goal.returns-then-u-inputs
-returns-then-u-inputs c =
+pub returns-then-u-lent : goal.returns-then-u-lent
+returns-then-u-lent c =
     let a = c.args in
-    pair_none (graph-of (goal.at.returns-then-u-inputs c).Start) a.locks.now a.scratch.now c.requires.0 a.v a.k c.requires.1 (omega (arith, names (goal.at.returns-then-u-inputs c).After-index_at-u, c.if-u-inputs.true)) (record { count = a.count; before = 0; after = 0 }) c.requires.3 refl refl
+    pair_none (graph-of (goal.at.returns-then-u-lent c).Start) a.lent.now.locks.now a.scratch.now c.requires.0 a.v a.k c.requires.1 (omega (arith, names (goal.at.returns-then-u-lent c).After-index_at-u, c.if-u-lent.true)) (record { count = a.count; before = 0; after = 0 }) c.requires.3 refl refl
 
 pub move_pair-requires : goal.move_pair-requires
 move_pair-requires c =
-    (c.requires.0, omega (arith, (placed (goal.at.move_pair-requires c).Start).below, names (goal.at.move_pair-requires c).After-index_at-u, c.if-u-inputs.false), c.requires.1, c.requires.3, c.requires.4)
+    (c.requires.0, omega (arith, (placed (goal.at.move_pair-requires c).Start).below, names (goal.at.move_pair-requires c).After-index_at-u, c.if-u-lent.false), c.requires.1, c.requires.3, c.requires.4)
 
 pub returns : goal.returns
 returns c =
     let r = c.move_pair in
     let a = c.args in
-    pair_is (graph-of (goal.at.returns c).Start) a.locks.now a.scratch.now c.requires.0 a.v a.k c.requires.1 (c.index_at-u.result - (a.inputs + 1))
-    (omega (arith, (placed (goal.at.returns c).Start).below, c.requires.1, names (goal.at.returns c).After-index_at-u, c.if-u-inputs.false)) (omega (arith, names (goal.at.returns c).After-index_at-u, c.if-u-inputs.false)) r.new.scratch r.result r.ensures
+    pair_is (graph-of (goal.at.returns c).Start) a.lent.now.locks.now a.scratch.now c.requires.0 a.v a.k c.requires.1 (c.index_at-u.result - (a.lent.now.inputs + 1))
+    (omega (arith, (placed (goal.at.returns c).Start).below, c.requires.1, names (goal.at.returns c).After-index_at-u, c.if-u-lent.false)) (omega (arith, names (goal.at.returns c).After-index_at-u, c.if-u-lent.false)) r.new.scratch r.result r.ensures

@@ -3,14 +3,14 @@ use mathlib.Core.Path.{sym}
 use Prim.Native.Nat.{◌+◌, ◌*◌}
 use native.Mathlib.Omega.{arith}
 use Rattle.graph.specs.Graph.{Graph, word}
-use Rattle.graph.specs.Literals.{graph_in}
 use Rattle.state.proofs.Pending.{pending_index}
 use Rattle.state.proofs.Stands.{kept_at_lem, stands_bit}
 use Rattle.state.proofs.now.bit_now.Goals as goal
 use Rattle.state.proofs.now.bit_now.Goals.{Start}
+use Rattle.graph.specs.Tables.{lent_graph}
 
 abbrev graph-of : Start → Graph
-graph-of s = graph_in s.args.inputs s.args.nodes s.args.outputs s.args.node_table.now s.args.node_bits.now s.args.output_table.now s.args.output_bits.now
+graph-of s = lent_graph s.args.lent.now
 
 pub overflow_mul-v : goal.overflow_mul-v
 overflow_mul-v c = omega (arith, c.requires.0.admitted.few_nodes, c.requires.1)
@@ -55,7 +55,7 @@ returns c =
     let g = graph-of (goal.at.returns c).Start in
     let j = 3 * a.v + a.k in (
       (λ e.
-          rw (k.ensures.0, d.ensures.0, pending_index a.inputs a.nodes a.scratch.now (word g j) u.result o.admitted.few_inputs o.admitted.few_nodes u.ensures, ← kept_at_lem a.scratch.now a.v a.k c.requires.2)
+          rw (k.ensures.0, d.ensures.0, pending_index a.lent.now.inputs a.lent.now.nodes a.scratch.now (word g j) u.result o.admitted.few_inputs o.admitted.few_nodes u.ensures, ← kept_at_lem a.scratch.now a.v a.k c.requires.2)
           (sym (stands_bit g a.scratch.now o.admitted j (omega (arith, c.requires.1, c.requires.2)) e))),
       omega arith,
     )

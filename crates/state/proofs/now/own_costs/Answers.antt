@@ -3,7 +3,6 @@ use mathlib.Core.Path.{sym, ◌∙◌}
 use Prim.Native.Nat.{◌+◌, ◌*◌}
 use native.Mathlib.Omega.{arith}
 use Rattle.graph.specs.Graph.{Graph}
-use Rattle.graph.specs.Literals.{graph_in, literals}
 use Rattle.graph.proofs.Edge.{edge_early, third_majority}
 use Rattle.graph.proofs.Words.{readable}
 use Rattle.moves.proofs.Deciding.{own_costs_are}
@@ -12,9 +11,10 @@ use Rattle.state.proofs.Alike.{alike_xor}
 use Rattle.state.proofs.Stands.{stands_alike}
 use Rattle.state.proofs.now.own_costs.Goals as goal
 use Rattle.state.proofs.now.own_costs.Goals.{Start}
+use Rattle.graph.specs.Tables.{lent_graph, lent_table}
 
 abbrev graph-of : Start → Graph
-graph-of s = graph_in s.args.inputs s.args.nodes s.args.outputs s.args.node_table.now s.args.node_bits.now s.args.output_table.now s.args.output_bits.now
+graph-of s = lent_graph s.args.lent.now
 
 pub bit_now-x-requires : goal.bit_now-x-requires
 bit_now-x-requires c = (c.requires.0, c.requires.1, omega arith)
@@ -41,5 +41,5 @@ returns c =
     own_costs_are (stands g a.scratch.now) v _ _ _ _
     (c.bit_now-x.ensures.0 (edge_early g (3 * v + 0) (omega arith)))
     (c.bit_now-y.ensures.0 (edge_early g (3 * v + 1) (omega arith)))
-    (c.is_xor.ensures a.inputs a.nodes a.outputs (literals a.output_table.now a.output_bits.now) ∙ sym kind)
+    (c.is_xor.ensures a.lent.now.inputs a.lent.now.nodes a.lent.now.outputs (lent_table a.lent.now.output_table) ∙ sym kind)
     (λ k. c.bit_now-z.ensures.0 (third_majority g v (sym kind ∙ k)))

@@ -3,19 +3,19 @@ use mathlib.Core.Path.{◌≡◌, ◌∙◌, ap}
 use Prim.Native.Nat.{ℕ, ◌<◌}
 use native.Mathlib.Omega.{arith}
 use Rattle.graph.specs.Graph.{Graph, is_xor}
-use Rattle.graph.specs.Literals.{graph_in, literals}
 use Rattle.graph.proofs.Words.{readable}
 use Rattle.moves.specs.Rows.{arity, flag}
 use Rattle.moves.proofs.Moves.{node_row}
 use Rattle.state.proofs.Made.{still, made}
 use Rattle.state.proofs.turning.turn_node.Goals as goal
 use Rattle.state.proofs.turning.turn_node.Goals.{After-is_xor-xor, Start}
+use Rattle.graph.specs.Tables.{lent_graph, lent_table}
 
 abbrev graph-of : Start → Graph
-graph-of s = graph_in s.args.inputs s.args.nodes s.args.outputs s.args.node_table.now s.args.node_bits.now s.args.output_table.now s.args.output_bits.now
+graph-of s = lent_graph s.args.lent.now
 
 kind : (c : After-is_xor-xor) → c.is_xor-xor.result ≡ is_xor (graph-of (goal.at.After-is_xor-xor c).Start) c.args.v
-kind c = let a = c.args in c.is_xor-xor.ensures a.inputs a.nodes a.outputs (literals a.output_table.now a.output_bits.now)
+kind c = let a = c.args in c.is_xor-xor.ensures a.lent.now.inputs a.lent.now.nodes a.lent.now.outputs (lent_table a.lent.now.output_table)
 
 has : (c : After-is_xor-xor) → c.args.m < arity c.is_xor-xor.result
 has c = omega (arith, ap arity (kind c), node_row (graph-of (goal.at.After-is_xor-xor c).Start) c.args.v c.args.m c.requires.2)

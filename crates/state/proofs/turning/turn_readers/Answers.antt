@@ -4,16 +4,16 @@ use Prim.Native.Nat.{◌+◌, ◌-◌, ◌*◌}
 use native.Mathlib.Omega.{arith}
 use lib.ListN.{get_or, set, length-set}
 use Rattle.graph.specs.Graph.{Graph, node}
-use Rattle.graph.specs.Literals.{graph_in}
 use Rattle.state.specs.State.{field, stands}
 use Rattle.state.specs.Step.{readers_turned, Became}
 use Rattle.state.proofs.Order.{odd_reads}
 use Rattle.state.proofs.Stores.{readers_still, readers_flipped}
 use Rattle.state.proofs.turning.turn_readers.Goals as goal
 use Rattle.state.proofs.turning.turn_readers.Goals.{Start}
+use Rattle.graph.specs.Tables.{lent_graph}
 
 abbrev graph-of : Start → Graph
-graph-of s = graph_in s.args.inputs s.args.nodes s.args.outputs s.args.node_table.now s.args.node_bits.now s.args.output_table.now s.args.output_bits.now
+graph-of s = lent_graph s.args.lent.now
 
 -- the count of readers stands at the front of a node's fields, and the complemented ones are no more
 

@@ -6,17 +6,17 @@ use native.Mathlib.Omega.{arith}
 use lib.ListN.{length, set, length-set}
 use mathlib.Core.Logic.{inr}
 use Rattle.graph.specs.Graph.{Graph, node, word, index}
-use Rattle.graph.specs.Literals.{graph_in}
 use Rattle.graph.proofs.Literals.{names_index}
 use Rattle.graph.proofs.Words.{edge_low}
 use Rattle.state.specs.State.{field, stands}
 use Rattle.state.proofs.Order.{odd_le}
 use Rattle.state.proofs.Stores.{names_low, bit_counted, word_low, word_high, field_kept}
 use Rattle.state.proofs.turning.turn_word.Goals as goal
-use Rattle.state.proofs.turning.turn_word.Goals.{After-index_at-u, Else-u-inputs, Start}
+use Rattle.state.proofs.turning.turn_word.Goals.{After-index_at-u, Else-u-lent, Start}
+use Rattle.graph.specs.Tables.{lent_graph}
 
 abbrev graph-of : Start → Graph
-graph-of s = graph_in s.args.inputs s.args.nodes s.args.outputs s.args.node_table.now s.args.node_bits.now s.args.output_table.now s.args.output_bits.now
+graph-of s = lent_graph s.args.lent.now
 
 -- the index that the word names
 
@@ -27,29 +27,29 @@ names c =
 -- what the code knows where a word is turned
 
 record At (s : Start) : Type 0 where
-  few : s.args.nodes ≤ 100000
-  node : s.args.v < s.args.nodes
+  few : s.args.lent.now.nodes ≤ 100000
+  node : s.args.v < s.args.lent.now.nodes
   word : s.args.k < 3
-  long : 8 * s.args.nodes ≤ length s.args.scratch.now
-  held : 3 * s.args.nodes ≤ 300000
+  long : 8 * s.args.lent.now.nodes ≤ length s.args.scratch.now
+  held : 3 * s.args.lent.now.nodes ≤ 300000
 
 at : (s : Start) → At s
 at s = let o = s.requires.0 in record { few = o.admitted.few_nodes; node = s.requires.1; word = s.requires.2; long = o.long; held = omega (arith, o.admitted.few_nodes) }
 
 -- the node that it names
 
-record Named (c : Else-u-inputs) : Type 0 where
-  below : c.index_at-u.result - (c.args.inputs + 1) < c.args.nodes
-  is : index (word (graph-of (goal.at.Else-u-inputs c).Start) (3 * c.args.v + c.args.k)) ≡ node (graph-of (goal.at.Else-u-inputs c).Start) (c.index_at-u.result - (c.args.inputs + 1))
+record Named (c : Else-u-lent) : Type 0 where
+  below : c.index_at-u.result - (c.args.lent.now.inputs + 1) < c.args.lent.now.nodes
+  is : index (word (graph-of (goal.at.Else-u-lent c).Start) (3 * c.args.v + c.args.k)) ≡ node (graph-of (goal.at.Else-u-lent c).Start) (c.index_at-u.result - (c.args.lent.now.inputs + 1))
 
-named : (c : Else-u-inputs) → Named c
+named : (c : Else-u-lent) → Named c
 named c =
-    let n = names_low (graph-of (goal.at.Else-u-inputs c).Start) c.args.scratch.now c.requires.0 (3 * c.args.v + c.args.k) (omega (arith, c.requires.1, c.requires.2)) c.requires.3 in
-    record { below = omega (arith, n, names (goal.at.Else-u-inputs c).After-index_at-u, c.if-u-inputs.false); is = omega (arith, n, names (goal.at.Else-u-inputs c).After-index_at-u, c.if-u-inputs.false) }
+    let n = names_low (graph-of (goal.at.Else-u-lent c).Start) c.args.scratch.now c.requires.0 (3 * c.args.v + c.args.k) (omega (arith, c.requires.1, c.requires.2)) c.requires.3 in
+    record { below = omega (arith, n, names (goal.at.Else-u-lent c).After-index_at-u, c.if-u-lent.false); is = omega (arith, n, names (goal.at.Else-u-lent c).After-index_at-u, c.if-u-lent.false) }
 
 -- its count is as it was
 
-count_kept : (c : Else-u-inputs) → let w = c.index_at-u.result - (c.args.inputs + 1) in
+count_kept : (c : Else-u-lent) → let w = c.index_at-u.result - (c.args.lent.now.inputs + 1) in
     field (set c.args.scratch.now (8 * c.args.v + 2) c.flipped.result) w 1 ≡ field c.args.scratch.now w 1
 count_kept c = field_kept c.args.scratch.now c.args.v 2 c.flipped.result _ 1 (omega arith) (omega arith) (inr (omega arith))
 
@@ -94,53 +94,53 @@ offset_bounds-scratch-at-2 c = let a = at (goal.at.offset_bounds-scratch-at-2 c)
 pub bounds-scratch-at-2 : goal.bounds-scratch-at-2
 bounds-scratch-at-2 c = let a = at (goal.at.bounds-scratch-at-2 c).Start in omega (arith, a.long, a.node)
 
-pub returns-then-u-inputs : goal.returns-then-u-inputs
-returns-then-u-inputs c =
+pub returns-then-u-lent : goal.returns-then-u-lent
+returns-then-u-lent c =
     let a = c.args in
-    word_low (graph-of (goal.at.returns-then-u-inputs c).Start) a.scratch.now c.requires.0 a.v a.k c.requires.1 c.requires.2 c.requires.3 c.flipped.result c.flipped.ensures
-    (omega (arith, names (goal.at.returns-then-u-inputs c).After-index_at-u, c.if-u-inputs.true))
+    word_low (graph-of (goal.at.returns-then-u-lent c).Start) a.scratch.now c.requires.0 a.v a.k c.requires.1 c.requires.2 c.requires.3 c.flipped.result c.flipped.ensures
+    (omega (arith, names (goal.at.returns-then-u-lent c).After-index_at-u, c.if-u-lent.true))
 
 pub overflow_sub-w : goal.overflow_sub-w
-overflow_sub-w c = omega (arith, c.if-u-inputs.false)
+overflow_sub-w c = omega (arith, c.if-u-lent.false)
 
 pub overflow_cast-to : goal.overflow_cast-to
-overflow_cast-to c = let a = at (goal.at.overflow_cast-to c).Start in omega (arith, a.few, (named (goal.at.overflow_cast-to c).Else-u-inputs).below)
+overflow_cast-to c = let a = at (goal.at.overflow_cast-to c).Start in omega (arith, a.few, (named (goal.at.overflow_cast-to c).Else-u-lent).below)
 
 pub overflow_mul-to : goal.overflow_mul-to
-overflow_mul-to c = let a = at (goal.at.overflow_mul-to c).Start in omega (arith, a.few, (named (goal.at.overflow_mul-to c).Else-u-inputs).below)
+overflow_mul-to c = let a = at (goal.at.overflow_mul-to c).Start in omega (arith, a.few, (named (goal.at.overflow_mul-to c).Else-u-lent).below)
 
 pub overflow_add-to : goal.overflow_add-to
-overflow_add-to c = let a = at (goal.at.overflow_add-to c).Start in omega (arith, a.few, (named (goal.at.overflow_add-to c).Else-u-inputs).below)
+overflow_add-to c = let a = at (goal.at.overflow_add-to c).Start in omega (arith, a.few, (named (goal.at.overflow_add-to c).Else-u-lent).below)
 
 pub offset_bounds-scratch-to : goal.offset_bounds-scratch-to
-offset_bounds-scratch-to c = let a = at (goal.at.offset_bounds-scratch-to c).Start in omega (arith, a.few, (named (goal.at.offset_bounds-scratch-to c).Else-u-inputs).below)
+offset_bounds-scratch-to c = let a = at (goal.at.offset_bounds-scratch-to c).Start in omega (arith, a.few, (named (goal.at.offset_bounds-scratch-to c).Else-u-lent).below)
 
 pub bounds-scratch-to : goal.bounds-scratch-to
-bounds-scratch-to c = let a = at (goal.at.bounds-scratch-to c).Start in simp length-set (omega (arith, a.long, (named (goal.at.bounds-scratch-to c).Else-u-inputs).below))
+bounds-scratch-to c = let a = at (goal.at.bounds-scratch-to c).Start in simp length-set (omega (arith, a.long, (named (goal.at.bounds-scratch-to c).Else-u-lent).below))
 
 pub adjusted-requires : goal.adjusted-requires
 adjusted-requires c =
     let a = c.args in
-    let w = c.index_at-u.result - (a.inputs + 1) in
-    let n = named (goal.at.adjusted-requires c).Else-u-inputs in
+    let w = c.index_at-u.result - (a.lent.now.inputs + 1) in
+    let n = named (goal.at.adjusted-requires c).Else-u-lent in
     omega (
       arith,
       was (goal.at.adjusted-requires c).After-index_at-u,
-      count_kept (goal.at.adjusted-requires c).Else-u-inputs,
+      count_kept (goal.at.adjusted-requires c).Else-u-lent,
       bit_counted (graph-of (goal.at.adjusted-requires c).Start) a.scratch.now c.requires.0 a.v a.k c.requires.1 c.requires.2 c.requires.3 c.flipped.result c.flipped.ensures w n.below n.is,
       odd_le (graph-of (goal.at.adjusted-requires c).Start) a.scratch.now c.requires.0 w n.below,
     )
 
 pub offset_bounds-scratch-to-2 : goal.offset_bounds-scratch-to-2
-offset_bounds-scratch-to-2 c = let a = at (goal.at.offset_bounds-scratch-to-2 c).Start in omega (arith, a.few, (named (goal.at.offset_bounds-scratch-to-2 c).Else-u-inputs).below)
+offset_bounds-scratch-to-2 c = let a = at (goal.at.offset_bounds-scratch-to-2 c).Start in omega (arith, a.few, (named (goal.at.offset_bounds-scratch-to-2 c).Else-u-lent).below)
 
 pub bounds-scratch-to-2 : goal.bounds-scratch-to-2
-bounds-scratch-to-2 c = let a = at (goal.at.bounds-scratch-to-2 c).Start in simp length-set (omega (arith, a.long, (named (goal.at.bounds-scratch-to-2 c).Else-u-inputs).below))
+bounds-scratch-to-2 c = let a = at (goal.at.bounds-scratch-to-2 c).Start in simp length-set (omega (arith, a.long, (named (goal.at.bounds-scratch-to-2 c).Else-u-lent).below))
 
 pub returns : goal.returns
 returns c =
     let a = c.args in
-    let w = c.index_at-u.result - (a.inputs + 1) in
-    let n = named (goal.at.returns c).Else-u-inputs in
+    let w = c.index_at-u.result - (a.lent.now.inputs + 1) in
+    let n = named (goal.at.returns c).Else-u-lent in
     word_high (graph-of (goal.at.returns c).Start) a.scratch.now c.requires.0 a.v a.k c.requires.1 c.requires.2 c.requires.3 c.flipped.result c.flipped.ensures w c.adjusted.result n.below n.is
-    (omega (arith, was (goal.at.returns c).After-index_at-u, count_kept (goal.at.returns c).Else-u-inputs, c.adjusted.ensures))
+    (omega (arith, was (goal.at.returns c).After-index_at-u, count_kept (goal.at.returns c).Else-u-lent, c.adjusted.ensures))

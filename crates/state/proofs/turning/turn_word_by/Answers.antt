@@ -5,16 +5,16 @@ use mathlib.Core.Logic.{⊎_elim}
 use Prim.Native.Nat.{◌+◌, ◌*◌}
 use native.Mathlib.Omega.{arith}
 use Rattle.graph.specs.Graph.{Graph, is_edge}
-use Rattle.graph.specs.Literals.{graph_in}
 use Rattle.graph.proofs.Cases.{true_or_false}
 use Rattle.state.specs.State.{stands}
 use Rattle.state.specs.Step.{word_turned, Became}
 use Rattle.state.proofs.Stores.{word_still}
 use Rattle.state.proofs.turning.turn_word_by.Goals as goal
 use Rattle.state.proofs.turning.turn_word_by.Goals.{Start}
+use Rattle.graph.specs.Tables.{lent_graph}
 
 abbrev graph-of : Start → Graph
-graph-of s = graph_in s.args.inputs s.args.nodes s.args.outputs s.args.node_table.now s.args.node_bits.now s.args.output_table.now s.args.output_bits.now
+graph-of s = lent_graph s.args.lent.now
 
 pub returns-then-f-eq0 : goal.returns-then-f-eq0
 returns-then-f-eq0 c =

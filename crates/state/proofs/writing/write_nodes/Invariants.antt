@@ -9,6 +9,3 @@ use Rattle.state.proofs.writing.write_nodes.Given as goal
 abbrev pub invariant-loop-v : goal.invariant-loop-v
 invariant-loop-v l =
     (l.end ≡ l.nodes) × (l.v ≤ l.end) × (length l.bits ≡ length l.initial.bits) × BitsPut (bit_now l.inputs l.nodes l.scratch l.table) l.initial.bits (begun (3 * l.v) l.got l.bits) (3 * l.v)
-
-abbrev pub decreases-loop-v : goal.decreases-loop-v
-decreases-loop-v l = l.end - l.v

@@ -13,6 +13,3 @@ often i n sc j x = pending_at i n sc (x / 2)
 
 abbrev pub invariant-loop-j : goal.invariant-loop-j
 invariant-loop-j l = (l.j ≤ l.count) × (length l.bits ≡ length l.initial.bits) × SweptTo (often l.inputs l.nodes l.scratch) (literals l.table l.initial.bits) l.j (literals l.table l.bits)
-
-abbrev pub decreases-loop-j : goal.decreases-loop-j
-decreases-loop-j l = l.count - l.j

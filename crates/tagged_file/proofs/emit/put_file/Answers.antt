@@ -7,15 +7,15 @@ use Rattle.graph.specs.Graph.{graph_of}
 use Rattle.tagged_file.specs.Write.{node_field_at, lock_field_at, in_order, file_of}
 use Rattle.tagged_file.proofs.WholeWrite.{length_file, length_outputs, file_stored}
 use Rattle.graph.proofs.Words.{readable, out_low}
-use Rattle.graph.specs.Literals.{literals}
 use Rattle.tagged_file.proofs.emit.put_file.Goals as goal
 use Rattle.tagged_file.proofs.emit.put_file.Goals.{Start}
+use Rattle.graph.specs.Tables.{lent_graph, lent_table}
 
 -- the file's length by its parts
 
-long : (s : Start) → let a = s.args in length (file_of (graph_of a.inputs a.nodes a.outputs (literals a.node_table.now a.node_bits.now) (literals a.output_table.now a.output_bits.now)) a.locks.now)
-    ≡ 18 + length (in_order (node_field_at (literals a.node_table.now a.node_bits.now)) 0 a.nodes) + 7 * a.outputs + length (in_order (lock_field_at (a.inputs + 1) a.locks.now) 0 a.nodes)
-long s = let a = s.args in length_file (graph_of a.inputs a.nodes a.outputs (literals a.node_table.now a.node_bits.now) (literals a.output_table.now a.output_bits.now)) a.locks.now
+long : (s : Start) → let a = s.args in length (file_of (lent_graph a.lent.now) a.lent.now.locks.now)
+    ≡ 18 + length (in_order (node_field_at (lent_table a.lent.now.node_table)) 0 a.lent.now.nodes) + 7 * a.lent.now.outputs + length (in_order (lock_field_at (a.lent.now.inputs + 1) a.lent.now.locks.now) 0 a.lent.now.nodes)
+long s = let a = s.args in length_file (lent_graph a.lent.now) a.lent.now.locks.now
 
 -- the length of the buffer, the last of what is lent, fits
 
@@ -28,22 +28,22 @@ put_nodes-second-requires c =
 
 pub put_outputs-third-requires : goal.put_outputs-third-requires
 put_outputs-third-requires c =
-    ((c.requires.0.held_outputs, out_low _ c.requires.0), omega (arith, c.requires.2, long (goal.at.put_outputs-third-requires c).Start, length_outputs (literals c.args.output_table.now c.args.output_bits.now) 0 c.args.outputs))
+    ((c.requires.0.held_outputs, out_low _ c.requires.0), omega (arith, c.requires.2, long (goal.at.put_outputs-third-requires c).Start, length_outputs (lent_table c.args.lent.now.output_table) 0 c.args.lent.now.outputs))
 
 pub put_locks-end-requires : goal.put_locks-end-requires
 put_locks-end-requires c =
-    record { nodes_in_bounds = (c.requires.1, omega (arith, c.requires.0.few_inputs, c.requires.0.few_nodes)); nodes_in_bounds_2 = omega (arith, c.requires.2, long (goal.at.put_locks-end-requires c).Start, length_outputs (literals c.args.output_table.now c.args.output_bits.now) 0 c.args.outputs) }
+    record { nodes_in_bounds = (c.requires.1, omega (arith, c.requires.0.few_inputs, c.requires.0.few_nodes)); nodes_in_bounds_2 = omega (arith, c.requires.2, long (goal.at.put_locks-end-requires c).Start, length_outputs (lent_table c.args.lent.now.output_table) 0 c.args.lent.now.outputs) }
 
 pub put_head-requires : goal.put_head-requires
 put_head-requires c =
-    omega (arith, long (goal.at.put_head-requires c).Start, length_outputs (literals c.args.output_table.now c.args.output_bits.now) 0 c.args.outputs)
+    omega (arith, long (goal.at.put_head-requires c).Start, length_outputs (lent_table c.args.lent.now.output_table) 0 c.args.lent.now.outputs)
 
 pub overflow_add-result : goal.overflow_add-result
 overflow_add-result c =
-    omega (arith, c.well_formed.1.1.1.1.1.1.1.1.0, long (goal.at.overflow_add-result c).Start, length_outputs (literals c.args.output_table.now c.args.output_bits.now) 0 c.args.outputs)
+    omega (arith, c.well_formed.1.0, long (goal.at.overflow_add-result c).Start, length_outputs (lent_table c.args.lent.now.output_table) 0 c.args.lent.now.outputs)
 
 pub returns : goal.returns
 returns c =
     let a = c.args in
-    file_stored (graph_of a.inputs a.nodes a.outputs (literals a.node_table.now a.node_bits.now) (literals a.output_table.now a.output_bits.now)) a.locks.now _ _ _ _ _ _ _ _ _
+    file_stored (lent_graph a.lent.now) a.lent.now.locks.now _ _ _ _ _ _ _ _ _
     c.put_three.ensures c.put_nodes-second.ensures c.put_outputs-third.ensures (c.put_locks-end.ensures.value, c.put_locks-end.ensures.buffer_after) c.put_head.ensures

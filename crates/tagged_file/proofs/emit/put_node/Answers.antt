@@ -4,27 +4,27 @@ use Prim.Native.Nat.{◌+◌, ◌*◌, ◌≤◌}
 use native.Mathlib.Omega.{arith}
 use lib.ListN.{length}
 use lib.Seq.{sets}
-use Rattle.graph.specs.Literals.{literals}
 use Rattle.tagged_file.specs.Write.{node_field, node_field_at}
 use Rattle.tagged_file.proofs.FieldBytes.{node_at_lem, length_node_least, node_length, node_stored}
 use Rattle.tagged_file.proofs.emit.put_node.Goals as goal
 use Rattle.tagged_file.proofs.emit.put_node.Goals.{After-node_payload-payload, Start}
+use Rattle.graph.specs.Tables.{lent_table}
 
 -- the buffer has at least 11 bytes from the place on
 
 room : (s : Start) → s.args.at + 11 ≤ length s.args.buffer.now
-room s = omega (arith, s.requires.1, length_node_least (literals s.args.node_table.now s.args.node_bits.now) s.args.v)
+room s = omega (arith, s.requires.1, length_node_least (lent_table s.args.node_table.now) s.args.v)
 
 -- once its words are known: the field, and its length
 
 module _ (c : After-node_payload-payload) where
-  field_is : node_field c.word_of-x.result c.word_of-y.result c.word_of-z.result ≡ node_field_at (literals c.args.node_table.now c.args.node_bits.now) c.args.v
+  field_is : node_field c.word_of-x.result c.word_of-y.result c.word_of-z.result ≡ node_field_at (lent_table c.args.node_table.now) c.args.v
   field_is =
       let a = c.args in
       let e : 3 * a.v + 0 ≡ 3 * a.v = omega arith in
-      node_at_lem (literals a.node_table.now a.node_bits.now) a.v _ _ _ (rw e at c.word_of-x.ensures) c.word_of-y.ensures c.word_of-z.ensures
+      node_at_lem (lent_table a.node_table.now) a.v _ _ _ (rw e at c.word_of-x.ensures) c.word_of-y.ensures c.word_of-z.ensures
 
-  long : (length (node_field_at (literals c.args.node_table.now c.args.node_bits.now) c.args.v) ≡ 3 + c.node_payload-payload.result) × (8 ≤ c.node_payload-payload.result)
+  long : (length (node_field_at (lent_table c.args.node_table.now) c.args.v) ≡ 3 + c.node_payload-payload.result) × (8 ≤ c.node_payload-payload.result)
   long = rw field_is at (node_length c.word_of-x.result c.word_of-y.result c.word_of-z.result _ c.node_payload-payload.ensures)
 
 pub three_at-three-requires : goal.three_at-three-requires

@@ -3,9 +3,10 @@ use Rattle.graph.specs.Literals.{literals}
 use Rattle.tagged_file.specs.Write.{node_field_at}
 use Rattle.tagged_file.proofs.Emitted.{Left}
 use Rattle.tagged_file.proofs.emit.put_nodes.Given as goal
+use Rattle.graph.specs.Tables.{lent_table}
 
 abbrev pub invariant-loop-left : goal.invariant-loop-left
-invariant-loop-left l = Left (node_field_at (literals l.node_table l.node_bits)) l.nodes l.start l.initial.buffer l.buffer l.at l.v l.left
+invariant-loop-left l = Left (node_field_at (lent_table l.node_table)) l.nodes l.start l.initial.buffer l.buffer l.at l.v l.left
 
 abbrev pub decreases-loop-left : goal.decreases-loop-left
 decreases-loop-left l = l.left

@@ -5,8 +5,8 @@ use Prim.Native.Nat.{◌+◌, ◌*◌}
 use lib.ListN.{get_or}
 use Rattle.tagged_file.proofs.WholeWrite.{size_more, size_none}
 use Rattle.tagged_file.specs.Write.{node_field_at}
-use Rattle.graph.specs.Literals.{literals}
 use Rattle.tagged_file.proofs.faults.nodes_bytes.Goals as goal
+use Rattle.graph.specs.Tables.{lent_table}
 
 pub loop-left-init : goal.loop-left-init
 loop-left-init c = (omega arith, zero-add _, omega arith)
@@ -21,7 +21,7 @@ pub loop-left-preserved : goal.loop-left-preserved
 unfolding node_field_at
 loop-left-preserved c =
     let a = c.args in
-    let ns = literals a.node_table.now a.node_bits.now in
+    let ns = lent_table a.node_table.now in
     let e = c.node_bytes-size.ensures.0 (get_or ns (3 * c.loop-left.v) 0) (get_or ns (3 * c.loop-left.v + 1) 0) in
     (omega arith, size_more _ _ c.loop-left.size _ c.loop-left.v c.loop-left.left (omega arith) c.loop-left.invariant.1 (omega (arith, e)), omega arith)
 

@@ -2,7 +2,6 @@
 use native.Mathlib.Omega.{arith}
 use mathlib.Core.Path.{refl, sym, ◌∙◌}
 use Rattle.graph.specs.Graph.{Graph, graph_of}
-use Rattle.graph.specs.Literals.{literals}
 use Rattle.graph.proofs.Admit.{admitted, locks_admitted}
 use Rattle.graph.proofs.Tests.{fault, none, less, no_less}
 use Rattle.graph.proofs.Words.{readable}
@@ -10,11 +9,12 @@ use Rattle.tagged_file.specs.Write.{write_number}
 use Rattle.tagged_file.proofs.WholeWrite.{file_most}
 use Rattle.tagged_file.proofs.faults.write_number.Goals as goal
 use Rattle.tagged_file.proofs.faults.write_number.Goals.{Start}
+use Rattle.graph.specs.Tables.{lent_graph, lent_table}
 
 abbrev g : Start → Graph
 g s =
     let a = s.args in
-    graph_of a.inputs a.nodes a.outputs (literals a.node_table.now a.node_bits.now) (literals a.output_table.now a.output_bits.now)
+    lent_graph a.lent.now
 
 pub returns-then-k-ne0 : goal.returns-then-k-ne0
 unfolding write_number
@@ -23,24 +23,24 @@ returns-then-k-ne0 c = let e = c.admission_number-k.ensures in fault _ _ e (λ z
 pub returns-then-most_bytes-room : goal.returns-then-most_bytes-room
 unfolding write_number
 returns-then-most_bytes-room c =
-    let m = file_most (g (goal.at.returns-then-most_bytes-room c).Start) c.args.locks.now in
+    let m = file_most (g (goal.at.returns-then-most_bytes-room c).Start) c.args.lent.now.locks.now in
     none _ _ (sym c.admission_number-k.ensures ∙ c.if-k-ne0.false) (no_less _ _ _ _ (omega arith) refl)
 
 pub file_bytes-requires : goal.file_bytes-requires
 file_bytes-requires c =
     let z = sym c.admission_number-k.ensures ∙ c.if-k-ne0.false in
-    (readable (g (goal.at.file_bytes-requires c).Start) (admitted (g (goal.at.file_bytes-requires c).Start) c.args.locks.now z), (locks_admitted (g (goal.at.file_bytes-requires c).Start) c.args.locks.now z).enough)
+    (readable (g (goal.at.file_bytes-requires c).Start) (admitted (g (goal.at.file_bytes-requires c).Start) c.args.lent.now.locks.now z), (locks_admitted (g (goal.at.file_bytes-requires c).Start) c.args.lent.now.locks.now z).enough)
 
 pub returns-then-room-file_bytes : goal.returns-then-room-file_bytes
 unfolding write_number
 returns-then-room-file_bytes c =
     let a = c.args in
-    let l = c.file_bytes.ensures a.inputs (literals a.output_table.now a.output_bits.now) in
+    let l = c.file_bytes.ensures a.lent.now.inputs (lent_table a.lent.now.output_table) in
     none _ _ (sym c.admission_number-k.ensures ∙ c.if-k-ne0.false) (less _ _ _ _ (omega arith) refl)
 
 pub returns : goal.returns
 unfolding write_number
 returns c =
     let a = c.args in
-    let l = c.file_bytes.ensures a.inputs (literals a.output_table.now a.output_bits.now) in
+    let l = c.file_bytes.ensures a.lent.now.inputs (lent_table a.lent.now.output_table) in
     none _ _ (sym c.admission_number-k.ensures ∙ c.if-k-ne0.false) (no_less _ _ _ _ (omega arith) refl)

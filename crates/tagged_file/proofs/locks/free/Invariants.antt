@@ -6,6 +6,3 @@ use Rattle.tagged_file.proofs.locks.free.Given as goal
 
 abbrev pub invariant-loop-v : goal.invariant-loop-v
 invariant-loop-v l = (l.v ≤ l.nodes) × (l.locks ≡ swept (λ u. 0) l.initial.locks l.v)
-
-abbrev pub decreases-loop-v : goal.decreases-loop-v
-decreases-loop-v l = l.end - l.v

@@ -3,7 +3,7 @@ use mathlib.Core.Path.{◌≡◌, ap}
 use Prim.Native.Nat.{ℕ, ◌+◌, ◌<◌}
 use native.Mathlib.Omega.{arith}
 use Rattle.graph.specs.Graph.{Graph, word, index, is_xor}
-use Rattle.graph.specs.Literals.{graph_in, literals}
+use Rattle.graph.specs.Literals.{graph_in}
 use Rattle.graph.proofs.Words.{readable}
 use Rattle.moves.specs.Rows.{arity}
 use Rattle.moves.proofs.Moves.{node_row}
@@ -11,14 +11,15 @@ use Rattle.moves.proofs.Readers.{names, single}
 use Rattle.node_call.proofs.Turning.{turned_index, inner_written}
 use Rattle.tree_call.proofs.writing.write_inner.Goals as goal
 use Rattle.tree_call.proofs.writing.write_inner.Goals.{After-is_xor-xor, Start}
+use Rattle.graph.specs.Tables.{lent_table}
 
 abbrev graph : Start → Graph
-graph s = let a = s.args in graph_in a.inputs a.nodes a.outputs a.node_table.now a.node_bits.now a.output_table.now a.output_bits.now
+graph s = let a = s.args in graph_in a.inputs a.nodes a.outputs a.node_table.now a.node_bits.now a.output_table.now.indices.now a.output_table.now.bits.now
 
 -- the kind, as it was read
 
 kind : (x : After-is_xor-xor) → x.is_xor-xor.result ≡ is_xor (graph (goal.at.After-is_xor-xor x).Start) x.args.v
-kind x = let a = x.args in x.is_xor-xor.ensures a.inputs a.nodes a.outputs (literals a.output_table.now a.output_bits.now)
+kind x = let a = x.args in x.is_xor-xor.ensures a.inputs a.nodes a.outputs (lent_table a.output_table.now)
 
 has_move : (x : After-is_xor-xor) → x.args.m < arity x.is_xor-xor.result
 has_move x = omega (arith, ap arity (kind x), node_row (graph (goal.at.After-is_xor-xor x).Start) x.args.v x.args.m x.requires.2)

@@ -3,16 +3,16 @@ use mathlib.Core.Path.{◌≡◌, ◌∙◌}
 use Prim.Native.Nat.{ℕ, ◌+◌, ◌-◌, ◌*◌, ◌/◌, ◌%◌, ◌≤◌}
 use native.Mathlib.Omega.{arith}
 use Rattle.graph.specs.Graph.{Graph, word}
-use Rattle.graph.specs.Literals.{graph_in}
 use Rattle.graph.proofs.Literals.{names_index}
 use Rattle.graph.proofs.Words.{edge_low}
 use Rattle.trees.specs.Costing.{inner_at, cost_at}
 use Rattle.trees.proofs.EdgeCosts.{edge_fits, edge_is}
 use Rattle.trees.proofs.costs.edge_numbers.Goals as goal
 use Rattle.trees.proofs.costs.edge_numbers.Goals.{After-index_at-u, Start}
+use Rattle.graph.specs.Tables.{lent_graph}
 
 abbrev graph-of : Start → Graph
-graph-of s = graph_in s.args.inputs s.args.nodes s.args.outputs s.args.node_table.now s.args.node_bits.now s.args.output_table.now s.args.output_bits.now
+graph-of s = lent_graph s.args.lent.now
 
 zero-sum : (x : ℕ) → x ≤ 1 → (x + 0) % 2 ≡ x
 zero-sum x h = omega arith
@@ -39,7 +39,7 @@ bit_now-b-requires c = (c.requires.0, c.requires.1, c.requires.2)
 pub edge_cost-requires : goal.edge_cost-requires
 edge_cost-requires c =
     let o = c.requires.0 in
-    let f = edge_fits (graph-of (goal.at.edge_cost-requires c).Start) c.args.scratch.now o (inner_at c.args.inputs c.args.scratch.now) (cost_at c.args.inputs c.args.scratch.now) c.args.v c.args.k c.requires.1 c.requires.2 c.requires.3 in
+    let f = edge_fits (graph-of (goal.at.edge_cost-requires c).Start) c.args.scratch.now o (inner_at c.args.lent.now.inputs c.args.scratch.now) (cost_at c.args.lent.now.inputs c.args.scratch.now) c.args.v c.args.k c.requires.1 c.requires.2 c.requires.3 in
     (o.admitted.few_inputs, o.admitted.few_nodes, omega (arith, names (goal.at.edge_cost-requires c).After-index_at-u, f), o.long)
 
 pub overflow_sub-b : goal.overflow_sub-b
@@ -48,7 +48,7 @@ overflow_sub-b c = omega (arith, c.bit_now-b.ensures.1)
 pub edge_cost-requires-2 : goal.edge_cost-requires-2
 edge_cost-requires-2 c =
     let o = c.requires.0 in
-    let f = edge_fits (graph-of (goal.at.edge_cost-requires-2 c).Start) c.args.scratch.now o (inner_at c.args.inputs c.args.scratch.now) (cost_at c.args.inputs c.args.scratch.now) c.args.v c.args.k c.requires.1 c.requires.2 c.requires.3 in
+    let f = edge_fits (graph-of (goal.at.edge_cost-requires-2 c).Start) c.args.scratch.now o (inner_at c.args.lent.now.inputs c.args.scratch.now) (cost_at c.args.lent.now.inputs c.args.scratch.now) c.args.v c.args.k c.requires.1 c.requires.2 c.requires.3 in
     (o.admitted.few_inputs, o.admitted.few_nodes, omega (arith, names (goal.at.edge_cost-requires-2 c).After-index_at-u, f), o.long)
 
 pub returns : goal.returns
@@ -56,7 +56,7 @@ returns c =
     let a = c.args in
     let d = c.bit_now-b in
     let z = d.ensures.0 c.requires.3 in
-    let is = edge_is (graph-of (goal.at.returns c).Start) a.scratch.now c.requires.0 (inner_at a.inputs a.scratch.now) (cost_at a.inputs a.scratch.now) a.v a.k c.requires.1 c.requires.2 in
+    let is = edge_is (graph-of (goal.at.returns c).Start) a.scratch.now c.requires.0 (inner_at a.lent.now.inputs a.scratch.now) (cost_at a.lent.now.inputs a.scratch.now) a.v a.k c.requires.1 c.requires.2 in
     let p = is c.index_at-u.result d.result 0 c.edge_cost.result c.requires.3 (names (goal.at.returns c).After-index_at-u) (omega (arith, z)) (c.edge_cost.ensures ∙ rw (zero-sum d.result d.ensures.1)) in
     let q = is c.index_at-u.result d.result 1 c.edge_cost-2.result c.requires.3 (names (goal.at.returns c).After-index_at-u) (omega (arith, z)) (c.edge_cost-2.ensures ∙ rw (one-sum d.result d.ensures.1)) in
     rw (p, q)

@@ -3,15 +3,15 @@ use Rattle.trees.proofs.EdgeCosts.{numbers_of_lem, moves_read, bits_of}
 use native.Mathlib.Omega.{arith}
 use Rattle.graph.specs.Graph.{Graph}
 use Rattle.graph.specs.Inner.{Readable}
-use Rattle.graph.specs.Literals.{literals, graph_in}
 use Rattle.graph.proofs.Words.{readable}
 use Rattle.trees.proofs.costs.node_costs.Goals as goal
 use Rattle.trees.proofs.costs.node_costs.Goals.{Start}
+use Rattle.graph.specs.Tables.{lent_graph, lent_table}
 
 abbrev graph-of : Start → Graph
-graph-of s = graph_in s.args.inputs s.args.nodes s.args.outputs s.args.node_table.now s.args.node_bits.now s.args.output_table.now s.args.output_bits.now
+graph-of s = lent_graph s.args.lent.now
 
-read : (s : Start) → let a = s.args in Readable (literals a.node_table.now a.node_bits.now) a.v
+read : (s : Start) → let a = s.args in Readable (lent_table a.lent.now.node_table) a.v
 read s = readable (graph-of s) s.requires.0.admitted s.args.v s.requires.1
 
 pub is_xor-requires : goal.is_xor-requires
@@ -26,7 +26,7 @@ cost_bits-requires c =
     let a = c.args in (
       numbers_of_lem _ _ _ _ _ 0 t.ensures (omega arith),
       numbers_of_lem _ _ _ _ _ 1 t.ensures (omega arith),
-      moves_read _ _ _ _ _ (c.is_xor.ensures a.inputs a.nodes a.outputs (literals a.output_table.now a.output_bits.now)) (c.moves_at.ensures a.inputs a.nodes a.outputs (literals a.output_table.now a.output_bits.now) c.requires.1),
+      moves_read _ _ _ _ _ (c.is_xor.ensures a.lent.now.inputs a.lent.now.nodes a.lent.now.outputs (lent_table a.lent.now.output_table)) (c.moves_at.ensures a.lent.now.inputs a.lent.now.nodes a.lent.now.outputs (lent_table a.lent.now.output_table) c.requires.1),
     )
 
 pub returns : goal.returns

@@ -8,12 +8,13 @@ use Rattle.trees.proofs.DecidePass.{MoveRight}
 use Rattle.trees.proofs.Passes.{FallenTo}
 use Rattle.graph.specs.Literals.{literals}
 use Rattle.trees.proofs.deciding.fill_moves.Given as goal
+use Rattle.graph.specs.Tables.{lent_graph}
 
 abbrev pub Inv : Graph → List ℕ → List ℕ → ℕ → List ℕ → ℕ → Type 0
 Inv g ls sc₁ r sc v = FallenTo (stands g sc₁) (MoveRight (stands g sc₁) ls r) sc₁ r v sc
 
 abbrev pub invariant-loop-v : goal.invariant-loop-v
-invariant-loop-v l = Inv (graph_of l.inputs l.nodes l.outputs (literals l.node_table l.node_bits) (literals l.output_table l.output_bits)) l.locks l.initial.scratch l.root l.scratch l.v
+invariant-loop-v l = Inv (lent_graph l.lent) l.lent.locks.now l.initial.scratch l.root l.scratch l.v
 
 abbrev pub decreases-loop-v : goal.decreases-loop-v
 decreases-loop-v l = bound_of l.v

@@ -3,15 +3,15 @@ use mathlib.Core.Path.{◌≡◌, ap, ◌∙◌}
 use Prim.Native.Nat.{◌+◌, ◌*◌, ◌/◌, ◌%◌}
 use native.Mathlib.Omega.{arith}
 use Rattle.graph.specs.Graph.{Graph, word, is_edge}
-use Rattle.graph.specs.Literals.{graph_in}
 use Rattle.graph.proofs.Words.{readable}
 use Rattle.state.specs.State.{stands}
 use Rattle.trees.proofs.Shown.{fits_kind, shown_is}
 use Rattle.trees.proofs.deciding.shown_bit.Goals as goal
 use Rattle.trees.proofs.deciding.shown_bit.Goals.{Start}
+use Rattle.graph.specs.Tables.{lent_graph}
 
 abbrev graph-of : Start → Graph
-graph-of s = graph_in s.args.inputs s.args.nodes s.args.outputs s.args.node_table.now s.args.node_bits.now s.args.output_table.now s.args.output_bits.now
+graph-of s = lent_graph s.args.lent.now
 
 pub is_xor-xor-requires : goal.is_xor-xor-requires
 is_xor-xor-requires c = readable (graph-of (goal.at.is_xor-xor-requires c).Start) c.requires.0.admitted (c.args.p / 3) (omega (arith, c.requires.1))

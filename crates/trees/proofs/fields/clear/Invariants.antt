@@ -12,6 +12,3 @@ pub record Inv (n : ℕ) (sc₀ sc : List ℕ) (k : ℕ) : Type 0 where
 
 abbrev pub invariant-loop-k : goal.invariant-loop-k
 invariant-loop-k l = Inv l.nodes l.initial.scratch l.scratch l.k
-
-abbrev pub decreases-loop-k : goal.decreases-loop-k
-decreases-loop-k l = 8 * l.nodes - l.k

@@ -5,15 +5,15 @@ use Prim.Native.Nat.{ℕ, ◌+◌, ◌*◌, ◌≤◌}
 use native.Mathlib.Omega.{arith}
 use lib.ListN.{get_or}
 use Rattle.graph.specs.Inner.{three_bits}
-use Rattle.graph.specs.Literals.{literals}
 use Rattle.graph.proofs.Literals.{bit_of_le_lem}
 use Rattle.trees.specs.Filling.{flags_of}
 use Rattle.trees.proofs.Noting.{gathered_at}
 use Rattle.trees.proofs.fill.gather.Goals as goal
 use Rattle.trees.proofs.fill.gather.Goals.{After-three_at, Start}
+use Rattle.graph.specs.Tables.{lent_table}
 
 abbrev table : Start → List ℕ
-table s = literals s.args.table.now s.args.bits.now
+table s = lent_table s.args.table.now
 
 few : (l : List ℕ) (v : ℕ) → three_bits l v ≤ 7
 unfolding three_bits

@@ -6,6 +6,7 @@ use lib.ListN.{length}
 use Rattle.graph.specs.Literals.{literals}
 use Rattle.trees.specs.Filling.{GatheredTo}
 use Rattle.trees.proofs.fill.gather_all.Given as goal
+use Rattle.graph.specs.Tables.{lent_table}
 
 pub record Inv (l : List ℕ) (n : ℕ) (sc₀ sc : List ℕ) (v : ℕ) : Type 0 where
   pub within : v ≤ n
@@ -13,7 +14,4 @@ pub record Inv (l : List ℕ) (n : ℕ) (sc₀ sc : List ℕ) (v : ℕ) : Type 0
   pub done : GatheredTo l n sc₀ sc v
 
 abbrev pub invariant-loop-v : goal.invariant-loop-v
-invariant-loop-v l = Inv (literals l.table l.bits) l.nodes l.initial.scratch l.scratch l.v
-
-abbrev pub decreases-loop-v : goal.decreases-loop-v
-decreases-loop-v l = l.nodes - l.v
+invariant-loop-v l = Inv (lent_table l.table) l.nodes l.initial.scratch l.scratch l.v

@@ -2,9 +2,9 @@
 use mathlib.Core.Path.{◌≡◌, refl, ◌∙◌}
 use native.Mathlib.Omega.{arith}
 use lib.ListN.{get_or}
-use Rattle.graph.specs.Literals.{literals}
 use Rattle.trees.proofs.Noting.{notes_zero, notes_suc, notes_low}
 use Rattle.trees.proofs.fill.note_all.Goals as goal
+use Rattle.graph.specs.Tables.{lent_table}
 
 pub loop-p-init : goal.loop-p-init
 loop-p-init c = record { within = omega arith; same = refl; notes = notes_zero _ _ _ _ _ c.requires.0 }
@@ -24,9 +24,6 @@ note-requires c =
     let v = c.loop-p.invariant in
     (notes_low _ _ _ _ _ p.0 _ _ v.notes (omega (arith, p.1)) v.same, c.odd_at-b.ensures.1)
 
-pub overflow_add-p : goal.overflow_add-p
-overflow_add-p c = omega (arith, c.loop-p.invariant.within)
-
 pub loop-p-smaller : goal.loop-p-smaller
 loop-p-smaller c = omega (arith, c.loop-p.invariant.within)
 
@@ -34,7 +31,7 @@ pub loop-p-preserved : goal.loop-p-preserved
 loop-p-preserved c =
     let a = c.args in
     let l = c.loop-p in
-    let x = get_or (literals a.table.now a.bits.now) l.p 0 in
+    let x = get_or (lent_table a.table.now) l.p 0 in
     record {
       within = omega arith;
       same = c.scratch-1.given ∙ l.invariant.same;

@@ -6,6 +6,7 @@ use lib.ListN.{length}
 use Rattle.graph.specs.Literals.{literals}
 use Rattle.trees.specs.Filling.{Notes}
 use Rattle.trees.proofs.fill.note_all.Given as goal
+use Rattle.graph.specs.Tables.{lent_table}
 
 pub record Inv (i n f : ℕ) (l sc₀ sc : List ℕ) (w p : ℕ) : Type 0 where
   pub within : p ≤ w
@@ -13,7 +14,4 @@ pub record Inv (i n f : ℕ) (l sc₀ sc : List ℕ) (w p : ℕ) : Type 0 where
   pub notes : Notes i n f l sc₀ sc p
 
 abbrev pub invariant-loop-p : goal.invariant-loop-p
-invariant-loop-p l = Inv l.inputs l.nodes l.f (literals l.table l.bits) l.initial.scratch l.scratch l.words l.p
-
-abbrev pub decreases-loop-p : goal.decreases-loop-p
-decreases-loop-p l = l.words - l.p
+invariant-loop-p l = Inv l.inputs l.nodes l.f (lent_table l.table) l.initial.scratch l.scratch l.words l.p

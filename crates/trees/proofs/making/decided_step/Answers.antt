@@ -2,13 +2,13 @@
 -- other edges.
 use native.Mathlib.Omega.{arith}
 use Rattle.graph.specs.Graph.{Graph}
-use Rattle.graph.specs.Literals.{graph_in}
 use Rattle.trees.proofs.Parting.{tree_parted}
 use Rattle.trees.proofs.making.decided_step.Goals as goal
 use Rattle.trees.proofs.making.decided_step.Goals.{Start}
+use Rattle.graph.specs.Tables.{lent_graph}
 
 abbrev graph-of : Start → Graph
-graph-of s = graph_in s.args.inputs s.args.nodes s.args.outputs s.args.node_table.now s.args.node_bits.now s.args.output_table.now s.args.output_bits.now
+graph-of s = lent_graph s.args.lent.now
 
 pub read-before-requires : goal.read-before-requires
 read-before-requires c = let p = c.requires in omega (arith, p.1, p.0.admitted.few_nodes, p.0.long)
@@ -20,4 +20,4 @@ pub returns : goal.returns
 returns c =
     let a = c.args in
     let m = c.make_moves-made.ensures in
-    (m, tree_parted (graph-of (goal.at.returns c).Start) a.locks.now a.scratch.now c.requires.0 a.root c.requires.1 c.requires.2 _ _ m _ _ c.read-before.ensures c.read-after.ensures)
+    (m, tree_parted (graph-of (goal.at.returns c).Start) a.lent.now.locks.now a.scratch.now c.requires.0 a.root c.requires.1 c.requires.2 _ _ m _ _ c.read-before.ensures c.read-after.ensures)

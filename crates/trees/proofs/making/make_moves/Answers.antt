@@ -22,10 +22,10 @@ use Rattle.trees.proofs.Ready.{Ready, ordered_ready, stands_I}
 use Rattle.trees.proofs.Falling.{bound_of, bound_mark, bound_node, next_lower}
 use Rattle.trees.proofs.MakePass.{MadeFrom, made_begin, made_down, made_all, made_step}
 use native.Mathlib.Omega.{arith}
-use Rattle.graph.specs.Literals.{graph_in}
 use Rattle.trees.proofs.making.make_moves.Goals as goal
 use Rattle.trees.proofs.making.make_moves.Goals.{After-read-v, Start}
 use Rattle.trees.proofs.making.make_moves.Invariants.{Inv}
+use Rattle.graph.specs.Tables.{lent_graph}
 
 module _ (g : Graph) (sc₁ : List ℕ) (o : Ordered g sc₁) (r : ℕ) (h : r < g.N) (t : is_root g (node g r) ≡ true) where
   abbrev k : Graph
@@ -102,13 +102,13 @@ module _ (g : Graph) (sc₁ : List ℕ) (o : Ordered g sc₁) (r : ℕ) (h : r <
   as-stands ls td = td
 
 abbrev graph-of : Start → Graph
-graph-of s = graph_in s.args.inputs s.args.nodes s.args.outputs s.args.node_table.now s.args.node_bits.now s.args.output_table.now s.args.output_bits.now
+graph-of s = lent_graph s.args.lent.now
 
 -- what a turn makes
 
 module _ (s : Start) where
-  decided : let a = s.args in let g = graph-of s in TreeDecided (stands g a.scratch.now) a.locks.now (node (stands g a.scratch.now) a.root) a.scratch.now
-  decided = let p = s.requires in as-stands (graph-of s) s.args.scratch.now p.0 s.args.root p.1 p.2 s.args.locks.now p.4
+  decided : let a = s.args in let g = graph-of s in TreeDecided (stands g a.scratch.now) a.lent.now.locks.now (node (stands g a.scratch.now) a.root) a.scratch.now
+  decided = let p = s.requires in as-stands (graph-of s) s.args.scratch.now p.0 s.args.root p.1 p.2 s.args.lent.now.locks.now p.4
 
 loop-both : (c : After-read-v) → Inv (graph-of (goal.at.After-read-v c).Start) c.args.scratch.now c.args.root c.make_move-c.new.scratch c.read-v.result c.make_move-c.result × (bound_of c.read-v.result < bound_of c.loop-v.v)
 loop-both c =

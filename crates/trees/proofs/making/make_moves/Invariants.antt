@@ -11,6 +11,7 @@ use Rattle.trees.proofs.Falling.{bound_of}
 use Rattle.trees.proofs.MakePass.{MadeFrom}
 use Rattle.graph.specs.Literals.{graph_in}
 use Rattle.trees.proofs.making.make_moves.Given as goal
+use Rattle.graph.specs.Tables.{lent_graph}
 
 pub record Inv (g : Graph) (sc₁ : List ℕ) (r : ℕ) (sc : List ℕ) (v now : ℕ) : Type 0 where
   pub mf : MadeFrom (stands g sc₁) sc₁ r (bound_of v) g sc
@@ -18,7 +19,7 @@ pub record Inv (g : Graph) (sc₁ : List ℕ) (r : ℕ) (sc : List ℕ) (v now :
   pub count : now ≡ C (stands g sc)
 
 abbrev pub invariant-loop-v : goal.invariant-loop-v
-invariant-loop-v l = Inv (graph_in l.inputs l.nodes l.outputs l.node_table l.node_bits l.output_table l.output_bits) l.initial.scratch l.root l.scratch l.v l.c
+invariant-loop-v l = Inv (lent_graph l.lent) l.initial.scratch l.root l.scratch l.v l.c
 
 abbrev pub decreases-loop-v : goal.decreases-loop-v
 decreases-loop-v l = bound_of l.v

@@ -3,14 +3,14 @@ use mathlib.Core.Path.{◌≡◌, ◌∙◌}
 use native.Mathlib.Omega.{arith}
 use lib.ListN.{length}
 use Rattle.graph.specs.Graph.{Graph}
-use Rattle.graph.specs.Literals.{literals, graph_in}
 use Rattle.graph.proofs.Words.{readable}
 use Rattle.trees.proofs.Filled.{first_noting, second_noting, gather_few, placed_four, rising_four, filled}
 use Rattle.trees.proofs.start.fill_scratch.Goals as goal
 use Rattle.trees.proofs.start.fill_scratch.Goals.{After-slice_known-6-1, Start}
+use Rattle.graph.specs.Tables.{lent_graph, lent_table}
 
 abbrev graph-of : Start → Graph
-graph-of s = graph_in s.args.inputs s.args.nodes s.args.outputs s.args.node_table.now s.args.node_bits.now s.args.output_table.now s.args.output_bits.now
+graph-of s = lent_graph s.args.lent.now
 
 long : (c : After-slice_known-6-1) → length c.link_all.new.scratch ≡ length c.args.scratch.now
 long c = c.scratch-5-1.given ∙ c.scratch-4-1.given ∙ c.scratch-3-1.given ∙ c.scratch-2-1.given ∙ c.scratch-1.given
@@ -46,7 +46,7 @@ link_all-requires c =
     let a = c.args in (
       p.few_nodes,
       omega (arith, c.requires.1, c.scratch-1.given, c.scratch-2-1.given, c.scratch-3-1.given, c.scratch-4-1.given),
-      rising_four a.inputs a.nodes a.outputs (literals a.node_table.now a.node_bits.now) (literals a.output_table.now a.output_bits.now) p _ _ _ _ c.clear.ensures c.note_all.ensures c.note_all-2.ensures c.gather_all.ensures,
+      rising_four a.lent.now.inputs a.lent.now.nodes a.lent.now.outputs (lent_table a.lent.now.node_table) (lent_table a.lent.now.output_table) p _ _ _ _ c.clear.ensures c.note_all.ensures c.note_all-2.ensures c.gather_all.ensures,
     )
 
 pub shape_of-scratch : goal.shape_of-scratch
@@ -56,8 +56,8 @@ pub returns : goal.returns
 returns c =
     let p = c.requires.0 in
     let a = c.args in
-    let os = literals a.output_table.now a.output_bits.now in
+    let os = lent_table a.lent.now.output_table in
     let k = c.link_all in
-    filled a.inputs a.nodes a.outputs (literals a.node_table.now a.node_bits.now) os p _ _ _ _ c.clear.ensures c.note_all.ensures c.note_all-2.ensures c.gather_all.ensures _ k.ensures.1
+    filled a.lent.now.inputs a.lent.now.nodes a.lent.now.outputs (lent_table a.lent.now.node_table) os p _ _ _ _ c.clear.ensures c.note_all.ensures c.note_all-2.ensures c.gather_all.ensures _ k.ensures.1
     (omega (arith, c.requires.1, long (goal.at.returns c).After-slice_known-6-1))
-    (k.ensures.0 a.inputs a.outputs (literals a.node_table.now a.node_bits.now) os p (placed_four a.inputs a.nodes a.outputs (literals a.node_table.now a.node_bits.now) os p _ _ _ _ c.clear.ensures c.note_all.ensures c.note_all-2.ensures c.gather_all.ensures))
+    (k.ensures.0 a.lent.now.inputs a.lent.now.outputs (lent_table a.lent.now.node_table) os p (placed_four a.lent.now.inputs a.lent.now.nodes a.lent.now.outputs (lent_table a.lent.now.node_table) os p _ _ _ _ c.clear.ensures c.note_all.ensures c.note_all-2.ensures c.gather_all.ensures))

@@ -4,6 +4,3 @@ use Rattle.vectors.proofs.read.fill_longs.Given as goal
 
 abbrev pub invariant-loop-i : goal.invariant-loop-i
 invariant-loop-i g l = (l.i ≤ l.end) × (l.end ≤ length l.initial.space) × (length l.space ≡ length l.initial.space)
-
-abbrev pub decreases-loop-i : goal.decreases-loop-i
-decreases-loop-i g l = l.end - l.i

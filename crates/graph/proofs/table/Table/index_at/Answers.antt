@@ -2,14 +2,14 @@
 use Rattle.std.proofs.Common.{arith}
 use Rattle.graph.specs.Literals.{bit_at, index_at}
 use Rattle.graph.proofs.Literals.{bit_at_le, index_at_le, literal_names, held_at, held_literals}
-use Rattle.graph.proofs.table.index_at.Goals as goal
+use Rattle.graph.proofs.table.Table.index_at.Goals as goal
 
 pub raw_at-requires : goal.raw_at-requires
-raw_at-requires c = let a = c.args in omega (arith, held_literals a.table.now a.bits.now)
+raw_at-requires c = let a = c.args in omega (arith, held_literals a.self.now.indices.now a.self.now.bits.now)
 
 pub returns : goal.returns
 returns c =
     let a = c.args in
-    let us = a.table.now in
-    let bs = a.bits.now in
+    let us = a.self.now.indices.now in
+    let bs = a.self.now.bits.now in
     rw (c.raw_at.ensures, held_at us bs a.j c.requires) (literal_names (index_at us a.j) (bit_at bs a.j) (index_at_le us a.j) (bit_at_le bs a.j))
