@@ -1,12 +1,14 @@
 -- Answers that go by a number: what they come to at a fault and without one, and that the numbers of an admission are at most 13.
 -- Assumes nothing.
-use Rattle.std.proofs.Common.{◌≡◌, ℕ, zero, suc, ◌≤◌, ltb, ◌≢◌, List, refl, ap, ⊎_elim, arith}
+use Rattle.std.proofs.Common.{◌≡◌, ℕ, zero, suc, ◌≤◌, ltb, ◌≢◌, List, refl, ap, sym, ◌∙◌, ⊎_elim, arith, Result, Ok, Err}
+use Rattle.std.specs.Result.{IsErrAnd}
+use Rattle.std.proofs.lemmas.Result.{err_from_is_err_and}
 use Rattle.graph.specs.Finite.{if_less, if_equal, first, first_of}
 use Rattle.graph.specs.Graph.{Graph, is_edge}
 use Rattle.graph.specs.Admission.{room_number, tables_number, word_number, output_number, stray_number, strays_number, literal_number, lock_number, locks_number, content_number, admission_number}
 use Rattle.graph.proofs.Cases.{cond_le, eq_or_ne}
-use Rattle.graph.proofs.Tests.{equal, unequal}
-use Rattle.graph.specs.Answer.{Answer, Outcome, LockedOutcome, number_of, refused, outcome, locked_outcome, unless, guarded, guarded_locks}
+use Rattle.graph.proofs.Tests.{equal, unequal, fault}
+use Rattle.graph.specs.Answer.{Answer, Outcome, LockedOutcome, number_of, refusal_number, answer_by, refused, outcome, locked_outcome, unless, guarded, guarded_locks}
 use Rattle.graph.specs.Inner.{IsRefusal}
 use Rattle.graph.specs.declared.Refusal.{Refusal}
 use Rattle.graph.specs.declared.Refusal.TheVariants.{MissingBytes, WrongField, OverLimit, ShortSlice, BadLiteral, ExtraBytes, NoSuchNode, ShortScratch, ShortBuffer, BadText, HasLatches, WrongNumbering, BadLock, NotRising, NoSuchMove, LockedNode, ManyInputs, BadWanted, StagesDiffer}
@@ -43,6 +45,22 @@ pub accepted_is : (m : ℕ) (a : Answer) → m ≡ 0 → a ≡ unless m a
 unfolding unless
 accepted_is zero a e = refl
 accepted_is (suc m) a e = absurd (omega arith)
+
+-- a check by whose refusal a row of checks ends, or a call: the row is refused by the first fault, and the call by its number
+pub ends_row : {T : Type 0} (r : Result T Refusal) (x : Refusal) (a b : ℕ) → IsErrAnd r (λ y. y ≡ x) → number_of x ≡ a → refusal_number r ≡ first a b
+ends_row r x a b e n =
+    let p = err_from_is_err_and r e in
+    rw (p.1, p.2) (fault a b n (λ z. number_some x (n ∙ z)))
+
+pub ends_call : {T : Type 0} (f : T → Answer) (r : Result T Refusal) (x : Refusal) (m : ℕ) (a : Answer) → IsErrAnd r (λ y. y ≡ x) → number_of x ≡ m → answer_by f r ≡ unless m a
+ends_call f r x m a e n =
+    let p = err_from_is_err_and r e in
+    rw (p.1, p.2) (refused_is (number_of x) m a n (λ z. number_some x (n ∙ z)))
+
+-- a check whose answer is the call's
+pub answered : {T : Type 0} (f : T → Answer) (r : Result T Refusal) (m : ℕ) (a : Answer) → refusal_number r ≡ m → ((x : T) → r ≡ Ok x → f x ≡ a) → answer_by f r ≡ unless m a
+answered f (Ok x) m a e h = h x refl ∙ accepted_is m a (sym e)
+answered f (Err x) m a e h = refused_is (number_of x) m a e (λ z. number_some x (e ∙ z))
 
 -- the same with the graph afterwards
 pub refused_outcome : (k m : ℕ) (g : Graph) (o : Outcome) → k ≡ m → (m ≡ 0 → ⊥) → outcome (refused k) g ≡ guarded m g o

@@ -38,6 +38,12 @@ unfolding first
 none zero b z e = e
 none (suc a) b z e = absurd (omega arith)
 
+-- the first of three faults, by twos
+pub first_first : (a b d : ℕ) → first (first a b) d ≡ first a (first b d)
+unfolding first
+first_first zero b d = refl
+first_first (suc a) b d = refl
+
 -- and back: a chain of tests that comes to 0 has gone by each of its faults
 off_by : (t : Bool) (a b k x : ℕ) → ltb a b ≡ t → if_less a b (suc k) x ≡ 0 → (b ≤ a) × (x ≡ 0)
 unfolding if_less

@@ -1,10 +1,8 @@
 -- What calls answer: document 01's number, and the values returned.
-use Rattle.std.specs.Prelude.{◌≢◌, ◌≡◌, ◌∷◌, ◌+ℤ◌}
+use Rattle.std.specs.Prelude.{◌≢◌, ◌≡◌, ◌∷◌, ◌+ℤ◌, Result, Ok, Err, ⊤}
 use Rattle.graph.specs.Words.{ℕ, zero, suc, List, [], get_or, ℤ, pos}
-use Rattle.graph.specs.{Graph.Graph, declared.Refusal.Refusal, declared.Admission.Admission, declared.Count.Count}
+use Rattle.graph.specs.{Graph.Graph, declared.Refusal.Refusal}
 use Rattle.graph.specs.declared.Refusal.TheVariants.{MissingBytes, WrongField, OverLimit, ShortSlice, BadLiteral, ExtraBytes, NoSuchNode, ShortScratch, ShortBuffer, BadText, HasLatches, WrongNumbering, BadLock, NotRising, NoSuchMove, LockedNode, ManyInputs, BadWanted, StagesDiffer}
-use Rattle.graph.specs.declared.Admission.TheVariants as admission
-use Rattle.graph.specs.declared.Count.TheVariants as counted
 
 -- document 01's number of each refusal, and document 02's
 abbrev pub number_of : Refusal → ℕ
@@ -27,6 +25,11 @@ number_of LockedNode = 16
 number_of ManyInputs = 17
 number_of BadWanted = 18
 number_of StagesDiffer = 19
+
+-- the number of what refuses a call, 0 where nothing does
+abbrev pub refusal_number : {T : Type 0} → Result T Refusal → ℕ
+refusal_number (Ok x) = 0
+refusal_number (Err r) = number_of r
 
 -- a call's answer: the number, 0 where it is accepted, and the values that it then returns beside it, with the signed ones apart
 pub record Answer : Type 0 where
@@ -63,14 +66,17 @@ unfoldable pub unless : ℕ → Answer → Answer
 unless zero a = a
 unless (suc k) a = refused (suc k)
 
--- what an admission check and a count of complemented edges answer
-abbrev pub admission_answer : Admission → Answer
-admission_answer admission.Admitted = accepted []
-admission_answer (admission.Refused r) = refused (number_of r)
+-- what a call answers that returns a value or is refused: as an answer, where f tells the value
+abbrev pub answer_by : {T : Type 0} → (T → Answer) → Result T Refusal → Answer
+answer_by f (Ok x) = f x
+answer_by f (Err r) = refused (number_of r)
 
-abbrev pub count_answer : Count → Answer
-count_answer (counted.Edges c) = accepted (c ∷ [])
-count_answer (counted.Refused r) = refused (number_of r)
+-- what an admission check and a count of complemented edges answer
+abbrev pub admission_answer : {T : Type 0} → Result T Refusal → Answer
+admission_answer = answer_by (λ _. accepted [])
+
+abbrev pub count_answer : Result ℕ Refusal → Answer
+count_answer = answer_by (λ c. accepted (c ∷ []))
 
 -- an answer with the graph as the call leaves it
 pub record Outcome : Type 0 where

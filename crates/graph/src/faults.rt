@@ -1,9 +1,9 @@
-// Which of the numbers 3, 4, 5 and 13 refuses a graph with its locks, 0 being none; the refusal of each number, and its number.
+// Whether a graph with its locks is refused, by 3, 4, 5 or 13; and the number of each refusal.
 ghost use Rattle.std.specs.Prelude.{◌≡◌, ℕ, ◌+◌, ◌*◌, ◌/◌, ◌<◌, ◌≤◌, max, List, length};
 ghost use Rattle.graph.specs.Finite.{first, first_of, if_less, if_equal, sum};
 ghost use Rattle.graph.specs.Graph.{graph_of, mark};
 ghost use Rattle.graph.specs.Admission.{room_number, word_number, output_number, stray_number, literal_number, locks_number, content_number, tables_number, admission_number};
-ghost use Rattle.graph.specs.Answer.{number_of};
+ghost use Rattle.graph.specs.Answer.{number_of, refusal_number};
 ghost use Rattle.graph.specs.Inner.{over_at, high_node, fault_at, Counts, IsRefusal};
 ghost use Rattle.graph.specs.Literals.{index_at, held, literals};
 ghost use Rattle.graph.specs.Tables.{lent_graph, lent_table};
@@ -13,35 +13,35 @@ use crate::table::{Table, bit_at, ones_from, raw_at, room_of, thirds_at};
 use crate::{Lent, Refusal};
 
 // By the limits, by the literals that the lent tables hold, and by the lock bytes.
-pub fn room_number(
+pub fn check_room(
     inputs: u32,
     nodes: u32,
     outputs: u32,
     node_room: usize,
     output_room: usize,
     lock_room: usize,
-) -> u32
-    ensures { result ≡ room_number inputs nodes outputs node_room output_room lock_room }
+) -> Result<(), Refusal>
+    ensures { refusal_number result ≡ room_number inputs nodes outputs node_room output_room lock_room }
 {
     if 4096 < inputs {
-        return 3;
+        return Err(Refusal::OverLimit);
     }
     if 100000 < nodes {
-        return 3;
+        return Err(Refusal::OverLimit);
     }
     if 4096 < outputs {
-        return 3;
+        return Err(Refusal::OverLimit);
     }
     if node_room < 3 * nodes as usize {
-        return 4;
+        return Err(Refusal::ShortSlice);
     }
     if output_room < outputs as usize {
-        return 4;
+        return Err(Refusal::ShortSlice);
     }
     if lock_room < nodes as usize {
-        return 4;
+        return Err(Refusal::ShortSlice);
     }
-    0
+    Ok(())
 }
 
 // 1 where the index x is above `last`, else 0: a number, so that no sweep jumps by it.
@@ -134,24 +134,24 @@ pub fn rest_faults(inputs: u32, nodes: u32, node_table: &Table) -> u32
     c
 }
 
-// 5 where something is counted.
-fn if_any(count: u32) -> u32
-    ensures { result ≡ if_less 0 count 5 0 }
+// Refused by 5 where something is counted.
+fn check_none(count: u32) -> Result<(), Refusal>
+    ensures { refusal_number result ≡ if_less 0 count 5 0 }
 {
     if 0 < count {
-        return 5;
+        return Err(Refusal::BadLiteral);
     }
-    0
+    Ok(())
 }
 
-pub fn nodes_number(inputs: u32, nodes: u32, node_table: &Table) -> u32
+pub fn check_nodes(inputs: u32, nodes: u32, node_table: &Table) -> Result<(), Refusal>
     requires { (inputs ≤ 4096) × (nodes ≤ 100000) × (3 * nodes ≤ held (lent_table node_table.now)) }
     ensures { let ns = lent_table node_table.now in
-        ((o : ℕ) (os : List ℕ) → result ≡ first_of (3 * nodes) (word_number (graph_of inputs nodes o ns os))) }
+        ((o : ℕ) (os : List ℕ) → refusal_number result ≡ first_of (3 * nodes) (word_number (graph_of inputs nodes o ns os))) }
 {
     let fours = four_faults(inputs, nodes, node_table);
     let rest = rest_faults(inputs, nodes, node_table);
-    if_any(fours + rest)
+    check_none(fours + rest)
 }
 
 // How many of the outputs name an index above `last`.
@@ -166,54 +166,53 @@ pub fn high_outputs(last: u32, outputs: u32, output_table: &[u32]) -> u32
     c
 }
 
-pub fn outputs_number(inputs: u32, nodes: u32, outputs: u32, output_table: &Table) -> u32
+pub fn check_outputs(
+    inputs: u32,
+    nodes: u32,
+    outputs: u32,
+    output_table: &Table,
+) -> Result<(), Refusal>
     requires { (inputs ≤ 4096) × (nodes ≤ 100000) × (outputs ≤ 4096) × (outputs ≤ held (lent_table output_table.now)) }
     ensures { let os = lent_table output_table.now in
-        ((ns : List ℕ) → result ≡ first_of outputs (output_number (graph_of inputs nodes outputs ns os))) }
+        ((ns : List ℕ) → refusal_number result ≡ first_of outputs (output_number (graph_of inputs nodes outputs ns os))) }
 {
-    if_any(high_outputs(inputs + nodes, outputs, output_table.indices))
+    check_none(high_outputs(inputs + nodes, outputs, output_table.indices))
 }
 
 // A bit is set past the last of n literals, in its word.
-pub fn stray_number(n: usize, bits: &[u64]) -> u32
+pub fn check_strays(n: usize, bits: &[u64]) -> Result<(), Refusal>
     requires { n ≤ 64 * length bits.now }
-    ensures { (us : List ℕ) → result ≡ stray_number n (literals us bits.now) }
+    ensures { (us : List ℕ) → refusal_number result ≡ stray_number n (literals us bits.now) }
 {
     if n % 64 == 0 {
-        return 0;
+        return Ok(());
     }
     if ones_from(bits, n) != 0 {
-        return 5;
+        return Err(Refusal::BadLiteral);
     }
-    0
+    Ok(())
 }
 
-pub fn words_number(lent: &Lent) -> u32
+pub fn check_words(lent: &Lent) -> Result<(), Refusal>
     requires { let ns = lent_table lent.now.node_table in
         let os = lent_table lent.now.output_table in
         (lent.now.inputs ≤ 4096) × (lent.now.nodes ≤ 100000) × (lent.now.outputs ≤ 4096) × (3 * lent.now.nodes ≤ held ns) × (lent.now.outputs ≤ held os) }
-    ensures { result ≡ first (first_of (3 * lent.now.nodes) (word_number (lent_graph lent.now))) (first_of lent.now.outputs (output_number (lent_graph lent.now))) }
+    ensures { refusal_number result ≡ first (first_of (3 * lent.now.nodes) (word_number (lent_graph lent.now))) (first_of lent.now.outputs (output_number (lent_graph lent.now))) }
 {
-    let k = nodes_number(lent.inputs, lent.nodes, &lent.node_table);
-    if k != 0 {
-        return k;
-    }
-    outputs_number(lent.inputs, lent.nodes, lent.outputs, &lent.output_table)
+    check_nodes(lent.inputs, lent.nodes, &lent.node_table)?;
+    check_outputs(lent.inputs, lent.nodes, lent.outputs, &lent.output_table)
 }
 
 // By the bits past the last literals, then by the literals.
-pub fn literal_number(lent: &Lent) -> u32
+pub fn check_literals(lent: &Lent) -> Result<(), Refusal>
     requires { let ns = lent_table lent.now.node_table in
         let os = lent_table lent.now.output_table in
         (lent.now.inputs ≤ 4096) × (lent.now.nodes ≤ 100000) × (lent.now.outputs ≤ 4096) × (3 * lent.now.nodes ≤ held ns) × (lent.now.outputs ≤ held os) }
-    ensures { result ≡ literal_number (lent_graph lent.now) }
+    ensures { refusal_number result ≡ literal_number (lent_graph lent.now) }
 {
-    let strays = first_fault(
-        stray_number(3 * lent.nodes as usize, lent.node_table.bits),
-        stray_number(lent.outputs as usize, lent.output_table.bits),
-    );
-    let words = words_number(lent);
-    first_fault(strays, words)
+    check_strays(3 * lent.nodes as usize, lent.node_table.bits)?;
+    check_strays(lent.outputs as usize, lent.output_table.bits)?;
+    check_words(lent)
 }
 
 fn greater(a: u8, b: u8) -> u8
@@ -226,9 +225,9 @@ fn greater(a: u8, b: u8) -> u8
 }
 
 // By the greatest lock byte: that takes no jump a byte.
-pub fn locks_number(nodes: u32, locks: &[u8]) -> u32
+pub fn check_locks(nodes: u32, locks: &[u8]) -> Result<(), Refusal>
     requires { nodes ≤ length locks.now }
-    ensures { result ≡ locks_number nodes locks.now }
+    ensures { refusal_number result ≡ locks_number nodes locks.now }
 {
     let end = nodes as usize;
     let mut most: u8 = 0;
@@ -236,25 +235,25 @@ pub fn locks_number(nodes: u32, locks: &[u8]) -> u32
         most = greater(most, locks[v]);
     }
     if 1 < most {
-        return 13;
+        return Err(Refusal::BadLock);
     }
-    0
+    Ok(())
 }
 
 // By all literals, then by all locks.
-pub fn content_number(lent: &Lent) -> u32
+pub fn check_content(lent: &Lent) -> Result<(), Refusal>
     requires { tables_number (lent_graph lent.now) lent.now.locks.now ≡ 0 }
-    ensures { result ≡ content_number (lent_graph lent.now) lent.now.locks.now }
+    ensures { refusal_number result ≡ content_number (lent_graph lent.now) lent.now.locks.now }
 {
-    let literals = literal_number(lent);
-    first_fault(literals, locks_number(lent.nodes, lent.locks))
+    check_literals(lent)?;
+    check_locks(lent.nodes, lent.locks)
 }
 
 // By the limits and by what is lent.
-pub fn tables_number(lent: &Lent) -> u32
-    ensures { result ≡ tables_number (lent_graph lent.now) lent.now.locks.now }
+pub fn check_tables(lent: &Lent) -> Result<(), Refusal>
+    ensures { refusal_number result ≡ tables_number (lent_graph lent.now) lent.now.locks.now }
 {
-    room_number(
+    check_room(
         lent.inputs,
         lent.nodes,
         lent.outputs,
@@ -264,14 +263,55 @@ pub fn tables_number(lent: &Lent) -> u32
     )
 }
 
+pub fn check_admission(lent: &Lent) -> Result<(), Refusal>
+    ensures { refusal_number result ≡ admission_number (lent_graph lent.now) lent.now.locks.now }
+{
+    check_tables(lent)?;
+    check_content(lent)
+}
+
 pub fn admission_number(lent: &Lent) -> u32
     ensures { result ≡ admission_number (lent_graph lent.now) lent.now.locks.now }
 {
-    let room = tables_number(lent);
-    if room != 0 {
-        return room;
+    match check_admission(lent) {
+        Ok(()) => 0,
+        Err(refusal) => number_of(refusal),
     }
-    content_number(lent)
+}
+
+pub fn tables_number(lent: &Lent) -> u32
+    ensures { result ≡ tables_number (lent_graph lent.now) lent.now.locks.now }
+{
+    match check_tables(lent) {
+        Ok(()) => 0,
+        Err(refusal) => number_of(refusal),
+    }
+}
+
+pub fn content_number(lent: &Lent) -> u32
+    requires { tables_number (lent_graph lent.now) lent.now.locks.now ≡ 0 }
+    ensures { result ≡ content_number (lent_graph lent.now) lent.now.locks.now }
+{
+    match check_content(lent) {
+        Ok(()) => 0,
+        Err(refusal) => number_of(refusal),
+    }
+}
+
+pub fn room_number(
+    inputs: u32,
+    nodes: u32,
+    outputs: u32,
+    node_room: usize,
+    output_room: usize,
+    lock_room: usize,
+) -> u32
+    ensures { result ≡ room_number inputs nodes outputs node_room output_room lock_room }
+{
+    match check_room(inputs, nodes, outputs, node_room, output_room, lock_room) {
+        Ok(()) => 0,
+        Err(refusal) => number_of(refusal),
+    }
 }
 
 // The first of two faults; 0 is none.

@@ -50,38 +50,17 @@ pub struct Lent<'a> {
     pub locks: &'a [u8],
 }
 
-// What the admission check answers.
-#[derive(Clone, Copy)]
-pub enum Admission {
-    Admitted,
-    Refused(Refusal),
-}
-
-// What the count of complemented edges answers.
-#[derive(Clone, Copy)]
-pub enum Count {
-    Edges(u32),
-    Refused(Refusal),
-}
-
 // Whether a graph in lent tables is one, with its locks, by its limits, its slices' lengths, its literals and its lock bytes, in that order.
-pub fn admit_graph(lent: &Lent) -> Admission
+pub fn admit_graph(lent: &Lent) -> Result<(), Refusal>
     ensures { admission_answer result ≡ unless (admission_number (lent_graph lent.now) lent.now.locks.now) (accepted []) }
 {
-    let k = faults::admission_number(lent);
-    if k != 0 {
-        return Admission::Refused(faults::refused_by(k));
-    }
-    Admission::Admitted
+    faults::check_admission(lent)
 }
 
 // How many edges are complemented: document 01's C.
-pub fn complemented_edges(lent: &Lent) -> Count
+pub fn complemented_edges(lent: &Lent) -> Result<u32, Refusal>
     ensures { count_answer result ≡ unless (admission_number (lent_graph lent.now) lent.now.locks.now) (accepted (C (lent_graph lent.now) ∷ [])) }
 {
-    let k = faults::admission_number(lent);
-    if k != 0 {
-        return Count::Refused(faults::refused_by(k));
-    }
-    Count::Edges(edges::complemented(lent))
+    faults::check_admission(lent)?;
+    Ok(edges::complemented(lent))
 }

@@ -1,10 +1,10 @@
--- `locks_number` meets its contract: what the locks passed come to is by the greatest of their bytes. From the step of that law.
+-- `check_locks` meets its contract: what the locks passed come to is by the greatest of their bytes. From the step of that law.
 use Rattle.std.proofs.Common.{◌≡◌, ℕ, sym, refl, ap, ◌∙◌, arith}
 use Rattle.graph.specs.Finite.{if_less, first_of}
 use Rattle.graph.specs.Admission.{locks_number}
 use Rattle.graph.proofs.Steps.{lock_next}
 use Rattle.graph.proofs.Tests.{less, no_less}
-use Rattle.graph.proofs.faults.locks_number.Goals as goal
+use Rattle.graph.proofs.faults.check_locks.Goals as goal
 
 pub loop-v-init : goal.loop-v-init
 unfolding locks_number first_of if_less

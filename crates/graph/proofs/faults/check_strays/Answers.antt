@@ -1,9 +1,9 @@
--- `stray_number` meets its contract. From the law of the bits past the last literal.
+-- `check_strays` meets its contract. From the law of the bits past the last literal.
 use Rattle.std.proofs.Common.{refl, arith}
 use Rattle.graph.specs.Admission.{stray_number}
 use Rattle.graph.proofs.Counted.{strays_whole}
 use Rattle.graph.proofs.Tests.{less, no_less}
-use Rattle.graph.proofs.faults.stray_number.Goals as goal
+use Rattle.graph.proofs.faults.check_strays.Goals as goal
 
 pub returns-then-n-eq0 : goal.returns-then-n-eq0
 unfolding stray_number

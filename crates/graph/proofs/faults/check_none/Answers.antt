@@ -1,7 +1,7 @@
--- `if_any` meets its contract. From the laws on tests.
+-- `check_none` meets its contract. From the laws on tests.
 use Rattle.std.proofs.Common.{refl, arith}
 use Rattle.graph.proofs.Tests.{less, no_less}
-use Rattle.graph.proofs.faults.if_any.Goals as goal
+use Rattle.graph.proofs.faults.check_none.Goals as goal
 
 pub returns-then-count-gt0 : goal.returns-then-count-gt0
 returns-then-count-gt0 c = less _ _ 5 0 c.if-count-gt0.true refl

@@ -1,8 +1,8 @@
--- `room_number` meets its contract, from the laws on tests.
+-- `check_room` meets its contract, from the laws on tests.
 use Rattle.std.proofs.Common.{refl, arith}
 use Rattle.graph.specs.Admission.{room_number}
 use Rattle.graph.proofs.Tests.{less, no_less}
-use Rattle.graph.proofs.faults.room_number.Goals as goal
+use Rattle.graph.proofs.faults.check_room.Goals as goal
 
 pub returns-then-inputs-gt4096 : goal.returns-then-inputs-gt4096
 unfolding room_number

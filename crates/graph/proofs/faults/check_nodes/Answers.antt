@@ -1,4 +1,4 @@
--- `nodes_number` meets its contract: 5 where a word is at fault. From the law of counted faults.
+-- `check_nodes` meets its contract: 5 where a word is at fault. From the law of counted faults.
 use Rattle.std.proofs.Common.{ℕ, ◌+◌, ◌*◌, ◌/◌, sym, ◌∙◌, arith}
 use Rattle.graph.specs.Finite.{sum}
 use Rattle.graph.specs.Inner.{fault_at}
@@ -7,7 +7,7 @@ use Rattle.graph.specs.Graph.{graph_of}
 use Rattle.graph.specs.Admission.{word_number}
 use Rattle.graph.proofs.Checked.{counted_first, counts_any, counts_more, word_counted}
 use Rattle.graph.proofs.Literals.{held_literals}
-use Rattle.graph.proofs.faults.nodes_number.Goals as goal
+use Rattle.graph.proofs.faults.check_nodes.Goals as goal
 
 pub four_faults-fours-requires : goal.four_faults-fours-requires
 four_faults-fours-requires c = let a = c.args in omega (arith, held_literals a.node_table.now.indices.now a.node_table.now.bits.now)
@@ -26,7 +26,7 @@ returns c o os =
     let f : ℕ → ℕ = fault_at a.inputs us bs in
     let p = c.four_faults-fours in
     let q = c.rest_faults-rest in
-    c.if_any.ensures
+    c.check_none.ensures
     ∙ counts_any (sum (3 * a.nodes) f) (p.result + q.result) (counts_more (sum (12 * (a.nodes / 4)) f) p.result (sum (3 * a.nodes) f) q.result p.ensures.0 q.ensures.0)
     ∙ sym (counted_first (3 * a.nodes) (word_number (graph_of a.inputs a.nodes o (literals us bs) os)) f
     (λ j h. word_counted a.inputs a.nodes o us bs os c.requires.0 j (omega (arith, c.requires.2)) (omega (arith, c.requires.1))))

@@ -1,8 +1,0 @@
--- `tables_number` meets its contract. From its callees' contracts.
-use Rattle.std.proofs.Common.{◌∙◌}
-use Rattle.graph.specs.Admission.{tables_number}
-use Rattle.graph.proofs.faults.tables_number.Goals as goal
-
-pub returns : goal.returns
-unfolding tables_number
-returns c = c.room_number.ensures ∙ rw (c.room_of-2.ensures, c.room_of.ensures)
