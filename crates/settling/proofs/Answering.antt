@@ -6,12 +6,16 @@ use lib.IntN.{ℤ}
 use Rattle.graph.specs.Graph.{Graph}
 use Rattle.graph.specs.Count.{C}
 use Rattle.graph.specs.Admission.{Admitted, LockBytes}
-use Rattle.graph.specs.Answer.{Answer, refused, gained, outcome}
+use Rattle.std.specs.Prelude.{Result}
+use Rattle.std.specs.Result.{IsErrAnd}
+use Rattle.std.proofs.lemmas.Result.{err_from_is_err_and}
+use Rattle.graph.specs.Answer.{Answer, number_of, answer_by, gained, outcome}
+use Rattle.graph.specs.declared.Refusal.{Refusal}
 use Rattle.graph.specs.Finite.{difference}
 use Rattle.graph.proofs.DifferenceSum.{part_by}
 use Rattle.graph.proofs.Tests.{both, off}
 use Rattle.graph.proofs.Admit.{admitted, locks_admitted}
-use Rattle.graph.proofs.Answers.{refused_outcome, accepted_outcome}
+use Rattle.graph.proofs.Answers.{number_some, refused_outcome, accepted_outcome}
 use Rattle.moves.specs.Call.{scratch_fault}
 use Rattle.state.specs.State.{stands}
 use Rattle.rounds.specs.Round.{Progress}
@@ -56,6 +60,9 @@ settled_outcome g h ls s r t z a e =
 pub settled_number : (r : Figures) (a : Answer) → a ≡ figured r → a.number ≡ 0
 settled_number r a e = ap (λ (x : Answer). x.number) e
 
-pub refused_settling : (g : Graph) (ls : List ℕ) (s k : ℕ) → k ≡ settle_number g ls s → (settle_number g ls s ≡ 0 → ⊥) → outcome (refused k) g ≡ settle_call g ls s
+-- a check by whose refusal settling ends
+pub ends_settling : {T : Type 0} (f : T → Answer) (r : Result T Refusal) (x : Refusal) (g : Graph) (ls : List ℕ) (s : ℕ) → IsErrAnd r (λ y. y ≡ x) → number_of x ≡ settle_number g ls s → outcome (answer_by f r) g ≡ settle_call g ls s
 unfolding settle_call
-refused_settling g ls s k e n = refused_outcome k (settle_number g ls s) g _ e n
+ends_settling f r x g ls s e n =
+    let p = err_from_is_err_and r e in
+    rw (p.1, p.2) (refused_outcome (number_of x) (settle_number g ls s) g _ n (λ z. number_some x (n ∙ z)))

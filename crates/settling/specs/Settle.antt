@@ -1,9 +1,12 @@
 -- What settling answers, as document 01's number and values.
-use Rattle.std.specs.Prelude.{◌∷◌}
-use Rattle.graph.specs.All.{[], Answer, refused, gained, number_of}
+use Rattle.std.specs.Prelude.{◌∷◌, Result}
+use Rattle.graph.specs.All.{[], Answer, gained}
+use Rattle.graph.specs.Answer.{answer_by}
+use Rattle.graph.specs.declared.Refusal.{Refusal}
 use Rattle.settling.specs.declared.Settled.{Settled}
-use Rattle.settling.specs.declared.Settled.TheVariants as answer
 
-abbrev pub settled_answer : Settled → Answer
-settled_answer (answer.Rounds n before later own others) = gained (n ∷ before ∷ later ∷ []) own others
-settled_answer (answer.Refused r) = refused (number_of r)
+abbrev pub rounds_answer : Settled → Answer
+rounds_answer s = gained (s.rounds ∷ s.before ∷ s.after ∷ []) s.own s.others
+
+abbrev pub settled_answer : Result Settled Refusal → Answer
+settled_answer = answer_by rounds_answer

@@ -1,20 +1,17 @@
-// Which of the numbers 3, 4, 5, 13 and 8 refuses a settling; 0 is none.
-ghost use Rattle.std.specs.Prelude.{◌≡◌, ◌≤◌};
+// What refuses a settling: what the admission check refuses, then short scratch.
+ghost use Rattle.std.specs.Prelude.{◌≡◌};
+ghost use Rattle.graph.specs.Answer.{refusal_number};
 ghost use Rattle.rounds.specs.Settle.{settle_number};
 ghost use Rattle.graph.specs.Tables.{lent_graph};
 
-use graph::Lent;
+use graph::{Lent, Refusal};
 
-pub fn settle_number(lent: &Lent, words: usize) -> u32
-    ensures { let g = lent_graph lent.now in
-        (result ≡ settle_number g lent.now.locks.now words) × (result ≤ 13) }
+pub fn check_settling(lent: &Lent, words: usize) -> Result<(), Refusal>
+    ensures { refusal_number result ≡ settle_number (lent_graph lent.now) lent.now.locks.now words }
 {
-    let k = graph::faults::admission_number(lent);
-    if k != 0 {
-        return k;
-    }
+    graph::faults::check_admission(lent)?;
     if words < 8 * lent.nodes as usize {
-        return 8;
+        return Err(Refusal::ShortScratch);
     }
-    0
+    Ok(())
 }

@@ -4,7 +4,7 @@ ghost use Rattle.std.specs.Prelude.{◌≡◌, length};
 ghost use Rattle.graph.specs.Answer.{outcome, ScratchKept};
 ghost use Rattle.graph.specs.Literals.{graph_in};
 ghost use Rattle.rounds.specs.Settle.{settle_call};
-ghost use Rattle.settling.specs.Settle.{settled_answer};
+ghost use Rattle.settling.specs.Settle.{rounds_answer, settled_answer};
 ghost use Rattle.settling.specs.Phase.{Fair, figured};
 
 mod all;
@@ -12,33 +12,29 @@ mod faults;
 mod phases;
 
 use graph::table::Table;
-use graph::{Lent, signed};
+use graph::{Lent, Refusal, signed};
 
-// What settling answers.
+// What settling answers: the rounds made, the last one included, with C before and after, and what their calls saved, over the words of
+// the nodes that each names and over all other edges.
 #[derive(Clone, Copy)]
-pub enum Settled {
-    // The rounds made, the last one included, with C before and after, and what their calls saved, over the words of the nodes that
-    // each names and over all other edges.
-    Rounds {
-        rounds: u32,
-        before: u32,
-        after: u32,
-        own: i64,
-        others: i64,
-    },
-    Refused(graph::Refusal),
+pub struct Settled {
+    pub rounds: u32,
+    pub before: u32,
+    pub after: u32,
+    pub own: i64,
+    pub others: i64,
 }
 
 // Both sums from the figures: together they are what C has fallen by.
 fn settled_by(figures: all::Figures) -> Settled
     requires { Fair figures }
-    ensures { settled_answer result ≡ figured figures }
+    ensures { rounds_answer result ≡ figured figures }
 {
     let before = figures.before as u64 + figures.later;
     let after = figures.after as u64 + figures.odd;
     let own = signed::less(before, after);
     let others = signed::less(figures.odd, figures.later);
-    Settled::Rounds {
+    Settled {
         rounds: figures.rounds,
         before: figures.before,
         after: figures.after,
@@ -58,7 +54,7 @@ pub fn settle<'x>(
     output_bits: &'x mut [u64],
     locks: &'x [u8],
     scratch: &mut [u32],
-) -> Settled
+) -> Result<Settled, Refusal>
     ensures call { let g = graph_in inputs nodes outputs node_table.now node_bits.old output_table.now output_bits.old in
         let k = graph_in inputs nodes outputs node_table.now node_bits.new output_table.now output_bits.new in
         outcome (settled_answer result) k ≡ settle_call g locks.now (length scratch.old) }
@@ -78,10 +74,7 @@ pub fn settle<'x>(
         },
         locks,
     };
-    let refusal = faults::settle_number(&lent, scratch.len());
-    if refusal != 0 {
-        return Settled::Refused(graph::faults::refused_by(refusal));
-    }
+    faults::check_settling(&lent, scratch.len())?;
     let figures = all::settle_admitted(
         inputs,
         nodes,
@@ -93,5 +86,5 @@ pub fn settle<'x>(
         locks,
         scratch,
     );
-    settled_by(figures)
+    Ok(settled_by(figures))
 }
