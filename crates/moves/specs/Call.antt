@@ -1,11 +1,10 @@
 -- The node, pair and tree calls on a graph g with the locks ls, which no call changes: one notion of best, at three lists of nodes, with its saving
 -- in two parts, over the words of the nodes that the call names and over all other edges. And the trial: what two moves on a pair would save.
-use Rattle.std.specs.Prelude.{◌+◌, ◌-◌, ◌*◌, ◌/◌, ◌&&◌, ◌∷◌}
-use Rattle.graph.specs.All.{ℕ, Bool, true, false, cond, List, [], map, eqb, ltb, leb, ℤ, pos, if_less, if_equal, first, Graph, node, word, index, is_xor, C, admission_number, Answer, refused, gained, number_of, Outcome, outcome, guarded, sum, node_adds, output_adds, difference, whole, unless}
+use Rattle.std.specs.Prelude.{◌+◌, ◌-◌, ◌*◌, ◌/◌, ◌&&◌, ◌∷◌, Result}
+use Rattle.graph.specs.All.{ℕ, Bool, true, false, cond, List, [], map, eqb, ltb, leb, ℤ, pos, if_less, if_equal, first, Graph, node, word, index, is_xor, C, admission_number, Answer, gained, Outcome, outcome, guarded, sum, node_adds, output_adds, difference, whole, unless}
 use Rattle.choice.specs.All.{best}
-use Rattle.moves.specs.{Rows.kind_moves, Rows.lock_at, Rows.moves_at, Apply.none, Apply.put, Apply.apply, Tree.is_root, Tree.tree, declared.Saving.Saving, declared.Gain.Gain}
-use Rattle.moves.specs.declared.Saving.TheVariants as saving
-use Rattle.moves.specs.declared.Gain.TheVariants as gain
+use Rattle.moves.specs.{Rows.kind_moves, Rows.lock_at, Rows.moves_at, Apply.none, Apply.put, Apply.apply, Tree.is_root, Tree.tree, declared.Saving.Saving}
+use Rattle.graph.specs.{Answer.answer_by, declared.Refusal.Refusal}
 
 -- w is one of the list
 unfoldable pub among : List ℕ → ℕ → Bool
@@ -29,9 +28,11 @@ unfoldable pub split : List ℕ → Graph → Graph → Split
 split us g h = record { own = difference (own_adds g us) (own_adds h us); others = difference (other_adds g us) (other_adds h us) }
 
 -- what a node, pair or tree call answers
-abbrev pub saving_answer : Saving → Answer
-saving_answer (saving.Saved own others) = gained [] own others
-saving_answer (saving.Refused r) = refused (number_of r)
+abbrev pub told_saving : Saving → Answer
+told_saving s = gained [] s.own s.others
+
+abbrev pub saving_answer : Result Saving Refusal → Answer
+saving_answer = answer_by told_saving
 
 -- the graph after the moves ms at the nodes us
 unfoldable pub moved : Graph → List ℕ → List ℕ → Graph
@@ -117,9 +118,8 @@ unfoldable pub tree_call : Graph → List ℕ → ℕ → ℕ → Outcome
 tree_call g ls s r = guarded (tree_number g ls s r) g (rewrite g ls (tree g r))
 
 -- what a call answers that tells its saving in one number
-abbrev pub gain_answer : Gain → Answer
-gain_answer (gain.Whole z) = whole z
-gain_answer (gain.Refused r) = refused (number_of r)
+abbrev pub gain_answer : Result ℤ Refusal → Answer
+gain_answer = answer_by whole
 
 -- what refuses a trial of move a at the node that word k of node u names, and of move m at u: what refuses the pair call, then move a,
 -- then move m. A word that names no node asks nothing of move a

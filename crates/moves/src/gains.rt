@@ -1,7 +1,7 @@
 // A saving in two parts: over the words of the nodes that a call names, and over all other edges, of which only those change that
 // name one of these nodes.
 ghost use Rattle.std.specs.Prelude.{◌≡◌, ◌<◌, ◌≤◌};
-ghost use Rattle.moves.specs.Call.{saving_answer};
+ghost use Rattle.moves.specs.Call.{told_saving};
 ghost use Rattle.moves.specs.Decide.{Counted};
 ghost use Rattle.moves.specs.Outside.{odd_by, between_by, NodeOdds, PairOdds, saved_by};
 
@@ -62,12 +62,12 @@ pub fn pair_odds(named: NodeNumbers, node: NodeNumbers, which: [u32; 3], a: u32,
 
 // C before and after a call, or both up to one number, and the odd edges outside.
 pub fn saved_by(before: u32, after: u32, odds: Odds) -> Saving
-    ensures { saving_answer result ≡ saved_by before after odds.before odds.after }
+    ensures { told_saving result ≡ saved_by before after odds.before odds.after }
 {
     let own = signed::less(
         before as u64 + odds.after as u64,
         after as u64 + odds.before as u64,
     );
     let others = signed::less(odds.before as u64, odds.after as u64);
-    Saving::Saved { own, others }
+    Saving { own, others }
 }

@@ -1,5 +1,5 @@
 -- `best_numbered` meets its contract. From the laws on combinations by number.
-use Rattle.std.proofs.Common.{◌-◌, ◌≤◌}
+use Rattle.std.proofs.Common.{◌≤◌}
 use Rattle.moves.specs.Pair.{GreatestBelow}
 use Rattle.moves.proofs.decide.best_numbered.Given as goal
 

@@ -1,6 +1,5 @@
 -- `count_names` meets its contract: the words passed are tallied. From the laws on tallies.
-use Rattle.std.proofs.Common.{◌-◌, ◌≤◌}
-use Rattle.graph.specs.Literals.{literals}
+use Rattle.std.proofs.Common.{◌≤◌}
 use Rattle.moves.specs.Decide.{Tallied}
 use Rattle.moves.proofs.reading.count_names.Given as goal
 use Rattle.graph.specs.Tables.{lent_table}

@@ -1,6 +1,6 @@
 -- `readers_of` meets its contract. From the laws on tallies.
 use Rattle.std.proofs.Common.{◌*◌, arith}
-use Rattle.graph.specs.Graph.{Graph, graph_of}
+use Rattle.graph.specs.Graph.{Graph}
 use Rattle.moves.proofs.Tally.{tally_le, read_is}
 use Rattle.moves.proofs.reading.readers_of.Goals as goal
 use Rattle.graph.specs.Tables.{lent_graph, lent_table}

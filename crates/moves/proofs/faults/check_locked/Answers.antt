@@ -1,7 +1,7 @@
--- `locked_fault` meets its contract. From the laws on tests.
+-- `check_locked` meets its contract. From the laws on tests.
 use Rattle.std.proofs.Common.{refl}
 use Rattle.graph.proofs.Tests.{equal, unequal}
-use Rattle.moves.proofs.faults.locked_fault.Goals as goal
+use Rattle.moves.proofs.faults.check_locked.Goals as goal
 
 pub returns-then-lock-ne1 : goal.returns-then-lock-ne1
 returns-then-lock-ne1 c = unequal _ _ _ _ c.if-lock-ne1.true refl

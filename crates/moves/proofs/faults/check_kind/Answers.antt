@@ -1,7 +1,7 @@
--- `move_fault` meets its contract: a majority has two moves, an XOR four. From the laws on kinds.
+-- `check_kind` meets its contract: a majority has two moves, an XOR four. From the laws on kinds.
 use Rattle.std.proofs.Common.{arith}
 use Rattle.moves.proofs.Known.{some_moves, no_moves, moves_of_kind}
-use Rattle.moves.proofs.faults.move_fault.Goals as goal
+use Rattle.moves.proofs.faults.check_kind.Goals as goal
 
 pub returns-then-m-lt2 : goal.returns-then-m-lt2
 returns-then-m-lt2 c = some_moves _ _ c.if-m-lt2.true

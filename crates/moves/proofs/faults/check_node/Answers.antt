@@ -1,8 +1,8 @@
--- `node_fault` meets its contract. Assumes nothing.
+-- `check_node` meets its contract. Assumes nothing.
 use Rattle.std.proofs.Common.{◌+◌, le-ltb, lt-ltb}
 use mathlib.Core.Bool.{and-false}
 use Rattle.moves.specs.Call.{node_fault, is_node}
-use Rattle.moves.proofs.faults.node_fault.Goals as goal
+use Rattle.moves.proofs.faults.check_node.Goals as goal
 
 pub returns-then-node-inputs : goal.returns-then-node-inputs
 unfolding node_fault is_node
