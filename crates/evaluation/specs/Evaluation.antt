@@ -1,8 +1,8 @@
 -- What evaluation answers, and the result words that it leaves.
-use Rattle.std.specs.Prelude.{◌++◌}
-use Rattle.graph.specs.All.{ℕ, List, [], length, get_or, drop, tab, if_less, if_equal, first, Graph, Assignment, output_value, bit, tables_number, content_number, Answer, accepted, refused, number_of}
-use Rattle.evaluation.specs.{Word.gather, declared.Evaluated.Evaluated}
-use Rattle.evaluation.specs.declared.Evaluated.TheVariants.{Done, Refused}
+use Rattle.std.specs.Prelude.{◌++◌, Result}
+use Rattle.graph.specs.All.{ℕ, List, [], length, get_or, drop, tab, if_less, if_equal, first, Graph, Assignment, output_value, bit, tables_number, content_number, Answer, accepted}
+use Rattle.graph.specs.{Answer.answer_by, declared.Refusal.Refusal}
+use Rattle.evaluation.specs.Word.{gather}
 
 -- each bit place is an assignment of its own: under that of place j, input k + 1 has bit j of its word
 unfoldable pub assignment_at : List ℕ → ℕ → Assignment
@@ -33,7 +33,6 @@ results_after g ls words s results =
     (tab g.O (output_word g words) ++ drop g.O results)
     results
 
--- what each case of the answer says
-abbrev pub evaluated_answer : Evaluated → Answer
-evaluated_answer Done = accepted []
-evaluated_answer (Refused r) = refused (number_of r)
+-- what an evaluation answers
+abbrev pub evaluated_answer : {T : Type 0} → Result T Refusal → Answer
+evaluated_answer = answer_by (λ _. accepted [])

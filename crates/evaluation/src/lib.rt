@@ -11,14 +11,7 @@ pub mod front;
 mod results;
 pub mod values;
 
-use graph::Lent;
-
-// What an evaluation answers.
-#[derive(Clone, Copy)]
-pub enum Evaluated {
-    Done,
-    Refused(graph::Refusal),
-}
+use graph::{Lent, Refusal};
 
 // Fills the first `outputs` words of `results`, each bit place an assignment of its own.
 pub fn evaluate(
@@ -26,7 +19,7 @@ pub fn evaluate(
     input_words: &[u64],
     scratch: &mut [u64],
     results: &mut [u64],
-) -> Evaluated
+) -> Result<(), Refusal>
     ensures answer { let g = lent_graph lent.now in
         let number = evaluate_number g lent.now.locks.now (length (before input_words)) (length scratch.old) (length results.old) in
         evaluated_answer result ≡ unless number (accepted []) }
@@ -34,10 +27,7 @@ pub fn evaluate(
         results.new ≡ results_after g lent.now.locks.now (before input_words) (length scratch.old) results.old }
     ensures scratch { ScratchKept (evaluated_answer result) scratch.old scratch.new }
 {
-    let number = faults::evaluate_number(lent, input_words.len(), scratch.len(), results.len());
-    if number != 0 {
-        return Evaluated::Refused(graph::faults::refused_by(number));
-    }
+    faults::check_evaluate(lent, input_words.len(), scratch.len(), results.len())?;
     results::evaluate_words(lent, input_words, scratch, results);
-    Evaluated::Done
+    Ok(())
 }

@@ -5,7 +5,7 @@ use Prim.Native.Nat.{ℕ}
 use native.Mathlib.Omega.{arith}
 use lib.ListN.{length, take, drop}
 use lib.Seq.{length-take-le}
-use Rattle.graph.specs.Graph.{Graph, graph_of}
+use Rattle.graph.specs.Graph.{Graph}
 use Rattle.evaluation.proofs.Outputs.{node_below, output_words}
 use Rattle.evaluation.proofs.results.evaluate_words.Goals as goal
 use Rattle.graph.specs.Tables.{lent_graph}

@@ -4,7 +4,6 @@ use Prim.Native.Nat.{◌-◌, ◌≤◌}
 use lib.ListN.{length}
 use Rattle.graph.proofs.Sweep.{swept}
 use Rattle.evaluation.specs.Inner.{by_index, output_word_from}
-use Rattle.graph.specs.Literals.{literals}
 use Rattle.evaluation.proofs.results.fill_results.Given as goal
 use Rattle.graph.specs.Tables.{lent_table}
 

@@ -2,7 +2,6 @@
 use mathlib.Core.Path.{◌≡◌}
 use Prim.Native.Nat.{◌-◌, ◌≤◌}
 use lib.ListN.{length}
-use Rattle.graph.specs.Literals.{literals}
 use Rattle.evaluation.specs.Inner.{Filled}
 use Rattle.evaluation.proofs.values.fill_rest.Given as goal
 use Rattle.graph.specs.Tables.{lent_table}
