@@ -1,5 +1,5 @@
 -- What calls answer: document 01's number, and the values returned.
-use Rattle.std.specs.Prelude.{◌≢◌, ◌≡◌, ◌∷◌, ◌+ℤ◌, Result, Ok, Err, ⊤}
+use Rattle.std.specs.Prelude.{◌≢◌, ◌≡◌, ◌∷◌, ◌+ℤ◌, Result, Ok, Err}
 use Rattle.graph.specs.Words.{ℕ, zero, suc, List, [], get_or, ℤ, pos}
 use Rattle.graph.specs.{Graph.Graph, declared.Refusal.Refusal}
 use Rattle.graph.specs.declared.Refusal.TheVariants.{MissingBytes, WrongField, OverLimit, ShortSlice, BadLiteral, ExtraBytes, NoSuchNode, ShortScratch, ShortBuffer, BadText, HasLatches, WrongNumbering, BadLock, NotRising, NoSuchMove, LockedNode, ManyInputs, BadWanted, StagesDiffer}

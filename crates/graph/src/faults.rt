@@ -160,8 +160,8 @@ pub fn high_outputs(last: u32, outputs: u32, output_table: &[u32]) -> u32
     ensures { result ≡ sum outputs (over_at (last + 1) output_table.now) }
 {
     let mut c: u32 = 0;
-    for j in 0..outputs {
-        c += above(raw_at(output_table, j as usize), last);
+    for index in &output_table[..outputs as usize] {
+        c += above(*index, last);
     }
     c
 }
@@ -215,24 +215,14 @@ pub fn check_literals(lent: &Lent) -> Result<(), Refusal>
     check_words(lent)
 }
 
-fn greater(a: u8, b: u8) -> u8
-    ensures { result ≡ max a b }
-{
-    if a < b {
-        return b;
-    }
-    a
-}
-
 // By the greatest lock byte: that takes no jump a byte.
 pub fn check_locks(nodes: u32, locks: &[u8]) -> Result<(), Refusal>
     requires { nodes ≤ length locks.now }
     ensures { refusal_number result ≡ locks_number nodes locks.now }
 {
-    let end = nodes as usize;
     let mut most: u8 = 0;
-    for v in 0..end {
-        most = greater(most, locks[v]);
+    for lock in &locks[..nodes as usize] {
+        most = most.max(*lock);
     }
     if 1 < most {
         return Err(Refusal::BadLock);
@@ -355,25 +345,5 @@ pub fn refused_by(number: u32) -> Refusal
 pub fn number_of(refusal: Refusal) -> u32
     ensures { result ≡ number_of refusal }
 {
-    match refusal {
-        Refusal::MissingBytes => 1,
-        Refusal::WrongField => 2,
-        Refusal::OverLimit => 3,
-        Refusal::ShortSlice => 4,
-        Refusal::BadLiteral => 5,
-        Refusal::ExtraBytes => 6,
-        Refusal::NoSuchNode => 7,
-        Refusal::ShortScratch => 8,
-        Refusal::ShortBuffer => 9,
-        Refusal::BadText => 10,
-        Refusal::HasLatches => 11,
-        Refusal::WrongNumbering => 12,
-        Refusal::BadLock => 13,
-        Refusal::NotRising => 14,
-        Refusal::NoSuchMove => 15,
-        Refusal::LockedNode => 16,
-        Refusal::ManyInputs => 17,
-        Refusal::BadWanted => 18,
-        Refusal::StagesDiffer => 19,
-    }
+    u32::from(refusal)
 }

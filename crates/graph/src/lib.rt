@@ -3,7 +3,7 @@
 ghost use Rattle.std.specs.Prelude.{◌≡◌, [], ◌∷◌};
 ghost use Rattle.graph.specs.Count.{C};
 ghost use Rattle.graph.specs.Admission.{admission_number};
-ghost use Rattle.graph.specs.Answer.{accepted, unless, admission_answer, count_answer};
+ghost use Rattle.graph.specs.Answer.{accepted, unless, admission_answer, count_answer, number_of};
 ghost use Rattle.graph.specs.Tables.{lent_graph};
 
 pub mod decimal;
@@ -48,6 +48,35 @@ pub struct Lent<'a> {
     pub node_table: Table<'a>,
     pub output_table: Table<'a>,
     pub locks: &'a [u8],
+}
+
+impl From<Refusal> for u32 {
+    ghost from_gives = { λ r n. n ≡ number_of r };
+
+    // The number that the documents give each.
+    fn from(refusal: Refusal) -> u32 {
+        match refusal {
+            Refusal::MissingBytes => 1,
+            Refusal::WrongField => 2,
+            Refusal::OverLimit => 3,
+            Refusal::ShortSlice => 4,
+            Refusal::BadLiteral => 5,
+            Refusal::ExtraBytes => 6,
+            Refusal::NoSuchNode => 7,
+            Refusal::ShortScratch => 8,
+            Refusal::ShortBuffer => 9,
+            Refusal::BadText => 10,
+            Refusal::HasLatches => 11,
+            Refusal::WrongNumbering => 12,
+            Refusal::BadLock => 13,
+            Refusal::NotRising => 14,
+            Refusal::NoSuchMove => 15,
+            Refusal::LockedNode => 16,
+            Refusal::ManyInputs => 17,
+            Refusal::BadWanted => 18,
+            Refusal::StagesDiffer => 19,
+        }
+    }
 }
 
 // Whether a graph in lent tables is one, with its locks, by its limits, its slices' lengths, its literals and its lock bytes, in that order.

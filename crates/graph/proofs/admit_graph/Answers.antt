@@ -1,6 +1,5 @@
 -- `admit_graph` meets its contract. From the contract of `check_admission`.
 use Rattle.std.proofs.Common.{refl}
-use Rattle.graph.specs.Answer.{accepted}
 use Rattle.graph.proofs.Answers.{answered}
 use Rattle.graph.proofs.admit_graph.Goals as goal
 

@@ -1,5 +1,5 @@
 -- `four_faults` meets its contract: the four sums together count the faults of the nodes passed. From the law of four nodes more.
-use Rattle.std.proofs.Common.{◌≡◌, ◌+◌, ◌-◌, ◌*◌, ◌/◌, ◌≤◌}
+use Rattle.std.proofs.Common.{◌≡◌, ◌+◌, ◌*◌, ◌/◌, ◌≤◌}
 use Rattle.graph.specs.Finite.{sum}
 use Rattle.graph.specs.Inner.{fault_at, Counts}
 use Rattle.graph.proofs.faults.four_faults.Given as goal

@@ -1,5 +1,5 @@
 -- `rest_faults` meets its contract: the sum over the nodes passed. From the law of one node more.
-use Rattle.std.proofs.Common.{◌≡◌, ◌+◌, ◌-◌, ◌*◌, ◌/◌, ◌≤◌}
+use Rattle.std.proofs.Common.{◌≡◌, ◌+◌, ◌*◌, ◌/◌, ◌≤◌}
 use Rattle.graph.specs.Finite.{sum}
 use Rattle.graph.specs.Inner.{fault_at}
 use Rattle.graph.proofs.faults.rest_faults.Given as goal
