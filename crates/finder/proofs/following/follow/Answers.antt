@@ -68,9 +68,6 @@ place_of-mask-requires c =
     let f = c.requires.0.near in
     (f.few, f.listed, listed_rise (graph (goal.at.place_of-mask-requires c).Start) c.args.v c.args.m c.args.list.now f)
 
-pub overflow_add-far : goal.overflow_add-far
-overflow_add-far c = omega (arith, c.loop-far-test.true)
-
 pub loop-far-preserved : goal.loop-far-preserved
 loop-far-preserved c =
     let z = c.if-x-eq0.false in

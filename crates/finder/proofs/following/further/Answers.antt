@@ -19,15 +19,9 @@ third n j t h k = omega arith
 room : (f n j t k k₀ l l₀ : ℕ) → Inv f n j t k k₀ l l₀ → j < 3 * n → n ≤ 4 → n + 3 * (n - f) ≤ k₀ → n + 3 * (n - f) ≤ l₀ → (t < k) × (t < l) × (t < 1000)
 room f n j t k k₀ l l₀ i h e p q = (omega (arith, i.low, i.few, i.same), omega (arith, i.low, i.few, i.same_words), omega (arith, i.low, i.few))
 
-pub overflow_mul-j : goal.overflow_mul-j
-overflow_mul-j c = omega (arith, c.requires.2, c.requires.3)
-
 pub loop-j-init : goal.loop-j-init
 loop-j-init c =
     (record { low = omega arith; high = omega (arith, c.requires.2); some = omega arith; few = omega arith; same = refl; same_words = refl }, c.requires.1)
-
-pub overflow_mul-n : goal.overflow_mul-n
-overflow_mul-n c = omega (arith, c.requires.3)
 
 pub offset_bounds-heads-j : goal.offset_bounds-heads-j
 offset_bounds-heads-j c = omega (arith, c.loop-j-test.true, c.requires.3)
@@ -50,9 +44,6 @@ pub put-t-requires : goal.put-t-requires
 put-t-requires c =
     let l = c.loop-j in
     room _ _ _ _ _ _ _ _ l.invariant.0 c.loop-j-test.true c.requires.3 c.requires.4 c.requires.5
-
-pub overflow_add-j : goal.overflow_add-j
-overflow_add-j c = omega (arith, c.loop-j-test.true, c.requires.3)
 
 pub loop-j-smaller : goal.loop-j-smaller
 loop-j-smaller c = omega (arith, c.loop-j-test.true)

@@ -37,9 +37,6 @@ way-mask-requires c = (c.requires.0, c.requires.1.each c.loop-e.e c.loop-e-test.
 pub add_way-t-requires : goal.add_way-t-requires
 add_way-t-requires c = room _ _ _ _ _ _ _ c.loop-e.invariant.0 c.loop-e-test.true c.requires.3 c.requires.5 c.requires.6
 
-pub overflow_add-e : goal.overflow_add-e
-overflow_add-e c = omega (arith, c.loop-e-test.true, c.requires.3)
-
 pub loop-e-smaller : goal.loop-e-smaller
 loop-e-smaller c = omega (arith, c.loop-e-test.true)
 

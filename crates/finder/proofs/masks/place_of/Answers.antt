@@ -20,9 +20,6 @@ bounds-list-c c = omega (arith, c.loop-c-test.true, c.requires.1)
 pub counted-below-requires : goal.counted-below-requires
 counted-below-requires c = omega (arith, c.loop-c.invariant.1.few, c.loop-c.invariant.0, c.requires.0)
 
-pub overflow_add-c : goal.overflow_add-c
-overflow_add-c c = omega (arith, c.loop-c-test.true, c.requires.0)
-
 pub loop-c-preserved : goal.loop-c-preserved
 loop-c-preserved c =
     let t = c.loop-c-test.true in

@@ -64,8 +64,8 @@ overflow_sub-node c = (placed (goal.at.overflow_sub-node c).Else-index-ne0).0
 pub overflow_sub-node-2 : goal.overflow_sub-node-2
 overflow_sub-node-2 c = (placed (goal.at.overflow_sub-node-2 c).Else-index-ne0).1
 
-pub bounds-lent-node : goal.bounds-locks-node
-bounds-lent-node c = (placed (goal.at.bounds-locks-node c).Else-index-ne0).2
+pub bounds-lent-node : goal.bounds-lent-node
+bounds-lent-node c = (placed (goal.at.bounds-lent-node c).Else-index-ne0).2
 
 pub scratch_fault-room-requires : goal.scratch_fault-room-requires
 scratch_fault-room-requires c =
