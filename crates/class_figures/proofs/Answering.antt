@@ -10,11 +10,15 @@ use Rattle.graph.specs.Finite.{sum, first}
 use Rattle.graph.specs.Graph.{Graph, is_xor}
 use Rattle.graph.specs.Count.{C}
 use Rattle.graph.specs.Admission.{Admitted, tables_number, content_number, admission_number}
-use Rattle.graph.specs.Answer.{Answer, Outcome, outcome, refused, gained}
-use Rattle.graph.proofs.Answers.{refused_outcome, accepted_outcome}
+use Rattle.std.specs.Prelude.{Result}
+use Rattle.std.specs.Result.{IsErrAnd}
+use Rattle.std.proofs.lemmas.Result.{err_from_is_err_and}
+use Rattle.graph.specs.Answer.{Answer, Outcome, number_of, answer_by, outcome, refused, gained}
+use Rattle.graph.specs.declared.Refusal.{Refusal}
+use Rattle.graph.proofs.Answers.{number_some, refused_outcome, accepted_outcome}
 use Rattle.graph.proofs.Cases.{eq_or_ne}
 use Rattle.graph.proofs.Steps.{first_assoc}
-use Rattle.graph.proofs.Tests.{equal, unequal, both, none}
+use Rattle.graph.proofs.Tests.{both, none}
 use Rattle.graph.proofs.Words.{readable}
 use Rattle.moves.specs.Call.{scratch_fault}
 use Rattle.rounds.specs.Settle.{settle, settled, settle_number, settle_call}
@@ -22,7 +26,7 @@ use Rattle.rounds.proofs.Rounds.{settle_ended}
 use Rattle.settling.proofs.Answering.{passed}
 use Rattle.class_figures.specs.Figures.{kind_cells, cells, row_of}
 use Rattle.class_figures.specs.Call.{record_number, length_number, class_number, entered, ClassOutcome, class_outcome, guarded_class, settled_in, class_call}
-use Rattle.class_figures.specs.Inner.{Countable, node_cells, answer_row, entered_by}
+use Rattle.class_figures.specs.Inner.{Countable, node_cells, answer_row}
 use Rattle.class_figures.proofs.SameKinds.{same_cells}
 
 pub refused_class : (k m : ℕ) (g : Graph) (r : List ℕ) (o : ClassOutcome) → k ≡ m → m ≢ 0 → class_outcome (refused k) g r ≡ guarded_class m g r o
@@ -35,20 +39,10 @@ unfolding guarded_class
 accepted_class zero g r o e = refl
 accepted_class (suc m) g r o e = absurd (omega arith)
 
--- a settled graph is entered by its row, and a refused one is not
-module _ (a : Answer) (x : ℕ) (r : List ℕ) where
-  pub entered_row : a.number ≡ 0 → entered (answer_row a x) r ≡ entered_by a x r
-  unfolding entered_by
-  entered_row e = equal a.number 0 (entered (answer_row a x) r) r e refl
-
-  pub not_entered : a.number ≢ 0 → r ≡ entered_by a x r
-  unfolding entered_by
-  not_entered d = unequal a.number 0 (entered (answer_row a x) r) r d refl
-
 pub rounds_entered : (n b a x y : ℕ) (own others : ℤ) (r : List ℕ) → x ≡ y
-    → entered (b ∷ a ∷ n ∷ (13 * b + x) ∷ (13 * a + x) ∷ []) r ≡ entered_by (gained (n ∷ b ∷ a ∷ []) own others) y r
+    → entered (b ∷ a ∷ n ∷ (13 * b + x) ∷ (13 * a + x) ∷ []) r ≡ entered (answer_row (gained (n ∷ b ∷ a ∷ []) own others) y) r
 unfolding answer_row
-rounds_entered n b a x y own others r e = rw e (entered_row (gained (n ∷ b ∷ a ∷ []) own others) y r refl)
+rounds_entered n b a x y own others r e = rw e refl
 
 -- its figures are low
 pub row_low : (n b a x : ℕ) → n < 4294967296 → b < 4294967296 → a < 4294967296 → x < 4294967296
@@ -136,12 +130,14 @@ module _ (r : List ℕ) (g : Graph) (ls : List ℕ) (s : ℕ) where
   unfolding class_number
   early_fault d = first_cut (record_number 1000 r) (tables_number g ls) (length_number r) (first (content_number g ls) (scratch_fault g s)) d
 
-  pub refused_early : (k : ℕ) → k ≡ early → k ≢ 0 → class_outcome (refused k) g r ≡ class_call r g ls s
+  -- by whose refusal the call ends
+  pub ends_early : {T : Type 0} (t : T → Answer) (q : Result T Refusal) (x : Refusal) → IsErrAnd q (λ y. y ≡ x) → number_of x ≡ early → class_outcome (answer_by t q) g r ≡ class_call r g ls s
   unfolding class_call
-  refused_early k e d =
-      let n : early ≢ 0 = λ z. d (e ∙ z) in
+  ends_early t q x p e =
+      let y = err_from_is_err_and q p in
+      let n : early ≢ 0 = λ z. number_some x (e ∙ z) in
       let f = early_fault n in
-      refused_class k (class_number r g ls s) g r (settled_in r g (settle_call g ls s)) (e ∙ sym f) (λ z. n (sym f ∙ z))
+      rw (y.1, y.2) (refused_class (number_of x) (class_number r g ls s) g r (settled_in r g (settle_call g ls s)) (e ∙ sym f) (λ z. n (sym f ∙ z)))
 
   -- where the record has room, settling's number decides
   pub class_number_lem : record_number 1000 r ≡ 0 → length_number r ≡ 0 → class_number r g ls s ≡ settle_number g ls s
@@ -158,30 +154,28 @@ module _ (r : List ℕ) (g : Graph) (ls : List ℕ) (s : ℕ) where
       class_number_lem a.0 (both (tables_number g ls) (length_number r) a.1).1
 
   module _ (h : Graph) (a : Answer) (e : outcome a h ≡ settle_call g ls s) where
-    abbrev entered_to : List ℕ
-    entered_to = entered_by a (node_cells h.N h.nodes) r
-
-    refused_late : early ≡ 0 → settle_number g ls s ≢ 0 → class_outcome a h entered_to ≡ class_call r g ls s
+    -- a graph that settling refuses is not entered
+    pub refused_late : early ≡ 0 → a.number ≢ 0 → class_outcome a h r ≡ class_call r g ls s
     unfolding class_call
-    refused_late k z =
+    refused_late k w =
         let n = settle_number g ls s in
+        let z : n ≢ 0 = λ (z : n ≡ 0). w (same_row g ls s h a e z).0 in
         let o = as_refused g ls s h a e z in
         let d : h ≡ g = same_graph a _ h _ o in
         let b : a ≡ refused n = same_answer a _ h _ o in
         let l = later_number k in
-        ap (class_outcome a h) (sym (not_entered a (node_cells h.N h.nodes) r (λ w. z (sym (number_of_lem g ls s h a e z) ∙ w))))
-        ∙ ap₂ (λ (t : Answer) (u : Graph). class_outcome t u r) b d
+        ap₂ (λ (t : Answer) (u : Graph). class_outcome t u r) b d
         ∙ refused_class n (class_number r g ls s) g r (settled_in r g (settle_call g ls s)) (sym l) (λ w. z (sym l ∙ w))
 
-    pub class_is : early ≡ 0 → class_outcome a h entered_to ≡ class_call r g ls s
+    -- and one that it settles is, by its row
+    pub class_is : early ≡ 0 → a.number ≡ 0 → class_outcome a h (entered (answer_row a (node_cells h.N h.nodes)) r) ≡ class_call r g ls s
     unfolding class_call
-    class_is k =
-        ⊎_elim
-        (λ (z : settle_number g ls s ≡ 0).
+    class_is k w =
+        let z : settle_number g ls s ≡ 0 = ⊎_elim (λ (z : settle_number g ls s ≡ 0). z) (λ (z : settle_number g ls s ≢ 0). absurd (z (sym (number_of_lem g ls s h a e z) ∙ w))) (eq_or_ne (settle_number g ls s) 0) in
         let f = same_row g ls s h a e z in
         let n : class_number r g ls s ≡ 0 = later_number k ∙ z in
-        let t : entered_to ≡ entered (row_of g (outcome a h)) r =
-        sym (entered_row a (node_cells h.N h.nodes) r f.0) ∙ ap (λ (w : List ℕ). entered w r) f.1 in
-        ap (class_outcome a h) t ∙ ap (settled_in r g) e ∙ accepted_class (class_number r g ls s) g r (settled_in r g (settle_call g ls s)) n)
-        (λ (z : settle_number g ls s ≢ 0). refused_late k z)
-        (eq_or_ne (settle_number g ls s) 0)
+        ap (λ (w : List ℕ). class_outcome a h (entered w r)) f.1 ∙ ap (settled_in r g) e ∙ accepted_class (class_number r g ls s) g r (settled_in r g (settle_call g ls s)) n
+
+  pub ends_late : {T : Type 0} (t : T → Answer) (q : Result T Refusal) (x : Refusal) (h : Graph) → IsErrAnd q (λ y. y ≡ x) → outcome (refused (number_of x)) h ≡ settle_call g ls s
+      → early ≡ 0 → class_outcome (answer_by t q) h r ≡ class_call r g ls s
+  ends_late t q x h p e k = let y = err_from_is_err_and q p in rw (y.1, y.2) (refused_late h (refused (number_of x)) e k (number_some x))

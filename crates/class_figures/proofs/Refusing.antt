@@ -1,18 +1,16 @@
--- The first fault of a class's calls: its bound, and what it says where there is none. From the laws on tests and admission.
+-- What the first fault of a class's calls says where there is none. From the laws on tests.
 use mathlib.Core.Path.{◌≡◌, refl, sym}
 use mathlib.Core.List.{List, [], ◌∷◌}
 use mathlib.Core.Logic.{⊎_elim, ◌≢◌}
-use Prim.Native.Nat.{ℕ, zero, suc, ◌≤◌, ◌<◌, min}
+use Prim.Native.Nat.{ℕ, zero, suc, ◌+◌, ◌≤◌, ◌<◌, min}
 use native.Mathlib.Nat.{not-suc-le-zero, le_of_suc-le-suc}
 use native.Mathlib.Omega.{arith}
 use lib.IntN.{ℤ}
-use lib.ListN.{length, get_or}
+use lib.ListN.{length, get_or, take, drop}
+use Rattle.std.proofs.Common.{get_or-take, get_or-drop, ◌∙◌}
+use Rattle.class_figures.specs.Figures.{figures}
 use Rattle.graph.specs.Finite.{first, first_of}
 use Rattle.graph.specs.Answer.{Answer}
-use Rattle.graph.specs.Inner.{IsRefusal}
-use Rattle.graph.specs.Admission.{tables_number}
-use Rattle.graph.specs.Graph.{Graph}
-use Rattle.graph.proofs.Answers.{if_less_le, first_le, first_of_le, tables_le}
 use Rattle.graph.proofs.Cases.{lt_or_le}
 use Rattle.graph.proofs.Tests.{less, no_less, both, on, off, all_none, each_none}
 use Rattle.class_figures.specs.Call.{record_length, figure_number, record_number, length_number, figures_number}
@@ -56,24 +54,23 @@ module _ (r : List ℕ) where
   unfolding figures_number
   roomy_figures e = let b = both (record_number 1001 r) (length_number r) e in roomy 1001 b.0 b.1
 
-  record_le : (n : ℕ) → record_number n r ≤ 13
-  unfolding record_number figure_number
-  record_le n =
-      first_le _ _ _ (if_less_le _ _ _ _ _ (omega arith) (omega arith)) (first_of_le _ _ _ (λ j. if_less_le _ _ _ _ _ (omega arith) (omega arith)))
-
-  length_le : length_number r ≤ 13
-  unfolding length_number
-  length_le = if_less_le _ _ _ _ _ (omega arith) (omega arith)
-
-  pub figures_range : (k : ℕ) → k ≡ figures_number r → k ≢ 0 → IsRefusal k
-  unfolding figures_number
-  figures_range k e n = (omega arith, let l = first_le (record_number 1001 r) (length_number r) 13 (record_le 1001) length_le in omega arith)
-
-  pub early_range : (g : Graph) (ls : List ℕ) (k : ℕ) → k ≡ first (record_number 1000 r) (first (tables_number g ls) (length_number r)) → k ≢ 0 → IsRefusal k
-  early_range g ls k e d =
-      let m = first_le (record_number 1000 r) _ 13 (record_le 1000) (first_le (tables_number g ls) (length_number r) 13 (omega (arith, tables_le g ls)) length_le) in
-      (omega arith, omega arith)
+  -- before the contents of the graph are looked at
+  pub roomy_early : (t : ℕ) → first (record_number 1000 r) (first t (length_number r)) ≡ 0 → Roomy r
+  roomy_early t e = let b = both (record_number 1000 r) _ e in roomy 1000 b.0 (both t (length_number r) b.1).1
 
 -- both signed numbers of the figures that were read
 pub same_figures : (vs : List ℕ) {x y u v : ℤ} → x ≡ u → y ≡ v → ◌≡◌ {A = Answer} (record { number = 0; values = vs; signed = x ∷ y ∷ [] }) (record { number = 0; values = vs; signed = u ∷ v ∷ [] })
 same_figures vs p q = λ i. record { number = 0; values = vs; signed = p i ∷ q i ∷ [] }
+
+-- five words of a record, as a slice, and the figures that have these totals
+pub word_of : (m n : ℕ) (r : List ℕ) (k : ℕ) → k < n → get_or (take n (drop m r)) k 0 ≡ get_or r (m + k) 0
+word_of m n r k h = get_or-take n (drop m r) k 0 h ∙ get_or-drop m r k 0
+
+pub figures_by : (n : ℕ) (s t : ℕ → ℕ) → ((k : ℕ) → k < 5 → s k ≡ t k) → figures n s ≡ figures n t
+unfolding figures
+figures_by n s t h =
+    rw (h 0 (omega arith), h 1 (omega arith), h 2 (omega arith), h 3 (omega arith), h 4 (omega arith)) refl
+
+pub figures_of : (n m a b d e f : ℕ) (t : ℕ → ℕ) → n ≡ m → a ≡ t 0 → b ≡ t 1 → d ≡ t 2 → e ≡ t 3 → f ≡ t 4 → figures n (λ k. get_or (a ∷ b ∷ d ∷ e ∷ f ∷ []) k 0) ≡ figures m t
+unfolding figures
+figures_of n m a b d e f t p q₀ q₁ q₂ q₃ q₄ = rw (p, q₀, q₁, q₂, q₃, q₄) refl

@@ -1,11 +1,12 @@
 -- The record of a class in a lent slice, the call that settles a graph and enters it, and the figures that are read from it.
-use Rattle.std.specs.Prelude.{◌+◌, ◌-◌, ◌*◌, ◌∷◌}
-use Rattle.graph.specs.All.{ℕ, zero, suc, min, List, [], length, get_or, tab, sum, if_less, if_equal, first, first_of, Graph, tables_number, content_number, Answer, refused, number_of, unless, Outcome}
+use Rattle.std.specs.Prelude.{◌+◌, ◌-◌, ◌*◌, ◌∷◌, Result}
+use Rattle.graph.specs.All.{ℕ, zero, suc, min, List, [], length, get_or, tab, sum, if_less, if_equal, first, first_of, Graph, tables_number, content_number, Answer, refused, unless, Outcome}
+use Rattle.graph.specs.Answer.{answer_by}
+use Rattle.graph.specs.declared.Refusal.{Refusal}
 use Rattle.moves.specs.All.{scratch_fault}
 use Rattle.rounds.specs.All.{settle_call}
 use Rattle.class_figures.specs.Figures.{row_of, figures}
 use Rattle.class_figures.specs.declared.ClassFigures.{ClassFigures}
-use Rattle.class_figures.specs.declared.ClassFigures.TheVariants as answered
 
 -- 86 words: how many graphs, their five totals, and the rows of the latest sixteen, five words each, the newest first
 abbrev pub record_length : ℕ
@@ -78,7 +79,14 @@ figures_number r = first (record_number 1001 r) (length_number r)
 unfoldable pub figures_call : List ℕ → ℕ → Answer
 figures_call r latest = unless (figures_number r) (if_equal latest 0 (all_of r) (latest_of r))
 
--- what each case of the answer says
-abbrev pub figures_answer : ClassFigures → Answer
-figures_answer (answered.Told n b a r x y f t) = record { number = 0; values = n ∷ b ∷ a ∷ r ∷ x ∷ y ∷ []; signed = f ∷ t ∷ [] }
-figures_answer (answered.Refused r) = refused (number_of r)
+-- what the figures that are told say, and a refusal
+abbrev pub told_answer : ClassFigures → Answer
+told_answer f =
+    record {
+      number = 0;
+      values = f.count ∷ f.before ∷ f.after ∷ f.rounds ∷ f.cells_before ∷ f.cells_after ∷ [];
+      signed = f.fall ∷ f.total_before ∷ [];
+    }
+
+abbrev pub figures_answer : Result ClassFigures Refusal → Answer
+figures_answer = answer_by told_answer

@@ -1,11 +1,11 @@
 -- What the inner functions say, and no promise to a caller.
 use Rattle.std.specs.Prelude.{List, [], ◌∷◌, ℕ, ◌+◌, ◌*◌, ◌≤◌, ◌<◌, length, get_or}
 use Rattle.graph.specs.Answer.{Answer}
-use Rattle.graph.specs.Finite.{sum, if_equal}
+use Rattle.graph.specs.Finite.{sum}
 use Rattle.graph.specs.Graph.{graph_of}
 use Rattle.graph.specs.Inner.{AllReadable}
 use Rattle.class_figures.specs.Figures.{kind_cells}
-use Rattle.class_figures.specs.Call.{record_length, entered}
+use Rattle.class_figures.specs.Call.{record_length}
 
 -- a record with room for one more row
 pub record Roomy (r : List ℕ) : Type 0 where
@@ -25,7 +25,3 @@ node_cells n ns = sum n (kind_cells (graph_of 0 n 0 ns []))
 unfoldable pub answer_row : Answer → ℕ → List ℕ
 answer_row a x =
     get_or a.values 1 0 ∷ get_or a.values 2 0 ∷ get_or a.values 0 0 ∷ (13 * get_or a.values 1 0 + x) ∷ (13 * get_or a.values 2 0 + x) ∷ []
-
--- a refused graph is not entered
-unfoldable pub entered_by : Answer → ℕ → List ℕ → List ℕ
-entered_by a x r = if_equal a.number 0 (entered (answer_row a x) r) r

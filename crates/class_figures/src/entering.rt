@@ -1,8 +1,8 @@
 // A row entered into the record.
 ghost use Rattle.std.specs.Prelude.{◌≡◌, ℕ, ◌≤◌, ◌<◌, length, get_or};
-ghost use Rattle.settling.specs.Settle.{settled_answer};
+ghost use Rattle.settling.specs.Settle.{rounds_answer};
 ghost use Rattle.class_figures.specs.Call.{entered_at, entered};
-ghost use Rattle.class_figures.specs.Inner.{Roomy, Countable, node_cells, entered_by};
+ghost use Rattle.class_figures.specs.Inner.{Roomy, Countable, node_cells, answer_row};
 ghost use Rattle.graph.specs.Tables.{lent_table};
 
 use crate::cells;
@@ -39,29 +39,20 @@ fn enter_row(book: &mut [u64], row: &[u64; 5])
     }
 }
 
-// The nodes of the settled graph are those of the graph before, so that they are counted once. A refused graph is not entered.
+// The nodes of the settled graph are those of the graph before, so that they are counted once.
 pub fn enter_settled(settled: Settled, nodes: u32, node_table: &Table, book: &mut [u64])
-    requires { Roomy book.old × ((settled_answer settled).number ≡ 0 → Countable nodes (lent_table node_table.now)) }
-    ensures { book.new ≡ entered_by (settled_answer settled) (node_cells nodes (lent_table node_table.now)) book.old }
+    requires { Roomy book.old × Countable nodes (lent_table node_table.now) }
+    ensures { book.new ≡ entered (answer_row (rounds_answer settled) (node_cells nodes (lent_table node_table.now))) book.old }
 {
-    match settled {
-        Settled::Rounds {
-            rounds,
-            before,
-            after,
-            own: _,
-            others: _,
-        } => {
-            let kinds = cells::node_cells(nodes, node_table) as u64;
-            let row = [
-                before as u64,
-                after as u64,
-                rounds as u64,
-                13 * before as u64 + kinds,
-                13 * after as u64 + kinds,
-            ];
-            enter_row(book, &row);
-        }
-        Settled::Refused(_) => {}
-    }
+    let before = settled.before as u64;
+    let after = settled.after as u64;
+    let kinds = cells::node_cells(nodes, node_table) as u64;
+    let row = [
+        before,
+        after,
+        settled.rounds as u64,
+        13 * before + kinds,
+        13 * after + kinds,
+    ];
+    enter_row(book, &row);
 }

@@ -12,25 +12,22 @@ mod entering;
 mod faults;
 mod reading;
 
-use graph::Lent;
 use graph::table::Table;
+use graph::{Lent, Refusal};
 use settling::Settled;
 
 // What reading the figures answers.
 #[derive(Clone, Copy)]
-pub enum ClassFigures {
-    Told {
-        count: u64,
-        before: u64,
-        after: u64,
-        rounds: u64,
-        cells_before: u64,
-        cells_after: u64,
-        // How far C has fallen, out of how much.
-        fall: i64,
-        total_before: i64,
-    },
-    Refused(graph::Refusal),
+pub struct ClassFigures {
+    pub count: u64,
+    pub before: u64,
+    pub after: u64,
+    pub rounds: u64,
+    pub cells_before: u64,
+    pub cells_after: u64,
+    // How far C has fallen, out of how much.
+    pub fall: i64,
+    pub total_before: i64,
 }
 
 // Settles a graph and enters it into the record.
@@ -45,7 +42,7 @@ pub fn enter<'x>(
     locks: &'x [u8],
     scratch: &mut [u32],
     book: &mut [u64],
-) -> Settled
+) -> Result<Settled, Refusal>
     ensures call { let g = graph_in inputs nodes outputs node_table.now node_bits.old output_table.now output_bits.old in
         let k = graph_in inputs nodes outputs node_table.now node_bits.new output_table.now output_bits.new in
         class_outcome (settled_answer result) k book.new ≡ class_call book.old g locks.now (length scratch.old) }
@@ -65,10 +62,7 @@ pub fn enter<'x>(
         },
         locks,
     };
-    let number = faults::early_number(&lent, book);
-    if number != 0 {
-        return Settled::Refused(graph::faults::refused_by(number));
-    }
+    faults::check_early(&lent, book)?;
     let settled = settling::settle(
         inputs,
         nodes,
@@ -79,7 +73,7 @@ pub fn enter<'x>(
         output_bits,
         locks,
         scratch,
-    );
+    )?;
     entering::enter_settled(
         settled,
         nodes,
@@ -89,19 +83,16 @@ pub fn enter<'x>(
         },
         book,
     );
-    settled
+    Ok(settled)
 }
 
 // The figures of all graphs entered where `latest` is 0, and else those of the latest sixteen.
-pub fn figures(book: &[u64], latest: u32) -> ClassFigures
+pub fn figures(book: &[u64], latest: u32) -> Result<ClassFigures, Refusal>
     ensures { figures_answer result ≡ figures_call book.now latest }
 {
-    let number = faults::figures_number(book);
-    if number != 0 {
-        return ClassFigures::Refused(graph::faults::refused_by(number));
-    }
+    faults::check_figures(book)?;
     if latest == 0 {
-        return reading::all(book);
+        return Ok(reading::all(book));
     }
-    reading::latest(book)
+    Ok(reading::latest(book))
 }

@@ -1,6 +1,7 @@
 // The figures read from a record.
-ghost use Rattle.std.specs.Prelude.{◌≡◌, ◌≤◌, ◌<◌, min};
-ghost use Rattle.class_figures.specs.Call.{figures_answer, latest_total, all_of, latest_of};
+ghost use Rattle.std.specs.Prelude.{◌≡◌, ℕ, ◌≤◌, ◌<◌, min, length, get_or};
+ghost use Rattle.class_figures.specs.Call.{told_answer, latest_total, all_of, latest_of};
+ghost use Rattle.class_figures.specs.Figures.{figures};
 ghost use Rattle.class_figures.specs.Inner.{Roomy};
 
 use crate::ClassFigures;
@@ -15,24 +16,30 @@ fn at_most(n: u64) -> u64
     n
 }
 
-pub fn all(book: &[u64]) -> ClassFigures
-    requires { Roomy book.now }
-    ensures { figures_answer result ≡ all_of book.now }
+// What is told of so many graphs whose five totals these are.
+fn told(count: u64, totals: &[u64]) -> ClassFigures
+    requires { (5 ≤ length totals.now) × ((k : ℕ) → k < 5 → get_or totals.now k 0 ≤ 17592186044416) }
+    ensures { told_answer result ≡ figures count (λ k. get_or totals.now k 0) }
 {
-    let before = book[1];
-    let after = book[2];
-    let fall = signed::less(before, after);
-    let total_before = signed::less(before, 0);
-    ClassFigures::Told {
-        count: book[0],
+    let before = totals[0];
+    let after = totals[1];
+    ClassFigures {
+        count,
         before,
         after,
-        rounds: book[3],
-        cells_before: book[4],
-        cells_after: book[5],
-        fall,
-        total_before,
+        rounds: totals[2],
+        cells_before: totals[3],
+        cells_after: totals[4],
+        fall: signed::less(before, after),
+        total_before: signed::less(before, 0),
     }
+}
+
+pub fn all(book: &[u64]) -> ClassFigures
+    requires { Roomy book.now }
+    ensures { told_answer result ≡ all_of book.now }
+{
+    told(book[0], &book[1..6])
 }
 
 // The sum of figure k over the sixteen rows.
@@ -49,23 +56,14 @@ fn latest_total(book: &[u64], k: usize) -> u64
 
 pub fn latest(book: &[u64]) -> ClassFigures
     requires { Roomy book.now }
-    ensures { figures_answer result ≡ latest_of book.now }
+    ensures { told_answer result ≡ latest_of book.now }
 {
-    let before = latest_total(book, 0);
-    let after = latest_total(book, 1);
-    let rounds = latest_total(book, 2);
-    let cells_before = latest_total(book, 3);
-    let cells_after = latest_total(book, 4);
-    let fall = signed::less(before, after);
-    let total_before = signed::less(before, 0);
-    ClassFigures::Told {
-        count: at_most(book[0]),
-        before,
-        after,
-        rounds,
-        cells_before,
-        cells_after,
-        fall,
-        total_before,
-    }
+    let totals = [
+        latest_total(book, 0),
+        latest_total(book, 1),
+        latest_total(book, 2),
+        latest_total(book, 3),
+        latest_total(book, 4),
+    ];
+    told(at_most(book[0]), &totals)
 }

@@ -1,4 +1,4 @@
--- `faults::record_number` meets its contract. The invariant: no figure passed is too high. From the laws on refusing.
+-- `faults::check_record` meets its contract. The invariant: no figure passed is too high. From the laws on refusing.
 use mathlib.Core.Path.{◌≡◌, refl, sym}
 use Prim.Native.Nat.{ℕ}
 use native.Mathlib.Omega.{arith}
@@ -8,8 +8,8 @@ use Rattle.graph.proofs.Tests.{less, no_less, fault, none, first_at}
 use Rattle.graph.proofs.Steps.{one_further}
 use Rattle.class_figures.specs.Call.{figure_number, record_number}
 use Rattle.class_figures.proofs.Refusing.{low_figure, high_figure, rest_none}
-use Rattle.class_figures.proofs.faults.record_number.Goals as goal
-use Rattle.class_figures.proofs.faults.record_number.Goals.{Else-limit-counted}
+use Rattle.class_figures.proofs.faults.check_record.Goals as goal
+use Rattle.class_figures.proofs.faults.check_record.Goals.{Else-limit-counted}
 
 -- a count that is low enough
 

@@ -1,7 +1,7 @@
--- `faults::length_number` meets its contract. From the laws on tests.
+-- `faults::check_length` meets its contract. From the laws on tests.
 use Rattle.graph.proofs.Tests.{short_slice, long_slice}
 use Rattle.class_figures.specs.Call.{length_number}
-use Rattle.class_figures.proofs.faults.length_number.Goals as goal
+use Rattle.class_figures.proofs.faults.check_length.Goals as goal
 
 pub returns-then-book-lt86 : goal.returns-then-book-lt86
 unfolding length_number
