@@ -1,37 +1,17 @@
--- The first fault of a search: its bound, and what it says where there is none. From the laws on tests and admission.
+-- The first fault of a search: what it says where there is none. From the laws on tests and admission.
 use mathlib.Core.Path.{◌≡◌}
 use mathlib.Core.List.{List}
-use mathlib.Core.Logic.{◌≢◌}
-use Prim.Native.Nat.{ℕ, ◌≤◌}
-use native.Mathlib.Omega.{arith}
+use Prim.Native.Nat.{ℕ}
 use lib.ListN.{length, get_or}
 use Rattle.graph.specs.Graph.{Graph}
 use Rattle.graph.specs.Admission.{tables_number, content_number}
-use Rattle.graph.specs.Inner.{IsRefusal}
 use Rattle.graph.proofs.Admit.{admitted_by}
-use Rattle.graph.proofs.Answers.{if_less_le, first_le, first_of_le, tables_le, content_le}
 use Rattle.graph.proofs.Tests.{both, off, each_none}
 use Rattle.evaluation.specs.Evaluation.{scratch_number}
 use Rattle.assignment.specs.Assignment.{wish_number, pattern_number, assignment_number}
 use Rattle.assignment.specs.Inner.{Searchable}
 
-pattern_le : (o : ℕ) (wanted : List ℕ) → pattern_number o wanted ≤ 18
-unfolding pattern_number wish_number
-pattern_le o wanted = first_of_le _ _ _ (λ j. if_less_le _ _ _ _ _ (omega arith) (omega arith))
-
 module _ (g : Graph) (ls wanted : List ℕ) (s : ℕ) where
-  assignment_le : assignment_number g ls wanted s ≤ 18
-  unfolding assignment_number scratch_number
-  assignment_le =
-      first_le _ _ _ (omega (arith, tables_le g ls))
-      (first_le _ _ _ (if_less_le _ _ _ _ _ (omega arith) (omega arith))
-      (first_le _ _ _ (omega (arith, content_le g ls))
-      (first_le _ _ _ (if_less_le _ _ _ _ _ (omega arith) (omega arith))
-      (first_le _ _ _ (pattern_le g.O wanted) (if_less_le _ _ _ _ _ (omega arith) (omega arith))))))
-
-  pub assignment_range : (k : ℕ) → k ≡ assignment_number g ls wanted s → k ≢ 0 → IsRefusal k
-  assignment_range k e n = (omega arith, omega (arith, assignment_le))
-
   pub searchable : assignment_number g ls wanted s ≡ 0 → Searchable g wanted s
   unfolding assignment_number scratch_number content_number pattern_number wish_number
   searchable e =

@@ -1,18 +1,18 @@
 -- Blocks without a place, and the first place of the first block that has one. From the laws on the least number.
-use mathlib.Core.Path.{◌≡◌, refl, sym, ap, ◌∙◌}
-use mathlib.Core.List.{List, [], ◌∷◌}
+use mathlib.Core.Path.{◌≡◌, sym, ap, ◌∙◌}
+use mathlib.Core.List.{List}
 use mathlib.Core.Logic.{⊎_elim, ◌≢◌}
 use Prim.Native.Nat.{ℕ, ◌+◌, ◌-◌, ◌*◌, ◌%◌, ◌^◌, ◌≤◌, ◌<◌}
 use native.Mathlib.Nat.{mod-lt}
 use native.Mathlib.Omega.{arith}
-use lib.Pow.{pow_pos, pow_mono}
+use lib.Pow.{pow_pos}
+use Rattle.std.specs.Prelude.{None, Some, option_to_list}
 use Rattle.graph.specs.Graph.{Graph}
 use Rattle.graph.proofs.Cases.{lt_or_le}
-use Rattle.graph.proofs.Tests.{less, no_less}
 use Rattle.graph.specs.Literals.{bit}
 use Rattle.evaluation.proofs.Bits.{bit_zero}
 use Rattle.assignment.specs.Assignment.{by_number, least_assignment}
-use Rattle.assignment.specs.Inner.{Places, FirstPlace, found_by}
+use Rattle.assignment.specs.Inner.{Places, FirstPlace}
 use Rattle.assignment.proofs.Least.{least_none, least_at}
 use Rattle.assignment.proofs.Same.{by_lowest}
 use Rattle.assignment.proofs.Blocks.{clean_off, clean_on}
@@ -47,17 +47,16 @@ module _ (g : Graph) (wanted : List ℕ) where
       absurd (before (n % 2 ^ g.I) (omega (arith, mod-lt n (pow_pos g.I))) (by_lowest g wanted n ∙ e)))
       (lt_or_le n (2 ^ g.I))
 
-  pub found_at : (b places j : ℕ) → g.I ≤ 16 → NoneBelow (64 * b) → Places g wanted b places → FirstPlace places j → found_by (64 * b + j) ≡ least_assignment g wanted
-  unfolding least_assignment found_by
-  found_at b places j few before at f =
+  pub found_at : (b places j : ℕ) → NoneBelow (64 * b) → Places g wanted b places → FirstPlace places j → option_to_list (Some (64 * b + j)) ≡ least_assignment g wanted
+  unfolding least_assignment
+  found_at b places j before at f =
       let n = 64 * b + j in
       let e = clean_on (by_number g wanted n) (sym (at j f.low) ∙ f.here) in
       let none = up_to b places j before at (omega (arith, f.low)) f.before in
       let l = least_low n none e in
-      let m : 2 ^ g.I ≤ 65536 = pow_mono few in
-      sym (less n 65536 (n ∷ []) [] (omega arith) refl) ∙ sym (least_at (2 ^ g.I) (by_number g wanted) n l e none)
+      sym (least_at (2 ^ g.I) (by_number g wanted) n l e none)
 
-  pub found_none : (b : ℕ) → 2 ^ g.I ≤ 64 * b → NoneBelow (64 * b) → found_by 65536 ≡ least_assignment g wanted
-  unfolding least_assignment found_by
+  pub found_none : (b : ℕ) → 2 ^ g.I ≤ 64 * b → NoneBelow (64 * b) → option_to_list None ≡ least_assignment g wanted
+  unfolding least_assignment
   found_none b h none =
-      sym (no_less 65536 65536 (65536 ∷ []) [] (omega arith) refl) ∙ sym (least_none (2 ^ g.I) (by_number g wanted) (λ i l. none i (omega arith)))
+      sym (least_none (2 ^ g.I) (by_number g wanted) (λ i l. none i (omega arith)))

@@ -1,9 +1,8 @@
 -- An assignment for a wanted output (document 02): the least one that gives the pattern, or none.
-use Rattle.std.specs.Prelude.{◌^◌, ◌∷◌}
-use Rattle.graph.specs.All.{ℕ, zero, suc, List, [], length, get_or, if_less, if_equal, first, first_of, Graph, Assignment, output_value, bit, tables_number, content_number, Answer, accepted, refused, number_of, unless}
+use Rattle.std.specs.Prelude.{◌^◌, ◌∷◌, Option, option_to_list, Result}
+use Rattle.graph.specs.All.{ℕ, zero, suc, List, [], length, get_or, if_less, if_equal, first, first_of, Graph, Assignment, output_value, bit, tables_number, content_number, Answer, accepted, unless}
+use Rattle.graph.specs.{Answer.answer_by, declared.Refusal.Refusal}
 use Rattle.evaluation.specs.All.{scratch_number}
-use Rattle.assignment.specs.declared.Assigned.{Assigned}
-use Rattle.assignment.specs.declared.Assigned.TheVariants as assigned
 
 -- the assignment with the number n: input 1 has its lowest bit
 unfoldable pub numbered : ℕ → Assignment
@@ -58,8 +57,6 @@ found_values (n ∷ ns) = 1 ∷ n ∷ []
 unfoldable pub assignment_call : Graph → List ℕ → List ℕ → ℕ → Answer
 assignment_call g ls wanted s = unless (assignment_number g ls wanted s) (accepted (found_values (least_assignment g wanted)))
 
--- what each case of the answer says
-abbrev pub assigned_answer : Assigned → Answer
-assigned_answer (assigned.At n) = accepted (found_values (n ∷ []))
-assigned_answer assigned.Nothing = accepted (found_values [])
-assigned_answer (assigned.Refused r) = refused (number_of r)
+-- what a search answers
+abbrev pub assigned_answer : Result (Option ℕ) Refusal → Answer
+assigned_answer = answer_by (λ f. accepted (found_values (option_to_list f)))

@@ -80,7 +80,3 @@ pub record FirstPlace (word j : ℕ) : Type 0 where
   pub low : j < 64
   pub here : bit j word ≡ 1
   pub before : (i : ℕ) → i < j → bit i word ≡ 0
-
--- what a search found, a number of 65,536 being nothing
-unfoldable pub found_by : ℕ → List ℕ
-found_by n = if_less n 65536 (n ∷ []) []

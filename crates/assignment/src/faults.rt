@@ -1,80 +1,63 @@
-// Which of the numbers 3, 4, 5, 13, 17, 18 and 8 refuses a search; 0 is none.
+// Why a search is refused.
 ghost use Rattle.std.specs.Prelude.{◌≡◌, ◌≤◌, length};
+ghost use Rattle.graph.specs.Answer.{refusal_number};
 ghost use Rattle.graph.specs.Finite.{first, if_less};
-ghost use Rattle.assignment.specs.Assignment.{pattern_number, assignment_number};
 ghost use Rattle.graph.specs.Tables.{lent_graph};
+ghost use Rattle.assignment.specs.Assignment.{pattern_number, assignment_number};
 
-use graph::Lent;
-use graph::faults::first_fault;
+use graph::faults::{check_content, check_tables};
+use graph::{Lent, Refusal};
 
-// 18 where a wanted byte is above 2.
-fn pattern_number(outputs: u32, wanted: &[u8]) -> u32
+// No wanted byte is above 2.
+fn check_pattern(outputs: u32, wanted: &[u8]) -> Result<(), Refusal>
     requires { outputs ≤ length wanted.now }
-    ensures { result ≡ pattern_number outputs wanted.now }
+    ensures { refusal_number result ≡ pattern_number outputs wanted.now }
 {
     let end = outputs as usize;
     for o in 0..end {
         if 2 < wanted[o] {
-            return 18;
+            return Err(Refusal::BadWanted);
         }
     }
-    0
+    Ok(())
 }
 
-// 17 where there are more than 16 inputs.
-fn inputs_number(inputs: u32) -> u32
-    ensures { result ≡ if_less 16 inputs 17 0 }
+// There are at most 16 inputs.
+fn check_inputs(inputs: u32) -> Result<(), Refusal>
+    ensures { refusal_number result ≡ if_less 16 inputs 17 0 }
 {
     if 16 < inputs {
-        return 17;
+        return Err(Refusal::ManyInputs);
     }
-    0
+    Ok(())
 }
 
-// 8 where scratch is too short.
-fn scratch_number(nodes: u32, words: usize) -> u32
-    ensures { result ≡ if_less words nodes 8 0 }
+fn check_scratch(nodes: u32, words: usize) -> Result<(), Refusal>
+    ensures { refusal_number result ≡ if_less words nodes 8 0 }
 {
     if words < nodes as usize {
-        return 8;
+        return Err(Refusal::ShortScratch);
     }
-    0
+    Ok(())
 }
 
-// 18, then 8.
-fn rest_number(nodes: u32, outputs: u32, wanted: &[u8], words: usize) -> u32
-    requires { outputs ≤ length wanted.now }
-    ensures { result ≡ first (pattern_number outputs wanted.now) (if_less words nodes 8 0) }
+// Inputs, then the pattern, then scratch.
+fn check_last(lent: &Lent, wanted: &[u8], words: usize) -> Result<(), Refusal>
+    requires { lent.now.outputs ≤ length wanted.now }
+    ensures { refusal_number result ≡ first (if_less 16 lent.now.inputs 17 0) (first (pattern_number lent.now.outputs wanted.now) (if_less words lent.now.nodes 8 0)) }
 {
-    let pattern = pattern_number(outputs, wanted);
-    let scratch = scratch_number(nodes, words);
-    first_fault(pattern, scratch)
+    check_inputs(lent.inputs)?;
+    check_pattern(lent.outputs, wanted)?;
+    check_scratch(lent.nodes, words)
 }
 
-// 17, then these.
-fn last_number(inputs: u32, nodes: u32, outputs: u32, wanted: &[u8], words: usize) -> u32
-    requires { outputs ≤ length wanted.now }
-    ensures { result ≡ first (if_less 16 inputs 17 0) (first (pattern_number outputs wanted.now) (if_less words nodes 8 0)) }
+pub fn check_assignment(lent: &Lent, wanted: &[u8], words: usize) -> Result<(), Refusal>
+    ensures { refusal_number result ≡ assignment_number (lent_graph lent.now) lent.now.locks.now wanted.now words }
 {
-    let many = inputs_number(inputs);
-    let rest = rest_number(nodes, outputs, wanted, words);
-    first_fault(many, rest)
-}
-
-pub fn assignment_number(lent: &Lent, wanted: &[u8], words: usize) -> u32
-    ensures { let g = lent_graph lent.now in
-        result ≡ assignment_number g lent.now.locks.now wanted.now words }
-{
-    let room = graph::faults::tables_number(lent);
-    if room != 0 {
-        return room;
-    }
+    check_tables(lent)?;
     if wanted.len() < lent.outputs as usize {
-        return 4;
+        return Err(Refusal::ShortSlice);
     }
-    let content = graph::faults::content_number(lent);
-    if content != 0 {
-        return content;
-    }
-    last_number(lent.inputs, lent.nodes, lent.outputs, wanted, words)
+    check_content(lent)?;
+    check_last(lent, wanted, words)
 }

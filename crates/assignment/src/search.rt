@@ -1,7 +1,7 @@
 // Block after block, until one has a place that gives the pattern.
-ghost use Rattle.std.specs.Prelude.{◌≡◌, ◌*◌, ◌^◌, ◌≤◌, length};
+ghost use Rattle.std.specs.Prelude.{option_to_list, ◌≡◌, ◌*◌, ◌^◌, ◌≤◌, length};
 ghost use Rattle.assignment.specs.Assignment.{least_assignment};
-ghost use Rattle.assignment.specs.Inner.{Searchable, found_by};
+ghost use Rattle.assignment.specs.Inner.{Searchable};
 ghost use Rattle.graph.specs.Tables.{lent_graph};
 
 use crate::outputs::top_of;
@@ -20,20 +20,19 @@ fn block_count(inputs: u32) -> u32
     blocks
 }
 
-// The number of the least assignment that gives the pattern, or 65,536.
-pub fn search(lent: &Lent, wanted: &[u8], scratch: &mut [u64]) -> u32
+// The number of the least assignment that gives the pattern.
+pub fn search(lent: &Lent, wanted: &[u8], scratch: &mut [u64]) -> Option<u32>
     requires { let g = lent_graph lent.now in
         Searchable g wanted.now (length scratch.old) }
-    ensures { let g = lent_graph lent.now in
-        found_by result ≡ least_assignment g wanted.now }
+    ensures { option_to_list result ≡ least_assignment (lent_graph lent.now) wanted.now }
 {
     let end = block_count(lent.inputs);
     let top = top_of(lent, wanted, scratch.len());
     for b in 0..end {
         let places = block::block_places(lent, wanted, top, b, scratch);
         if places != 0 {
-            return 64 * b + words::first_place(places);
+            return Some(64 * b + words::first_place(places));
         }
     }
-    65536
+    None
 }

@@ -2,7 +2,7 @@
 use Prim.Native.Nat.{◌+◌, ◌≤◌}
 use native.Mathlib.Omega.{arith}
 use lib.ListN.{length}
-use Rattle.graph.specs.Graph.{Graph, graph_of}
+use Rattle.graph.specs.Graph.{Graph}
 use Rattle.assignment.proofs.Numbers.{words_long}
 use Rattle.assignment.proofs.Blocks.{left_none, places_of}
 use Rattle.assignment.proofs.block.block_places.Goals as goal

@@ -4,7 +4,7 @@ use mathlib.Core.List.{[]}
 use Prim.Native.Nat.{ℕ, ◌+◌}
 use native.Mathlib.Omega.{arith}
 use lib.ListN.{take}
-use Rattle.graph.specs.Graph.{Graph, graph_of}
+use Rattle.graph.specs.Graph.{Graph}
 use Rattle.evaluation.specs.Inner.{nodes_of, NodeWords}
 use Rattle.evaluation.proofs.Rows.{row_none}
 use Rattle.assignment.specs.Inner.{Left}

@@ -4,7 +4,7 @@ use mathlib.Core.Path.{◌≡◌, refl, subst, ◌∙◌}
 use Prim.Native.Nat.{ℕ, ◌+◌, ◌-◌, ◌≤◌, ◌<◌}
 use native.Mathlib.Omega.{arith}
 use lib.ListN.{length, take, drop}
-use Rattle.graph.specs.Graph.{Graph, graph_of}
+use Rattle.graph.specs.Graph.{Graph}
 use Rattle.evaluation.specs.Inner.{nodes_of, Front}
 use Rattle.evaluation.proofs.Outputs.{node_below}
 use Rattle.evaluation.proofs.Rows.{front_none, front_moved}

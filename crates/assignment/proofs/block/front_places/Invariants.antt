@@ -3,8 +3,6 @@
 use mathlib.Core.Path.{◌≡◌}
 use Prim.Native.Nat.{◌+◌, ◌-◌, ◌≤◌}
 use lib.ListN.{length}
-use Rattle.graph.specs.Graph.{graph_of}
-use Rattle.graph.specs.Literals.{literals}
 use Rattle.evaluation.specs.Inner.{nodes_of, Front}
 use Rattle.assignment.specs.Inner.{Left}
 use Rattle.assignment.proofs.block.front_places.Given as goal

@@ -3,7 +3,7 @@ use mathlib.Core.Path.{◌≡◌, sym}
 use native.Mathlib.Omega.{arith}
 use lib.ListN.{length, take}
 use lib.Seq.{length-take-le}
-use Rattle.graph.specs.Graph.{Graph, graph_of}
+use Rattle.graph.specs.Graph.{Graph}
 use Rattle.evaluation.proofs.Outputs.{node_below}
 use Rattle.assignment.proofs.Blocks.{left_more, pattern_of}
 use Rattle.assignment.proofs.block.last_places.Goals as goal

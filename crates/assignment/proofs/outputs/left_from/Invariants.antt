@@ -1,12 +1,11 @@
 -- `outputs::left_from` meets its contract: the places left by the outputs passed. From the laws on blocks.
 use mathlib.Core.Path.{◌≡◌}
-use Prim.Native.Nat.{ℕ, ◌+◌, ◌-◌, ◌≤◌, ◌<◌, min}
+use Prim.Native.Nat.{ℕ, ◌+◌, ◌≤◌, ◌<◌, min}
 use lib.ListN.{length}
 use Rattle.graph.specs.Finite.{first_of}
 use Rattle.graph.specs.Literals.{bit}
 use Rattle.evaluation.specs.Inner.{by_index}
 use Rattle.assignment.specs.Inner.{clean, lacks}
-use Rattle.graph.specs.Literals.{literals}
 use Rattle.assignment.proofs.outputs.left_from.Given as goal
 use Rattle.graph.specs.Tables.{lent_table}
 

@@ -2,7 +2,6 @@
 use mathlib.Core.Path.{◌≡◌}
 use native.Mathlib.Nat.{not-suc-le-zero}
 use native.Mathlib.Omega.{arith}
-use Rattle.graph.specs.Graph.{graph_of}
 use Rattle.assignment.proofs.Blocks.{pattern_of, top_more}
 use Rattle.assignment.proofs.outputs.top_of.Goals as goal
 use Rattle.graph.specs.Tables.{lent_graph}

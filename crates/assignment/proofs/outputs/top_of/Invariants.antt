@@ -1,8 +1,6 @@
 -- `outputs::top_of` meets its contract: the nodes that the outputs passed ask for. From the laws on blocks.
-use Prim.Native.Nat.{◌-◌, ◌≤◌}
-use Rattle.graph.specs.Graph.{graph_of}
+use Prim.Native.Nat.{◌≤◌}
 use Rattle.assignment.specs.Inner.{Top}
-use Rattle.graph.specs.Literals.{literals}
 use Rattle.assignment.proofs.outputs.top_of.Given as goal
 use Rattle.graph.specs.Tables.{lent_graph}
 

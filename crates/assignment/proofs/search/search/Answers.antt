@@ -2,7 +2,6 @@
 use mathlib.Core.Path.{◌≡◌, refl, ◌∙◌}
 use native.Mathlib.Nat.{not-suc-le-zero}
 use native.Mathlib.Omega.{arith}
-use Rattle.graph.specs.Graph.{graph_of}
 use Rattle.assignment.proofs.Searching.{block_none, found_at, found_none}
 use borrow.Author.Rules.{rules}
 use Rattle.assignment.proofs.search.search.Goals as goal
@@ -37,7 +36,7 @@ shape_of-scratch-then-places-ne0 c = search rules
 pub returns-then-places-ne0 : goal.returns-then-places-ne0
 returns-then-places-ne0 c =
     let a = c.args in
-    found_at (lent_graph a.lent.now) a.wanted.now c.loop-b.b c.block_places-places.result c.first_place.result c.requires.few c.loop-b.invariant.3 c.block_places-places.ensures c.first_place.ensures
+    found_at (lent_graph a.lent.now) a.wanted.now c.loop-b.b c.block_places-places.result c.first_place.result c.loop-b.invariant.3 c.block_places-places.ensures c.first_place.ensures
 
 pub loop-b-preserved : goal.loop-b-preserved
 loop-b-preserved c =

@@ -1,10 +1,8 @@
 -- `search::search` meets its contract. The invariant: no assignment of the blocks passed gives the pattern. From the laws on searching.
 use mathlib.Core.Path.{◌≡◌}
-use Prim.Native.Nat.{◌*◌, ◌-◌, ◌≤◌}
+use Prim.Native.Nat.{◌*◌, ◌≤◌}
 use lib.ListN.{length}
-use Rattle.graph.specs.Graph.{graph_of}
 use Rattle.assignment.proofs.Searching.{NoneBelow}
-use Rattle.graph.specs.Literals.{literals}
 use Rattle.assignment.proofs.search.search.Given as goal
 use Rattle.graph.specs.Tables.{lent_graph}
 

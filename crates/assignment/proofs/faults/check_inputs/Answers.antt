@@ -1,7 +1,7 @@
--- `faults::inputs_number` meets its contract. From the laws on tests.
+-- `check_inputs` meets its contract. From the laws on tests.
 use mathlib.Core.Path.{refl}
 use Rattle.graph.proofs.Tests.{less, no_less}
-use Rattle.assignment.proofs.faults.inputs_number.Goals as goal
+use Rattle.assignment.proofs.faults.check_inputs.Goals as goal
 
 pub returns-then-inputs-gt16 : goal.returns-then-inputs-gt16
 returns-then-inputs-gt16 c = less _ _ _ _ c.if-inputs-gt16.true refl

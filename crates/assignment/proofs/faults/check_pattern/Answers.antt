@@ -1,4 +1,4 @@
--- `faults::pattern_number` meets its contract: no byte passed is above 2. From the laws on tests.
+-- `check_pattern` meets its contract: no byte passed is above 2. From the laws on tests.
 use mathlib.Core.Path.{◌≡◌, refl, sym}
 use native.Mathlib.Omega.{arith}
 use lib.ListN.{get_or}
@@ -6,7 +6,7 @@ use Rattle.graph.specs.Finite.{first_of}
 use Rattle.graph.proofs.Steps.{one_further}
 use Rattle.graph.proofs.Tests.{less, no_less, first_at}
 use Rattle.assignment.specs.Assignment.{wish_number, pattern_number}
-use Rattle.assignment.proofs.faults.pattern_number.Goals as goal
+use Rattle.assignment.proofs.faults.check_pattern.Goals as goal
 
 pub loop-o-init : goal.loop-o-init
 unfolding first_of
