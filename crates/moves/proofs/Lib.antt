@@ -12,6 +12,7 @@ pub mod Potential
 pub mod Root
 pub mod Shown
 pub mod Known
+pub mod Ends
 pub mod Programme
 pub mod TreeBest
 pub mod Written

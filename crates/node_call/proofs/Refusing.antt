@@ -1,4 +1,4 @@
--- The numbers that refuse a node or pair call, and a trial: their range, and what is known where there is none. From the laws on faults.
+-- The numbers that refuse a node or pair call, and a trial: what is known where there is none. From the laws on faults.
 use mathlib.Core.Path.{◌≡◌, refl, sym, ◌∙◌}
 use mathlib.Core.Bool.{Bool, true, false, cond, ◌&&◌}
 use mathlib.Core.List.{List}
@@ -8,17 +8,15 @@ use native.Mathlib.Omega.{arith}
 use borrow.Author.Tests.{leb-true, ne_eqb, lt-ltb, le-ltb}
 use lib.Dec.{leb}
 use lib.ListN.{length}
-use Rattle.graph.specs.Inner.{IsRefusal}
 use Rattle.graph.specs.Admission.{Admitted, admission_number}
 use Rattle.graph.specs.Finite.{first}
 use Rattle.graph.specs.Graph.{Graph, node, is_edge, is_xor}
 use Rattle.graph.proofs.Admit.{admitted, locks_admitted}
-use Rattle.graph.proofs.Answers.{admission_le, first_le}
-use Rattle.graph.proofs.Cases.{cond_le, eq_or_ne}
+use Rattle.graph.proofs.Cases.{eq_or_ne}
 use Rattle.graph.proofs.Tests.{none, both, passes}
 use Rattle.moves.specs.Call.{is_node, node_fault, word_fault, move_number, node_number, pair_number, named_by, trial_number}
 use Rattle.moves.specs.Rows.{moves_at}
-use Rattle.moves.proofs.Known.{node_known, node_fault_le, move_number_le, node_has}
+use Rattle.moves.proofs.Known.{node_known, node_has}
 use Rattle.moves.proofs.Readers.{both_true}
 
 pub first_first : (a b c : ℕ) → first (first a b) c ≡ first a (first b c)
@@ -49,10 +47,6 @@ module _ (g : Graph) (ls : List ℕ) (u : ℕ) where
   unfolding node_number
   node_accepted e = let b = both (admission_number g ls) (node_fault g u) e in node_is b.0 b.1
 
-  pub node_range : (k : ℕ) → k ≡ node_number g ls u → (k ≡ 0 → ⊥) → IsRefusal k
-  unfolding node_number
-  node_range k e n = let a = admission_le g ls in (omega arith, omega (arith, first_le (admission_number g ls) (node_fault g u) 13 (omega arith) (omega (arith, node_fault_le g u))))
-
   module _ (k : ℕ) where
     pub pair_is : pair_number g ls u k ≡ first (node_number g ls u) (word_fault g u k)
     unfolding pair_number node_number
@@ -71,32 +65,11 @@ module _ (g : Graph) (ls : List ℕ) (u : ℕ) where
         let c = both_true (leb 1 k) (leb k (cond (is_xor g (u - (g.I + 1))) 2 3)) (passes (leb 1 k && leb k (cond (is_xor g (u - (g.I + 1))) 2 3)) 6 b.1) in
         record { at_node = node_accepted b.0; from_one = leb-true 1 k c.0; to_last = leb-true k _ c.1 }
 
-    word_le : word_fault g u k ≤ 13
-    unfolding word_fault
-    word_le = cond_le (leb 1 k && leb k (cond (is_xor g (u - (g.I + 1))) 2 3)) 0 7 13 (omega arith) (omega arith)
-
-    node_le : node_number g ls u ≤ 13
-    unfolding node_number
-    node_le = let a = admission_le g ls in first_le _ _ 13 (omega arith) (omega (arith, node_fault_le g u))
-
-    pair_le : pair_number g ls u k ≤ 13
-    pair_le = omega (arith, pair_is, first_le (node_number g ls u) (word_fault g u k) 13 node_le word_le)
-
-    pub pair_range : (n : ℕ) → n ≡ pair_number g ls u k → (n ≡ 0 → ⊥) → IsRefusal n
-    pair_range n e z = (omega arith, omega (arith, pair_le))
-
     -- what refuses a trial, by the index that the word was seen to name
     module _ (a m : ℕ) where
       pub trial_is : (p r : ℕ) → p ≡ named_by g u k → pair_number g ls u k ≡ 0 → r ≡ first (cond (is_node g p) (move_number g ls p a) 0) (move_number g ls u m) → r ≡ trial_number g ls u k a m
       unfolding trial_number
       trial_is p r e z q = none _ _ z (rw (← e) q)
-
-      pub trial_range : (n : ℕ) → n ≡ trial_number g ls u k a m → (n ≡ 0 → ⊥) → IsRefusal n
-      unfolding trial_number
-      trial_range n e z =
-          let p : ℕ = named_by g u k in
-          let moves = first_le _ _ 16 (cond_le (is_node g p) (move_number g ls p a) 0 16 (move_number_le g ls p a) (omega arith)) (move_number_le g ls u m) in
-          (omega arith, omega (arith, e, first_le (pair_number g ls u k) _ 16 (omega (arith, pair_le)) moves))
 
       -- what an accepted trial is
       pub record AcceptedTrial : Type 0 where
@@ -145,17 +118,17 @@ module _ (g : Graph) (ls : List ℕ) (u : ℕ) where
 
 -- the faults of both moves of a trial, from those at the indices by which the nodes were seen
 module _ (g : Graph) (ls : List ℕ) (p u a m : ℕ) (i : g.I < u) where
-  own_fault : (y : ℕ) → y ≡ move_number g ls (node g (u - (g.I + 1))) m → y ≡ move_number g ls u m
-  own_fault y q = let v : node g (u - (g.I + 1)) ≡ u = omega arith in rw v at q
+  own_fault : move_number g ls (node g (u - (g.I + 1))) m ≡ move_number g ls u m
+  own_fault = let v : node g (u - (g.I + 1)) ≡ u = omega arith in rw v
 
-  pub no_node_named : (y : ℕ) → p ≤ g.I → y ≡ move_number g ls (node g (u - (g.I + 1))) m → y ≡ first (cond (is_node g p) (move_number g ls p a) 0) (move_number g ls u m)
+  pub no_node_named : (r : ℕ) → p ≤ g.I → r ≡ move_number g ls (node g (u - (g.I + 1))) m → r ≡ first (cond (is_node g p) (move_number g ls p a) 0) (move_number g ls u m)
   unfolding is_node first
-  no_node_named y h q = rw (le-ltb g.I p h) (own_fault y q)
+  no_node_named r h e = rw (le-ltb g.I p h) (e ∙ own_fault)
 
-  pub a_node_named : (x y r : ℕ) → g.I < p → p < node g g.N → x ≡ move_number g ls (node g (p - (g.I + 1))) a → y ≡ move_number g ls (node g (u - (g.I + 1))) m → r ≡ first x y
+  pub a_node_named : (r : ℕ) → g.I < p → p < node g g.N → r ≡ first (move_number g ls (node g (p - (g.I + 1))) a) (move_number g ls (node g (u - (g.I + 1))) m)
       → r ≡ first (cond (is_node g p) (move_number g ls p a) 0) (move_number g ls u m)
   unfolding is_node
-  a_node_named x y r h b t q e =
+  a_node_named r h b e =
       let v : node g (p - (g.I + 1)) ≡ p = omega arith in
-      let named : x ≡ move_number g ls p a = rw v at t in
-      rw (lt-ltb g.I p h, lt-ltb p (node g g.N) b, ← named, ← own_fault y q) e
+      let f : r ≡ first (move_number g ls p a) (move_number g ls u m) = rw (v, own_fault) at e in
+      rw (lt-ltb g.I p h, lt-ltb p (node g g.N) b) f

@@ -11,9 +11,9 @@ mod rewrite;
 mod trying;
 pub mod write;
 
-use graph::Lent;
 use graph::table::Table;
-use moves::{Gain, Saving};
+use graph::{Lent, Refusal};
+use moves::Saving;
 
 // The node call: the move of a node with the least C, the lowest number among equals.
 pub fn node_call<'x>(
@@ -26,7 +26,7 @@ pub fn node_call<'x>(
     output_bits: &'x mut [u64],
     locks: &'x [u8],
     node: u32,
-) -> Saving
+) -> Result<Saving, Refusal>
     ensures { let g = graph_in inputs nodes outputs node_table.now node_bits.old output_table.now output_bits.old in
         let h = graph_in inputs nodes outputs node_table.now node_bits.new output_table.now output_bits.new in
         outcome (saving_answer result) h ≡ node_call g locks.now node }
@@ -45,12 +45,9 @@ pub fn node_call<'x>(
         },
         locks,
     };
-    let number = faults::node_number(&lent, node);
-    if number != 0 {
-        return Saving::Refused(graph::faults::refused_by(number));
-    }
+    faults::check_node(&lent, node)?;
     let v = node - (inputs + 1);
-    rewrite::rewrite_node(
+    Ok(rewrite::rewrite_node(
         inputs,
         nodes,
         outputs,
@@ -60,7 +57,7 @@ pub fn node_call<'x>(
         output_bits,
         locks,
         v,
-    )
+    ))
 }
 
 // The pair call: of all moves at the node that a word names and at the node itself, those with the least C, the lowest move at
@@ -76,7 +73,7 @@ pub fn pair_call<'x>(
     locks: &'x [u8],
     node: u32,
     word: u32,
-) -> Saving
+) -> Result<Saving, Refusal>
     ensures { let g = graph_in inputs nodes outputs node_table.now node_bits.old output_table.now output_bits.old in
         let h = graph_in inputs nodes outputs node_table.now node_bits.new output_table.now output_bits.new in
         outcome (saving_answer result) h ≡ pair_call g locks.now node word }
@@ -95,11 +92,8 @@ pub fn pair_call<'x>(
         },
         locks,
     };
-    let number = faults::pair_number(&lent, node, word);
-    if number != 0 {
-        return Saving::Refused(graph::faults::refused_by(number));
-    }
-    rewrite::rewrite_named(
+    faults::check_pair(&lent, node, word)?;
+    Ok(rewrite::rewrite_named(
         inputs,
         nodes,
         outputs,
@@ -110,18 +104,21 @@ pub fn pair_call<'x>(
         locks,
         node,
         word,
-    )
+    ))
 }
 
 // A trial: what a move at the node that a word names and a move at the node itself would save. Nothing is changed. A move that either
 // node cannot have is refused.
-pub fn trial(lent: &Lent, node: u32, word: u32, named_move: u32, node_move: u32) -> Gain
+pub fn trial(
+    lent: &Lent,
+    node: u32,
+    word: u32,
+    named_move: u32,
+    node_move: u32,
+) -> Result<i64, Refusal>
     ensures { let g = lent_graph lent.now in
         gain_answer result ≡ trial_call g lent.now.locks.now node word named_move node_move }
 {
-    let number = faults::trial_number(lent, node, word, named_move, node_move);
-    if number != 0 {
-        return Gain::Refused(graph::faults::refused_by(number));
-    }
-    Gain::Whole(trying::named_saving(lent, node, word, named_move, node_move))
+    faults::check_trial(lent, node, word, named_move, node_move)?;
+    Ok(trying::named_saving(lent, node, word, named_move, node_move))
 }

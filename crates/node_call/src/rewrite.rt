@@ -4,7 +4,7 @@ ghost use Rattle.graph.specs.Admission.{Admitted};
 ghost use Rattle.graph.specs.Answer.{outcome};
 ghost use Rattle.graph.specs.Graph.{graph_of, index};
 ghost use Rattle.graph.specs.Literals.{graph_in, held};
-ghost use Rattle.moves.specs.Call.{saving_answer, rewrite, pair_number, named_by, pair_rewrite};
+ghost use Rattle.moves.specs.Call.{told_saving, rewrite, pair_number, named_by, pair_rewrite};
 ghost use Rattle.graph.specs.Tables.{lent_table};
 
 use crate::write;
@@ -28,7 +28,7 @@ pub fn rewrite_node<'x>(
         Admitted g × (v < nodes) × (nodes ≤ length locks.now) }
     ensures { let g = graph_in inputs nodes outputs node_table.now node_bits.old output_table.now output_bits.old in
         let h = graph_in inputs nodes outputs node_table.now node_bits.new output_table.now output_bits.new in
-        outcome (saving_answer result) h ≡ rewrite g locks.now ((inputs + 1 + v) ∷ []) }
+        outcome (told_saving result) h ≡ rewrite g locks.now ((inputs + 1 + v) ∷ []) }
 {
     let lent = Lent {
         inputs,
@@ -81,7 +81,7 @@ pub fn rewrite_pair<'x>(
         Admitted g × (p < v) × (v < nodes) × (nodes ≤ length locks.now) }
     ensures { let g = graph_in inputs nodes outputs node_table.now node_bits.old output_table.now output_bits.old in
         let h = graph_in inputs nodes outputs node_table.now node_bits.new output_table.now output_bits.new in
-        outcome (saving_answer result) h ≡ rewrite g locks.now ((inputs + 1 + p) ∷ (inputs + 1 + v) ∷ []) }
+        outcome (told_saving result) h ≡ rewrite g locks.now ((inputs + 1 + p) ∷ (inputs + 1 + v) ∷ []) }
 {
     let lent = Lent {
         inputs,
@@ -157,7 +157,7 @@ pub fn rewrite_named(
         pair_number g locks.now node word ≡ 0 }
     ensures { let g = graph_in inputs nodes outputs node_table.now node_bits.old output_table.now output_bits.old in
         let h = graph_in inputs nodes outputs node_table.now node_bits.new output_table.now output_bits.new in
-        outcome (saving_answer result) h ≡ pair_rewrite g locks.now node word }
+        outcome (told_saving result) h ≡ pair_rewrite g locks.now node word }
 {
     let named = named_by(
         inputs,
@@ -169,7 +169,7 @@ pub fn rewrite_named(
         word,
     );
     if named <= inputs {
-        return Saving::Saved { own: 0, others: 0 };
+        return Saving { own: 0, others: 0 };
     }
     let p = named - (inputs + 1);
     let v = node - (inputs + 1);

@@ -2,7 +2,7 @@
 use native.Mathlib.Omega.{arith}
 use mathlib.Core.Path.{◌∙◌}
 use Prim.Native.Nat.{◌<◌}
-use Rattle.graph.specs.Graph.{Graph, graph_of}
+use Rattle.graph.specs.Graph.{Graph}
 use Rattle.graph.proofs.Difference.{read_as_lem}
 use Rattle.moves.specs.Call.{named_by}
 use Rattle.node_call.proofs.Refusing.{AcceptedTrial, trial_accepted, named_below, named_low, within_three}

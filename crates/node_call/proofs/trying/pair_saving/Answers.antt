@@ -1,7 +1,7 @@
 -- `pair_saving` meets its contract. From the laws of decisions and outcomes.
 use native.Mathlib.Omega.{arith}
 use mathlib.Core.Path.{◌∙◌}
-use Rattle.graph.specs.Graph.{Graph, graph_of}
+use Rattle.graph.specs.Graph.{Graph}
 use Rattle.graph.proofs.Difference.{read_as_lem}
 use Rattle.graph.proofs.Words.{readable}
 use Rattle.node_call.proofs.Outcomes.{counted, naming_bits, tried_fit, tried_saving}

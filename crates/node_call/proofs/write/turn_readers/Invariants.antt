@@ -1,6 +1,6 @@
 -- `turn_readers` meets its contract: the words passed are turned. From the laws of a sweep.
 use mathlib.Core.Path.{◌≡◌}
-use Prim.Native.Nat.{◌-◌, ◌≤◌}
+use Prim.Native.Nat.{◌≤◌}
 use lib.ListN.{length}
 use Rattle.graph.specs.Literals.{literals}
 use Rattle.graph.proofs.Turned.{SweptTo}

@@ -1,11 +1,11 @@
--- `word_fault` meets its contract. Assumes nothing.
+-- `check_word` meets its contract. Assumes nothing.
 use native.Mathlib.Omega.{arith}
 use mathlib.Core.Path.{◌≡◌}
 use mathlib.Core.Bool.{Bool, true, false, cond, ◌&&◌, and-false}
 use Prim.Native.Nat.{ℕ, ◌≤◌, ◌<◌}
 use lib.Dec.{leb}
 use borrow.Author.Tests.{le-leb, lt-leb}
-use Rattle.node_call.proofs.faults.word_fault.Goals as goal
+use Rattle.node_call.proofs.faults.check_word.Goals as goal
 
 within : (x : Bool) (k : ℕ) → 1 ≤ k → k ≤ 2 → ◌≡◌ {A = ℕ} 0 (cond (leb 1 k && leb k (cond x 2 3)) 0 7)
 within true k h l = rw (le-leb 1 k h, le-leb k 2 l)
