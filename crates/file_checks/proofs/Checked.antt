@@ -7,6 +7,11 @@ use native.Mathlib.Nat.{eq-or-lt_of_le}
 use mathlib.Core.Logic.{⊎_elim, ◌≢◌}
 use lib.ListN.{length, get_or, take, drop, length-drop}
 use lib.Seq.{take_all}
+use Rattle.std.proofs.Common.{Result}
+use Rattle.std.specs.Result.{IsErrAnd}
+use Rattle.graph.specs.Answer.{number_of, refusal_number}
+use Rattle.graph.specs.declared.Refusal.{Refusal}
+use Rattle.graph.proofs.Answers.{ends_row}
 use Rattle.graph.proofs.Admit.{Rooms, rooms}
 use Rattle.graph.proofs.Cases.{eq_or_ne}
 use Rattle.graph.proofs.Tests.{less, equal, unequal, off, on, is, both}
@@ -33,24 +38,25 @@ due_is low high s e =
     let g = off _ _ _ _ f.1 in
     record { head = a.0; least = b.0; most = d.0; size = f.0; whole = g.0 }
 
+-- a walk that is refused at its next step, by that step's fault
+pub stops_row : {T : Type 0} {W D : ℕ} (r : Result T Refusal) (x : Refusal) (a R : ℕ) → W ≡ D → W ≡ first a R → IsErrAnd r (λ y. y ≡ x) → number_of x ≡ a
+    → refusal_number r ≡ D
+stops_row r x a R w s e n = ends_row r x a R e n ∙ sym s ∙ w
+
 -- one step of each walk, and its end
-pub outputs_step : (n : ℕ) (s : List ℕ) (low top : ℕ) → 0 < n
-    → output_fields_number n s low top ≡ first (output_field_number s top) (output_fields_number (n - 1) (drop 7 s) low top)
-outputs_step zero s low top h = absurd (omega arith)
-outputs_step (suc n) s low top h = let e : suc n - 1 ≡ n = omega arith in rw e
+pub outputs_step : (n m : ℕ) (s : List ℕ) (low top : ℕ) → n ≡ suc m
+    → output_fields_number n s low top ≡ first (output_field_number s top) (output_fields_number m (drop 7 s) low top)
+outputs_step n m s low top e = rw e
 
-pub outputs_done : (n : ℕ) (s : List ℕ) (low top : ℕ) → n ≤ 0 → output_fields_number n s low top ≡ lock_fields_number (lock_count s) s low top
-outputs_done zero s low top h = refl
-outputs_done (suc n) s low top h = absurd (omega arith)
+pub outputs_done : (n : ℕ) (s : List ℕ) (low top : ℕ) → n ≡ 0 → output_fields_number n s low top ≡ lock_fields_number (lock_count s) s low top
+outputs_done n s low top e = rw e
 
-pub nodes_step : (n o : ℕ) (s : List ℕ) (low v : ℕ) → 0 < n
-    → node_fields_number n o s low v ≡ first (node_field_number s v) (node_fields_number (n - 1) o (drop (node_size s) s) low (v + 1))
-nodes_step zero o s low v h = absurd (omega arith)
-nodes_step (suc n) o s low v h = let e : suc n - 1 ≡ n = omega arith in rw e
+pub nodes_step : (n m o : ℕ) (s : List ℕ) (low v : ℕ) → n ≡ suc m
+    → node_fields_number n o s low v ≡ first (node_field_number s v) (node_fields_number m o (drop (node_size s) s) low (v + 1))
+nodes_step n m o s low v e = rw e
 
-pub nodes_done : (n o : ℕ) (s : List ℕ) (low v : ℕ) → n ≤ 0 → node_fields_number n o s low v ≡ output_fields_number o s low v
-nodes_done zero o s low v h = refl
-nodes_done (suc n) o s low v h = absurd (omega arith)
+pub nodes_done : (n o : ℕ) (s : List ℕ) (low v : ℕ) → n ≡ 0 → node_fields_number n o s low v ≡ output_fields_number o s low v
+nodes_done n o s low v e = rw e
 
 -- how many locks there are: the bytes are always enough to count by
 enough : (k m : ℕ) (s : List ℕ) → length s ≤ k → length s ≤ m → locks_within k s ≡ locks_within m s

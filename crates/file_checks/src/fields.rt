@@ -1,11 +1,13 @@
 // One field, at the front of the bytes that are left.
 ghost use Rattle.std.specs.Prelude.{◌≡◌, ◌+◌, ◌≤◌, length, get_or};
+ghost use Rattle.graph.specs.Answer.{refusal_number};
 ghost use Rattle.graph.specs.Finite.{if_equal};
 ghost use Rattle.graph.specs.Graph.{mark};
 ghost use Rattle.file_checks.specs.File.{payload_of, due_number, node_size, third};
 ghost use Rattle.file_checks.specs.Walk.{NodeRoom};
 
 use crate::bytes;
+use graph::Refusal;
 use graph::literal::MARK;
 
 // The length of a tag's payload.
@@ -33,28 +35,28 @@ pub fn tag(s: &[u8]) -> u8
     s[0]
 }
 
-// The number that refuses the field, where a tag from low to high is due.
-pub fn due(s: &[u8], low: u8, high: u8) -> u32
-    ensures { result ≡ due_number low high s.now }
+// Whether the field is whole, where a tag from low to high is due.
+pub fn check_due(s: &[u8], low: u8, high: u8) -> Result<(), Refusal>
+    ensures { refusal_number result ≡ due_number low high s.now }
 {
     if s.len() < 3 {
-        return 1;
+        return Err(Refusal::MissingBytes);
     }
     let tag = s[0];
     if tag < low {
-        return 2;
+        return Err(Refusal::WrongField);
     }
     if high < tag {
-        return 2;
+        return Err(Refusal::WrongField);
     }
     let n = payload(tag);
     if bytes::two(s, 1) != n {
-        return 2;
+        return Err(Refusal::WrongField);
     }
     if s.len() < 3 + n as usize {
-        return 1;
+        return Err(Refusal::MissingBytes);
     }
-    0
+    Ok(())
 }
 
 // Whether a node's field is an XOR's decides how long it is and where its last number stands: by picking, since a jump on the kind cannot be

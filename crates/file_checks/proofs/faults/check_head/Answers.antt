@@ -1,13 +1,14 @@
--- `head_number` tests what `head_number` does, in its order. From the laws on tests.
+-- `check_head` tests what `head_number` does, in its order. From the laws on tests.
 use native.Mathlib.Omega.{arith}
 use Rattle.file_checks.specs.File.{head_number}
 use Rattle.file_checks.proofs.Checked.{head_room}
-use Rattle.graph.proofs.Tests.{fault, none}
-use Rattle.file_checks.proofs.faults.head_number.Goals as goal
+use Rattle.graph.proofs.Answers.{ends_row}
+use Rattle.graph.proofs.Tests.{none}
+use Rattle.file_checks.proofs.faults.check_head.Goals as goal
 
-pub returns-then-k-ne0 : goal.returns-then-k-ne0
+pub returns-in_err-check_due : goal.returns-in_err-check_due
 unfolding head_number
-returns-then-k-ne0 c = fault _ _ (omega arith) (λ e. omega arith)
+returns-in_err-check_due c = ends_row _ _ _ _ c.from_residual.ensures.1 c.in_err-check_due.ensures
 
 pub four-requires : goal.four-requires
 four-requires c = omega (arith, head_room c.args.s.now (omega arith))
@@ -21,4 +22,4 @@ four-requires-3 c = omega (arith, head_room c.args.s.now (omega arith))
 pub returns : goal.returns
 unfolding head_number
 returns c =
-    none _ _ (omega arith) (rw (c.four.ensures, c.four-2.ensures, c.four-3.ensures) at c.room_number.ensures)
+    none _ _ (omega arith) (rw (c.four.ensures, c.four-2.ensures, c.four-3.ensures) at c.check_room.ensures)

@@ -1,14 +1,15 @@
--- `lock_number` tests what `lock_field_number` does, in its order. From the laws on tests.
+-- `check_lock` tests what `lock_field_number` does, in its order. From the laws on tests.
 use native.Mathlib.Omega.{arith}
 use Rattle.file_checks.specs.File.{lock_field_number}
 use Rattle.file_checks.proofs.Checked.{lock_room_lem}
-use Rattle.graph.proofs.Tests.{less, no_less, fault, none}
+use Rattle.graph.proofs.Answers.{ends_row}
+use Rattle.graph.proofs.Tests.{less, no_less, none}
 use mathlib.Core.Path.{refl}
-use Rattle.file_checks.proofs.faults.lock_number.Goals as goal
+use Rattle.file_checks.proofs.faults.check_lock.Goals as goal
 
-pub returns-then-k-ne0 : goal.returns-then-k-ne0
+pub returns-in_err-check_due : goal.returns-in_err-check_due
 unfolding lock_field_number
-returns-then-k-ne0 c = fault _ _ (omega arith) (λ e. omega arith)
+returns-in_err-check_due c = ends_row _ _ _ _ c.from_residual.ensures.1 c.in_err-check_due.ensures
 
 pub four-index-requires : goal.four-index-requires
 four-index-requires c = omega (arith, lock_room_lem c.args.s.now (omega arith))

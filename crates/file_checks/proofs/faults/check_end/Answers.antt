@@ -1,13 +1,14 @@
--- `end_number` tests what `end_number` does, in its order. From the laws on tests.
+-- `check_end` tests what `end_number` does, in its order. From the laws on tests.
 use native.Mathlib.Omega.{arith}
 use Rattle.file_checks.specs.File.{end_number}
-use Rattle.graph.proofs.Tests.{less, no_less, fault, none}
+use Rattle.graph.proofs.Answers.{ends_row}
+use Rattle.graph.proofs.Tests.{less, no_less, none}
 use mathlib.Core.Path.{refl}
-use Rattle.file_checks.proofs.faults.end_number.Goals as goal
+use Rattle.file_checks.proofs.faults.check_end.Goals as goal
 
-pub returns-then-k-ne0 : goal.returns-then-k-ne0
+pub returns-in_err-check_due : goal.returns-in_err-check_due
 unfolding end_number
-returns-then-k-ne0 c = fault _ _ (omega arith) (λ e. omega arith)
+returns-in_err-check_due c = ends_row _ _ _ _ c.from_residual.ensures.1 c.in_err-check_due.ensures
 
 pub returns-then-s-gt3 : goal.returns-then-s-gt3
 unfolding end_number

@@ -1,9 +1,9 @@
--- `due` tests what `due_number` does, in its order. From the laws on tests.
+-- `check_due` tests what `due_number` does, in its order. From the laws on tests.
 use native.Mathlib.Omega.{arith}
 use Rattle.graph.proofs.Tests.{less, no_less, equal, unequal}
 use mathlib.Core.Path.{refl}
 use Rattle.file_checks.specs.File.{due_number}
-use Rattle.file_checks.proofs.fields.due.Goals as goal
+use Rattle.file_checks.proofs.fields.check_due.Goals as goal
 
 pub returns-then-s-lt3 : goal.returns-then-s-lt3
 unfolding due_number

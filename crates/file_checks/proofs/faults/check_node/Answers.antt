@@ -1,14 +1,15 @@
--- `node_number` tests what `node_field_number` does, in its order. From the laws on tests.
+-- `check_node` tests what `node_field_number` does, in its order. From the laws on tests.
 use native.Mathlib.Omega.{arith}
 use mathlib.Core.Path.{refl, ◌∙◌}
-use Rattle.graph.proofs.Tests.{less, no_less, fault, none}
+use Rattle.graph.proofs.Answers.{ends_row}
+use Rattle.graph.proofs.Tests.{less, no_less, none}
 use Rattle.file_checks.specs.File.{node_field_number}
 use Rattle.file_checks.proofs.Checked.{node_room_lem, last_below}
-use Rattle.file_checks.proofs.faults.node_number.Goals as goal
+use Rattle.file_checks.proofs.faults.check_node.Goals as goal
 
-pub returns-then-k-ne0 : goal.returns-then-k-ne0
+pub returns-in_err-check_due : goal.returns-in_err-check_due
 unfolding node_field_number
-returns-then-k-ne0 c = fault _ _ (omega arith) (λ e. omega arith)
+returns-in_err-check_due c = ends_row _ _ _ _ c.from_residual.ensures.1 c.in_err-check_due.ensures
 
 pub four-requires : goal.four-requires
 four-requires c = omega (arith, node_room_lem c.args.s.now (omega arith))
