@@ -7,12 +7,17 @@ use native.Mathlib.Omega.{arith}
 use lib.ListN.{length, drop}
 use Rattle.graph.specs.Graph.{Graph, graph_of}
 use Rattle.graph.specs.Literals.{held, filled}
-use Rattle.graph.specs.Answer.{LockedOutcome, accepted, refused, locked_outcome, guarded_locks}
+use Rattle.std.proofs.Common.{Result}
+use Rattle.std.specs.Result.{IsErrAnd}
+use Rattle.std.proofs.lemmas.Result.{err_from_is_err_and}
+use Rattle.graph.specs.Answer.{LockedOutcome, accepted, number_of, locked_outcome, guarded_locks}
+use Rattle.graph.specs.declared.Refusal.{Refusal}
 use Rattle.graph.proofs.Tests.{both, on}
-use Rattle.graph.proofs.Answers.{refused_locked, accepted_locked}
+use Rattle.graph.proofs.Answers.{number_some, refused_locked, accepted_locked}
 use Rattle.file_checks.specs.File.{be4, node_size, lock_count, node_field_number, output_field_number, lock_fields_number, output_fields_number, node_fields_number, file_number, node_words, single_words, after_nodes, after_singles, locks_from, lock_indices}
+use Rattle.tagged_file.specs.declared.Sizes.{Sizes}
 use Rattle.tagged_file.specs.Inner.{locked_at}
-use Rattle.tagged_file.specs.Load.{blank, graph_read, locks_read, free_locks, load_call}
+use Rattle.tagged_file.specs.Load.{loaded_answer, loaded_graph, blank, graph_read, locks_read, free_locks, load_call}
 use Rattle.tagged_file.proofs.Accepted.{after_nodes_lem, after_outputs}
 use Rattle.tagged_file.proofs.Named.{all_locked}
 use Rattle.tagged_file.proofs.OneField.{Majority, Xor, node_accepted}
@@ -104,11 +109,18 @@ unfolding guarded_locks
 guarded_number zero g ls o e = e
 guarded_number (suc k) g ls o e = refl
 
--- what the answers come to
-pub load_refused : (k j : ℕ) (s nodes outputs locks : List ℕ) → j ≡ k → k ≡ file_number s (held nodes) (held outputs) (length locks) → (k ≡ 0 → ⊥)
-    → locked_outcome (refused j) (blank nodes outputs) locks ≡ load_call s nodes outputs locks
+-- what the answers come to: of any call that loads, and is refused by m
+pub refused_load : (r : Result Sizes Refusal) (x : Refusal) (m : ℕ) (nodes outputs locks : List ℕ) (o : LockedOutcome) → IsErrAnd r (λ y. y ≡ x) → number_of x ≡ m
+    → locked_outcome (loaded_answer r) (loaded_graph r nodes outputs) locks ≡ guarded_locks m (blank nodes outputs) locks o
+refused_load r x m nodes outputs locks o e n =
+    let p = err_from_is_err_and r e in
+    rw (p.1, p.2) (refused_locked (number_of x) m (blank nodes outputs) locks o n (λ z. number_some x (n ∙ z)))
+
+pub load_refused : (r : Result Sizes Refusal) (x : Refusal) (s nodes outputs locks : List ℕ) → IsErrAnd r (λ y. y ≡ x)
+    → number_of x ≡ file_number s (held nodes) (held outputs) (length locks)
+    → locked_outcome (loaded_answer r) (loaded_graph r nodes outputs) locks ≡ load_call s nodes outputs locks
 unfolding load_call
-load_refused k j s nodes outputs locks ej e h = refused_locked _ _ _ _ _ (ej ∙ e) (λ z. h (e ∙ z))
+load_refused r x s nodes outputs locks e n = refused_load r x _ nodes outputs locks _ e n
 
 -- the lock bytes that are left
 locked_is : (s ls : List ℕ) (a b : ℕ) → Passed s a b (length ls) → locked_at (be4 s 3 + 1) (lock_indices (locks_from s)) (free_locks (be4 s 7) ls) ≡ locks_read s ls

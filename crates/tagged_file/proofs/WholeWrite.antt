@@ -7,12 +7,15 @@ use native.Mathlib.Omega.{arith}
 use lib.ListN.{length, length-append}
 use lib.Seq.{sets}
 use Rattle.graph.specs.Graph.{Graph}
+use Rattle.std.proofs.Common.{Result}
+use Rattle.std.specs.Result.{IsErrAnd}
+use Rattle.std.proofs.lemmas.Result.{err_from_is_err_and}
 use Rattle.graph.specs.Admission.{admission_number}
-use Rattle.graph.specs.Answer.{accepted, refused}
-use Rattle.graph.specs.Inner.{IsRefusal}
+use Rattle.graph.specs.Answer.{accepted, refused, number_of}
+use Rattle.graph.specs.declared.Refusal.{Refusal}
 use Rattle.graph.proofs.Tests.{both, off}
-use Rattle.graph.proofs.Answers.{if_less_le, first_le, admission_le}
-use Rattle.tagged_file.specs.Write.{big, field_of, head_field, end_field, node_field_at, output_field_at, lock_field_at, in_order, file_of, write_number, write_outcome, write_by, write_call}
+use Rattle.graph.proofs.Answers.{number_some}
+use Rattle.tagged_file.specs.Write.{big, field_of, head_field, end_field, node_field_at, output_field_at, lock_field_at, in_order, file_of, write_number, written_answer, write_outcome, write_by, write_call}
 use Rattle.tagged_file.proofs.Stores.{front, in_a_row}
 use Rattle.tagged_file.proofs.FieldBytes.{length_node_most, length_output_at, length_lock_at, end_is}
 use Rattle.tagged_file.proofs.Emitted.{in_order_step}
@@ -105,29 +108,29 @@ file_stored g ls t t₁ t₂ t₃ t₄ t₅ second third end e₁ p₂ p₃ p₄
     let a = assembled g ls in
     (omega (arith, ap length a), r₅.1 ∙ ap (sets t 0) a)
 
--- a refusal's number
-pub write_fault : (k : ℕ) (g : Graph) (ls : List ℕ) (room : ℕ) → k ≡ write_number g ls room → (k ≡ 0 → ⊥) → IsRefusal k
-unfolding write_number
-write_fault k g ls room e n =
-    (omega arith, omega (arith, first_le (admission_number g ls) _ 13 (admission_le g ls) (if_less_le room (length (file_of g ls)) 9 0 13 (omega arith) (omega arith))))
-
 -- what an accepted graph and buffer have
 pub write_passed : (g : Graph) (ls : List ℕ) (room : ℕ) → write_number g ls room ≡ 0 → (admission_number g ls ≡ 0) × (length (file_of g ls) ≤ room)
 unfolding write_number
 write_passed g ls room e = let b = both _ _ e in (b.0, (off _ _ _ _ b.1).0)
 
 -- the answers, of anything that is written: refused by k, and with no fault
-pub by_refused : (k j : ℕ) (file b : List ℕ) → j ≡ k → (k ≡ 0 → ⊥) → write_outcome (refused j) b ≡ write_by k file b
-by_refused zero j file b e n = absurd (n refl)
-by_refused (suc k) j file b e n = ap (λ (i : ℕ). write_outcome (refused i) b) e
+pub by_refused : (r : Result ℕ Refusal) (x : Refusal) (k : ℕ) (file b : List ℕ) → IsErrAnd r (λ y. y ≡ x) → number_of x ≡ k → write_outcome (written_answer r) b ≡ write_by k file b
+by_refused r x k file b e n =
+    let p = err_from_is_err_and r e in
+    rw (p.1, p.2) (by_number (number_of x) k file b n (λ z. number_some x (n ∙ z)))
+  where
+    by_number : (j k : ℕ) (file b : List ℕ) → j ≡ k → (k ≡ 0 → ⊥) → write_outcome (refused j) b ≡ write_by k file b
+    by_number j zero file b e n = absurd (n refl)
+    by_number j (suc k) file b e n = ap (λ (i : ℕ). write_outcome (refused i) b) e
 
 pub by_accepted : (k n : ℕ) (file b b' : List ℕ) → k ≡ 0 → n ≡ length file → b' ≡ sets b 0 file → length file ≤ length b
     → write_outcome (accepted (n ∷ [])) b' ≡ write_by k file b
 by_accepted k n file b b' z en eb h = rw (z, en, eb, front file b (length file) refl h) refl
 
-pub write_refused : (k j : ℕ) (g : Graph) (ls b : List ℕ) → j ≡ k → k ≡ write_number g ls (length b) → (k ≡ 0 → ⊥) → write_outcome (refused j) b ≡ write_call g ls b
+pub write_refused : (r : Result ℕ Refusal) (x : Refusal) (g : Graph) (ls b : List ℕ) → IsErrAnd r (λ y. y ≡ x) → number_of x ≡ write_number g ls (length b)
+    → write_outcome (written_answer r) b ≡ write_call g ls b
 unfolding write_call
-write_refused k j g ls b ej e n = rw (← e) (by_refused k j (file_of g ls) b ej n)
+write_refused r x g ls b e n = by_refused r x _ (file_of g ls) b e n
 
 pub write_accepted : (n : ℕ) (g : Graph) (ls b b' : List ℕ) → write_number g ls (length b) ≡ 0 → n ≡ length (file_of g ls) → b' ≡ sets b 0 (file_of g ls)
     → write_outcome (accepted (n ∷ [])) b' ≡ write_call g ls b

@@ -1,22 +1,22 @@
 -- What loading answers, and what it leaves in the tables and the lock bytes.
-use Rattle.std.specs.Prelude.{◌+◌, ◌∷◌, ◌++◌}
-use Rattle.graph.specs.All.{ℕ, List, [], length, drop, if_equal, tab, Graph, graph_of, held, filled, Answer, accepted, refused, number_of, LockedOutcome, locked_outcome, guarded_locks}
+use Rattle.std.specs.Prelude.{◌+◌, ◌∷◌, ◌++◌, Result, Ok, Err}
+use Rattle.graph.specs.All.{ℕ, List, [], length, drop, if_equal, tab, Graph, graph_of, held, filled, Answer, accepted, LockedOutcome, locked_outcome, guarded_locks}
 use Rattle.file_checks.specs.All.{be4, file_number, node_words, single_words, after_nodes, locks_from, lock_indices}
-use Rattle.tagged_file.specs.declared.Loaded.{Loaded}
-use Rattle.tagged_file.specs.declared.Loaded.TheVariants as loaded
+use Rattle.graph.specs.declared.Refusal.{Refusal}
+use Rattle.graph.specs.Answer.{answer_by}
+use Rattle.tagged_file.specs.declared.Sizes.{Sizes}
 
-abbrev pub loaded_answer : Loaded → Answer
-loaded_answer (loaded.Graph i n o) = accepted (i ∷ n ∷ o ∷ [])
-loaded_answer (loaded.Refused r) = refused (number_of r)
+abbrev pub loaded_answer : Result Sizes Refusal → Answer
+loaded_answer = answer_by (λ z. accepted (z.inputs ∷ z.nodes ∷ z.outputs ∷ []))
 
 -- lent tables that hold no graph yet
 abbrev pub blank : List ℕ → List ℕ → Graph
 blank ns os = graph_of 0 0 0 ns os
 
 -- the graph that the tables hold after loading: none where the file is refused
-abbrev pub loaded_graph : Loaded → List ℕ → List ℕ → Graph
-loaded_graph (loaded.Graph i n o) ns os = graph_of i n o ns os
-loaded_graph (loaded.Refused r) ns os = blank ns os
+abbrev pub loaded_graph : Result Sizes Refusal → List ℕ → List ℕ → Graph
+loaded_graph (Ok z) ns os = graph_of z.inputs z.nodes z.outputs ns os
+loaded_graph (Err r) ns os = blank ns os
 
 -- the graph that an accepted file says, in the lent tables
 unfoldable pub graph_read : List ℕ → List ℕ → List ℕ → Graph

@@ -1,8 +1,8 @@
 -- The file of a graph with its locks, and what writing answers and leaves in the buffer.
-use Rattle.std.specs.Prelude.{◌+◌, ◌*◌, ◌/◌, ◌%◌, ◌∷◌, ◌++◌}
-use Rattle.graph.specs.All.{ℕ, zero, suc, List, [], length, get_or, drop, if_less, if_equal, first, Graph, mark, admission_number, Answer, accepted, refused, number_of}
-use Rattle.tagged_file.specs.declared.Written.{Written}
-use Rattle.tagged_file.specs.declared.Written.TheVariants as written
+use Rattle.std.specs.Prelude.{◌+◌, ◌*◌, ◌/◌, ◌%◌, ◌∷◌, ◌++◌, Result}
+use Rattle.graph.specs.All.{ℕ, zero, suc, List, [], length, get_or, drop, if_less, if_equal, first, Graph, mark, admission_number, Answer, accepted, refused}
+use Rattle.graph.specs.declared.Refusal.{Refusal}
+use Rattle.graph.specs.Answer.{answer_by}
 
 -- n as so many bytes, big-endian
 unfoldable pub big : ℕ → ℕ → List ℕ
@@ -58,9 +58,8 @@ file_of g ls =
 unfoldable pub write_number : Graph → List ℕ → ℕ → ℕ
 write_number g ls room = first (admission_number g ls) (if_less room (length (file_of g ls)) 9 0)
 
-abbrev pub written_answer : Written → Answer
-written_answer (written.Bytes n) = accepted (n ∷ [])
-written_answer (written.Refused r) = refused (number_of r)
+abbrev pub written_answer : Result ℕ Refusal → Answer
+written_answer = answer_by (λ n. accepted (n ∷ []))
 
 -- an answer with the buffer as the call leaves it
 pub record WriteOutcome : Type 0 where

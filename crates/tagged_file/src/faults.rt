@@ -1,13 +1,15 @@
 // How many bytes a file takes, and what refuses to write it.
 ghost use Rattle.std.specs.Prelude.{◌≡◌, List, ℕ, ◌+◌, ◌*◌, ◌≤◌, ◌<◌, length, get_or};
+ghost use Rattle.graph.specs.Answer.{refusal_number};
 ghost use Rattle.graph.specs.Graph.{graph_of};
 ghost use Rattle.graph.specs.Inner.{IsWord, AllReadable};
 ghost use Rattle.graph.specs.Literals.{held};
 ghost use Rattle.tagged_file.specs.Write.{node_field, node_field_at, lock_field, lock_field_at, in_order, file_of, write_number};
 ghost use Rattle.graph.specs.Tables.{lent_graph, lent_table};
 
-use graph::Lent;
+use graph::faults::check_admission;
 use graph::table::Table;
+use graph::{Lent, Refusal};
 
 // The field of a node that has its third word at place j.
 pub fn node_bytes(table: &Table, j: usize) -> usize
@@ -76,20 +78,17 @@ pub fn most_bytes(nodes: u32, outputs: u32) -> usize
     18 + 22 * nodes as usize + 7 * outputs as usize
 }
 
-// The number that refuses to write the graph into a buffer of this many bytes. Where any file of so many nodes fits, it is not measured.
-pub fn write_number(lent: &Lent, room: usize) -> u32
+// Whether the graph may be written into a buffer of this many bytes. Where any file of so many nodes fits, it is not measured.
+pub fn check_write(lent: &Lent, room: usize) -> Result<(), Refusal>
     ensures { let g = lent_graph lent.now in
-        result ≡ write_number g lent.now.locks.now room }
+        refusal_number result ≡ write_number g lent.now.locks.now room }
 {
-    let k = graph::faults::admission_number(lent);
-    if k != 0 {
-        return k;
-    }
+    check_admission(lent)?;
     if most_bytes(lent.nodes, lent.outputs) <= room {
-        return 0;
+        return Ok(());
     }
     if room < file_bytes(lent.nodes, lent.outputs, &lent.node_table, lent.locks) {
-        return 9;
+        return Err(Refusal::ShortBuffer);
     }
-    0
+    Ok(())
 }

@@ -2,7 +2,7 @@
 #![tactic(auto)]
 
 ghost use Rattle.std.specs.Prelude.{◌≡◌};
-ghost use Rattle.graph.specs.Answer.{locked_outcome};
+ghost use Rattle.graph.specs.Answer.{locked_outcome, refusal_number};
 ghost use Rattle.graph.specs.Literals.{before, literals};
 ghost use Rattle.file_checks.specs.File.{field_number, field_payload};
 ghost use Rattle.tagged_file.specs.Load.{loaded_answer, loaded_graph, load_call};
@@ -15,42 +15,35 @@ mod fill;
 pub mod locks;
 
 use file_checks::{bytes, fields};
-use graph::Lent;
+use graph::table::room_of;
+use graph::{Lent, Refusal};
 
-// What loading answers.
+// How many inputs, nodes and outputs a graph has.
 #[derive(Clone, Copy)]
-pub enum Loaded {
-    Graph {
-        inputs: u32,
-        nodes: u32,
-        outputs: u32,
-    },
-    Refused(graph::Refusal),
+pub struct Sizes {
+    pub inputs: u32,
+    pub nodes: u32,
+    pub outputs: u32,
 }
 
-// What writing answers: how many bytes the file has.
-#[derive(Clone, Copy)]
-pub enum Written {
-    Bytes(usize),
-    Refused(graph::Refusal),
-}
-
-// The number that refuses the field at the front, 0 where it is accepted.
-pub fn field_number(bytes: &[u8]) -> u32
-    ensures { result ≡ field_number (before bytes) }
+// Whether the field at the front is accepted.
+pub fn check_field(bytes: &[u8]) -> Result<(), Refusal>
+    ensures { refusal_number result ≡ field_number (before bytes) }
 {
-    fields::due(bytes, 1, 6)
+    fields::check_due(bytes, 1, 6)
 }
 
 // The payload of the field at the front, empty where it is refused.
 pub fn field(bytes: &[u8]) -> &[u8]
     ensures { result.now ≡ field_payload (before bytes) }
 {
-    if fields::due(bytes, 1, 6) != 0 {
-        return &bytes[..0];
+    match check_field(bytes) {
+        Ok(()) => {
+            let n = bytes::two(bytes, 1) as usize;
+            &bytes[3..3 + n]
+        }
+        Err(_) => &bytes[..0],
     }
-    let n = bytes::two(bytes, 1) as usize;
-    &bytes[3..3 + n]
 }
 
 // The first pass checks the whole file, the second fills the tables and the lock bytes: a refusal has changed nothing.
@@ -61,21 +54,18 @@ pub fn load(
     output_table: &mut [u32],
     output_bits: &mut [u64],
     locks: &mut [u8],
-) -> Loaded
+) -> Result<Sizes, Refusal>
     ensures { let ns = literals node_table.old node_bits.old in
         let os = literals output_table.old output_bits.old in
         locked_outcome (loaded_answer result) (loaded_graph result (literals node_table.new node_bits.new) (literals output_table.new output_bits.new)) locks.new
         ≡ load_call (before file) ns os locks.old }
 {
-    let refusal = file_checks::faults::file_number(
+    file_checks::faults::check_file(
         file,
-        graph::table::room_of(node_table, node_bits),
-        graph::table::room_of(output_table, output_bits),
+        room_of(node_table, node_bits),
+        room_of(output_table, output_bits),
         locks.len(),
-    );
-    if refusal != 0 {
-        return Loaded::Refused(graph::faults::refused_by(refusal));
-    }
+    )?;
     let inputs = bytes::four(file, 3);
     let nodes = bytes::four(file, 7);
     let outputs = bytes::four(file, 11);
@@ -83,21 +73,18 @@ pub fn load(
     let rest = fill::fill_outputs(after, outputs, output_table, output_bits);
     locks::free(locks, nodes);
     fill::fill_locks(rest, inputs + 1, locks);
-    Loaded::Graph {
+    Ok(Sizes {
         inputs,
         nodes,
         outputs,
-    }
+    })
 }
 
-// The length is known before the first byte is written: a refusal has changed nothing.
-pub fn write(lent: &Lent, buffer: &mut [u8]) -> Written
+// Returns the length of the file, which is known before the first byte is written: a refusal has changed nothing.
+pub fn write(lent: &Lent, buffer: &mut [u8]) -> Result<usize, Refusal>
     ensures { let g = lent_graph lent.now in
         write_outcome (written_answer result) buffer.new ≡ write_call g lent.now.locks.now buffer.old }
 {
-    let number = faults::write_number(lent, buffer.len());
-    if number != 0 {
-        return Written::Refused(graph::faults::refused_by(number));
-    }
-    Written::Bytes(emit::put_file(lent, buffer))
+    faults::check_write(lent, buffer.len())?;
+    Ok(emit::put_file(lent, buffer))
 }

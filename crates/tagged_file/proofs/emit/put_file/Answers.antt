@@ -3,7 +3,6 @@ use native.Mathlib.Omega.{arith}
 use mathlib.Core.Path.{◌≡◌}
 use Prim.Native.Nat.{◌+◌, ◌*◌}
 use lib.ListN.{length}
-use Rattle.graph.specs.Graph.{graph_of}
 use Rattle.tagged_file.specs.Write.{node_field_at, lock_field_at, in_order, file_of}
 use Rattle.tagged_file.proofs.WholeWrite.{length_file, length_outputs, file_stored}
 use Rattle.graph.proofs.Words.{readable, out_low}

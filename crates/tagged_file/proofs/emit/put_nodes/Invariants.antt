@@ -1,5 +1,4 @@
 -- `put_nodes` stores the nodes' fields one after another: those that are left come to the whole. From the laws on fields in a row.
-use Rattle.graph.specs.Literals.{literals}
 use Rattle.tagged_file.specs.Write.{node_field_at}
 use Rattle.tagged_file.proofs.Emitted.{Left}
 use Rattle.tagged_file.proofs.emit.put_nodes.Given as goal

@@ -1,7 +1,6 @@
 -- `put_outputs` stores the outputs' fields one after another. From the laws on fields in a row.
 use Rattle.tagged_file.proofs.Emitted.{Left}
 use Rattle.tagged_file.specs.Write.{output_field_at}
-use Rattle.graph.specs.Literals.{literals}
 use Rattle.tagged_file.proofs.emit.put_outputs.Given as goal
 use Rattle.graph.specs.Tables.{lent_table}
 

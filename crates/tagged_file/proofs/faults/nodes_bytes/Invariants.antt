@@ -3,7 +3,6 @@ use mathlib.Core.Path.{◌≡◌}
 use Prim.Native.Nat.{◌+◌, ◌*◌, ◌≤◌}
 use lib.ListN.{length}
 use Rattle.tagged_file.specs.Write.{node_field_at, in_order}
-use Rattle.graph.specs.Literals.{literals}
 use Rattle.tagged_file.proofs.faults.nodes_bytes.Given as goal
 use Rattle.graph.specs.Tables.{lent_table}
 

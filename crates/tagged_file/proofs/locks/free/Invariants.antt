@@ -1,6 +1,6 @@
 -- `free` clears the first bytes: the slice is swept with zeros so far. From the laws on sweeps.
 use mathlib.Core.Path.{◌≡◌}
-use Prim.Native.Nat.{◌-◌, ◌≤◌}
+use Prim.Native.Nat.{◌≤◌}
 use Rattle.graph.proofs.Sweep.{swept}
 use Rattle.tagged_file.proofs.locks.free.Given as goal
 
