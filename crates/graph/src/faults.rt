@@ -160,8 +160,8 @@ pub fn high_outputs(last: u32, outputs: u32, output_table: &[u32]) -> u32
     ensures { result ≡ sum outputs (over_at (last + 1) output_table.now) }
 {
     let mut c: u32 = 0;
-    for index in &output_table[..outputs as usize] {
-        c += above(*index, last);
+    for j in 0..outputs {
+        c += above(raw_at(output_table, j as usize), last);
     }
     c
 }

@@ -4,6 +4,5 @@ use Rattle.graph.specs.Finite.{sum}
 use Rattle.graph.specs.Inner.{over_at}
 use Rattle.graph.proofs.faults.high_outputs.Given as goal
 
-abbrev pub invariant-loop-index : goal.invariant-loop-index
-invariant-loop-index l =
-    (l.index-index ≤ l.outputs) × (l.c ≤ l.index-index) × (l.c ≡ sum l.index-index (over_at (l.last + 1) l.output_table))
+abbrev pub invariant-loop-j : goal.invariant-loop-j
+invariant-loop-j l = (l.j ≤ l.outputs) × (l.c ≤ l.j) × (l.c ≡ sum l.j (over_at (l.last + 1) l.output_table))
