@@ -1,5 +1,4 @@
--- What refuses an entry, met by the tests on the way; that every number is a refusal's; and what an accepted list has. From the laws on
--- tests and on admission.
+-- What refuses an entry, met by the tests on the way, and what an accepted list has. From the laws on tests and on admission.
 use mathlib.Core.Path.{◌≡◌, refl}
 use mathlib.Core.List.{List}
 use mathlib.Core.Logic.{◌≢◌}
@@ -37,11 +36,6 @@ module _ (us : List ℕ) where
   not_rising zero n h = absurd (n refl)
   not_rising (suc j) n h = let e : suc j - 1 ≡ j = omega arith in no_less _ _ 0 14 (rw e at h) refl
 
-rising_le : (us : List ℕ) (j : ℕ) → rising_fault us j ≤ 16
-unfolding rising_fault
-rising_le us zero = omega arith
-rising_le us (suc j) = if_less_le _ _ 0 14 16 (omega arith) (omega arith)
-
 above : (us : List ℕ) (j : ℕ) → rising_fault us (suc j) ≡ 0 → get_or us j 0 < get_or us (suc j) 0
 unfolding rising_fault
 above us j e = (on _ _ 13 0 e).0
@@ -51,22 +45,11 @@ module _ (g : Graph) (ls us ms : List ℕ) (j : ℕ) where
   abbrev u : ℕ
   u = get_or us j 0
 
-  pub entry_place : (a b k : ℕ) → a ≡ node_fault g u → b ≡ rising_fault us j → k ≡ first a b → k ≢ 0 → k ≡ entry_number g ls us ms j
-  unfolding entry_number first
-  entry_place zero zero k p q e n = absurd (n e)
-  entry_place zero (suc b) k p q e n = rw (← p, ← q) e
-  entry_place (suc a) b k p q e n = rw (← p) e
-
   pub entry_move : (m k : ℕ) → node_fault g u ≡ 0 → rising_fault us j ≡ 0 → m ≡ get_or ms j 0 → k ≡ move_number g ls (node g (u - (g.I + 1))) m → k ≡ entry_number g ls us ms j
   unfolding entry_number
   entry_move m k n r s q =
       let i : node g (u - (g.I + 1)) ≡ u = omega (arith, (node_known g u n).0) in
       none _ _ n (none _ _ r (rw (← s) (rw i at q)))
-
-  -- every number is a refusal's
-  entry_le : entry_number g ls us ms j ≤ 16
-  unfolding entry_number
-  entry_le = first_le _ _ 16 (omega (arith, node_fault_le g u)) (first_le _ _ 16 (rising_le us j) (move_number_le g ls u (get_or ms j 0)))
 
   -- what an accepted entry is
   pub entry_rises : entry_number g ls us ms j ≡ 0 → rising_fault us j ≡ 0
@@ -82,19 +65,6 @@ module _ (g : Graph) (ls us ms : List ℕ) (j : ℕ) where
   entry_has e = kind_has g ls u (get_or ms j 0) (both _ _ (both _ _ e).1).1
 
 module _ (g : Graph) (ls us ms : List ℕ) where
-  pub many_range : (k : ℕ) → k ≡ many_number g ls us ms → k ≢ 0 → IsRefusal k
-  unfolding many_number list_number
-  many_range k e d = (
-    omega (arith, d),
-    omega (
-      arith,
-      e,
-      first_le (tables_number g ls) _ 16 (omega (arith, tables_le g ls))
-          (first_le (if_less (length ms) (length us) 4 0) _ 16 (if_less_le _ _ 4 0 16 (omega arith) (omega arith))
-          (first_le (content_number g ls) _ 16 (omega (arith, content_le g ls)) (first_of_le (length us) _ 16 (λ j. entry_le g ls us ms j)))),
-    ),
-  )
-
   -- what an accepted list may rest on
   pub accepted_many : many_number g ls us ms ≡ 0 → Admitted g × Listed g us ms
   unfolding many_number list_number content_number

@@ -11,9 +11,8 @@ mod faults;
 pub mod making;
 mod walk;
 
-use graph::Lent;
 use graph::table::Table;
-use moves::Gain;
+use graph::{Lent, Refusal};
 
 // Entry k is the node list[k] with the move bytes[k]; bytes past the list are not read. The whole list is tested before a word is
 // turned.
@@ -28,7 +27,7 @@ pub fn many<'x>(
     locks: &'x [u8],
     list: &[u32],
     bytes: &[u8],
-) -> Gain
+) -> Result<i64, Refusal>
     ensures { let g = graph_in inputs nodes outputs node_table.now node_bits.old output_table.now output_bits.old in
         let h = graph_in inputs nodes outputs node_table.now node_bits.new output_table.now output_bits.new in
         outcome (gain_answer result) h ≡ many_call g locks.now list.now bytes.now }
@@ -47,11 +46,8 @@ pub fn many<'x>(
         },
         locks,
     };
-    let number = faults::many_number(&lent, list, bytes);
-    if number != 0 {
-        return Gain::Refused(graph::faults::refused_by(number));
-    }
-    Gain::Whole(making::make_all(
+    faults::check_many(&lent, list, bytes)?;
+    Ok(making::make_all(
         inputs,
         nodes,
         outputs,

@@ -1,6 +1,6 @@
--- `rising_fault` meets its contract. From the laws on tests.
+-- `check_rising` meets its contract. From the laws on tests.
 use Rattle.many.proofs.Refusing.{first_rises, later_rises, not_rising}
-use Rattle.many.proofs.faults.rising_fault.Goals as goal
+use Rattle.many.proofs.faults.check_rising.Goals as goal
 
 pub returns-then-j-eq0 : goal.returns-then-j-eq0
 returns-then-j-eq0 c = first_rises _ _ c.if-j-eq0.true

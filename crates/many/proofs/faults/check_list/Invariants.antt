@@ -1,4 +1,4 @@
--- `list_number` meets its contract: no entry passed is refused. From the laws on the first fault of several.
+-- `check_list` meets its contract: no entry passed is refused. From the laws on the first fault of several.
 use mathlib.Core.Path.{◌≡◌}
 use mathlib.Core.List.{List}
 use Prim.Native.Nat.{ℕ, ◌-◌, ◌≤◌}
@@ -7,7 +7,7 @@ use Rattle.graph.specs.Finite.{first_of}
 use Rattle.graph.specs.Graph.{graph_of}
 use Rattle.many.specs.Many.{entry_number}
 use Rattle.graph.specs.Literals.{literals}
-use Rattle.many.proofs.faults.list_number.Given as goal
+use Rattle.many.proofs.faults.check_list.Given as goal
 use Rattle.graph.specs.Tables.{lent_table}
 
 abbrev pub invariant-loop-j : goal.invariant-loop-j
