@@ -2,19 +2,17 @@
 -- and from the laws of the joined graph.
 use mathlib.Core.Path.{◌≡◌, refl, sym}
 use mathlib.Core.List.{List, [], ◌∷◌, ◌++◌}
-use mathlib.Core.Logic.{⊎_elim, ◌≢◌}
+use mathlib.Core.Logic.{⊎_elim}
 use Prim.Native.Nat.{ℕ, zero, suc, ◌+◌, ◌-◌, ◌≤◌, ◌<◌}
 use native.Mathlib.Omega.{arith}
 use lib.ListN.{length, get_or, take, drop, length-append, get_or-append}
 use lib.Seq.{get_or-take, get_or-append-add, length-take-le}
-use Rattle.graph.specs.Admission.{Admitted, LockBytes, admission_number, room_number}
+use Rattle.graph.specs.Admission.{Admitted, LockBytes}
 use Rattle.graph.specs.Answer.{accepted, LockedOutcome, locked_outcome, guarded_locks}
-use Rattle.graph.specs.Finite.{if_equal}
 use Rattle.graph.specs.Graph.{Graph}
-use Rattle.graph.specs.Inner.{IsRefusal}
 use Rattle.graph.specs.Literals.{held}
 use Rattle.graph.proofs.Admit.{Rooms, rooms, admitted, locks_admitted}
-use Rattle.graph.proofs.Answers.{first_le, if_equal_le, room_le, admission_le, accepted_locked}
+use Rattle.graph.proofs.Answers.{accepted_locked}
 use Rattle.graph.proofs.Cases.{lt_or_le}
 use Rattle.graph.proofs.Tests.{both, is}
 use Rattle.tagged_file.specs.Load.{blank}
@@ -47,21 +45,6 @@ module _ (g : Graph) (ls : List ℕ) (h : Graph) (ks : List ℕ) (a b l : ℕ) w
         meet = (is g.O h.I 18 0 r.0).0;
         rooms = rooms _ _ _ _ _ _ r.1;
       }
-
-  -- every number is a refusal's
-  pub number_range : (k : ℕ) → k ≡ join_number g ls h ks a b l → k ≢ 0 → IsRefusal k
-  unfolding join_number
-  number_range k e d = (
-    omega (arith, d),
-    omega (
-      arith,
-      e,
-      first_le (admission_number g ls) _ 19 (omega (arith, admission_le g ls))
-          (first_le (admission_number h ks) _ 19 (omega (arith, admission_le h ks))
-          (first_le (if_equal g.O h.I 0 19) (room_number g.I (g.N + h.N) h.O a b l) 19 (if_equal_le g.O h.I 0 19 19 (omega arith) (omega arith))
-          (omega (arith, room_le g.I (g.N + h.N) h.O a b l)))),
-    ),
-  )
 
 -- the locks of both
 module _ (n m : ℕ) (ls ks : List ℕ) (p : LockBytes n ls) (q : LockBytes m ks) (rs : List ℕ) where

@@ -2,23 +2,26 @@
 -- accepted join.
 use mathlib.Core.Path.{◌≡◌, refl, sym, ap, ◌∙◌}
 use mathlib.Core.List.{List, [], ◌∷◌, ◌++◌}
-use mathlib.Core.Logic.{◌≢◌}
 use Prim.Native.Nat.{ℕ, ◌+◌, ◌*◌, ◌/◌, ◌≤◌, ◌<◌}
 use native.Mathlib.Omega.{arith}
 use lib.ListN.{length, get_or, take, drop}
 use lib.Seq.{paste, take_at, drop_at, drop-drop, length-take-le}
 use Rattle.graph.specs.Admission.{LockBytes}
-use Rattle.graph.specs.Answer.{accepted, refused, locked_outcome}
+use Rattle.std.proofs.Common.{Result}
+use Rattle.std.specs.Result.{IsErrAnd}
+use Rattle.graph.specs.Answer.{accepted, number_of, locked_outcome}
+use Rattle.graph.specs.declared.Refusal.{Refusal}
 use Rattle.graph.specs.Finite.{tab}
 use Rattle.graph.specs.Graph.{Graph, graph_of, word, is_edge}
 use Rattle.graph.specs.Inner.{words_put}
 use Rattle.graph.specs.Literals.{held, filled}
-use Rattle.graph.proofs.Answers.{refused_locked}
 use Rattle.graph.proofs.Filled.{puts_filled}
 use Rattle.graph.proofs.Finite.{length_tab, tab_same}
 use Rattle.graph.proofs.Literals.{held_le}
 use Rattle.graph.proofs.Words.{readable}
-use Rattle.tagged_file.specs.Load.{blank}
+use Rattle.tagged_file.specs.Load.{loaded_answer, loaded_graph}
+use Rattle.tagged_file.specs.declared.Sizes.{Sizes}
+use Rattle.tagged_file.proofs.Whole.{refused_load}
 use Rattle.join.specs.Join.{met, met_word, joined_graph, joined_locks, join_number, join_call}
 use Rattle.join.specs.Filling.{met_by, met_word_by, Meets, Stand}
 use Rattle.join.proofs.Accepted.{Fits, fits, call_is}
@@ -60,14 +63,15 @@ locks_joined n m ls ks rs rs₁ rs₂ p e d =
     let c : drop (n + m) rs₁ ≡ drop (n + m) rs = sym (drop-drop m n rs₁) ∙ ap (drop m) b ∙ drop-drop m n rs in
     d ∙ rw (a, c)
 
-module _ (g : Graph) (ls : List ℕ) (h : Graph) (ks ns os rs : List ℕ) (k : ℕ) (e : k ≡ join_number g ls h ks (held ns) (held os) (length rs)) where
-  pub join_refused : (m : ℕ) → m ≡ k → k ≢ 0 → locked_outcome (refused m) (blank ns os) rs ≡ join_call g ls h ks ns os rs
+module _ (g : Graph) (ls : List ℕ) (h : Graph) (ks ns os rs : List ℕ) where
+  pub join_refused : (r : Result Sizes Refusal) (x : Refusal) → IsErrAnd r (λ y. y ≡ x) → number_of x ≡ join_number g ls h ks (held ns) (held os) (length rs)
+      → locked_outcome (loaded_answer r) (loaded_graph r ns os) rs ≡ join_call g ls h ks ns os rs
   unfolding join_call
-  join_refused m q d = refused_locked m _ (blank ns os) rs _ (q ∙ e) (λ z. d (e ∙ z))
+  join_refused r x e n = refused_load r x _ ns os rs _ e n
 
-  module _ (z : k ≡ 0) where
+  module _ (z : join_number g ls h ks (held ns) (held os) (length rs) ≡ 0) where
     abbrev known : Fits g ls h ks (held ns) (held os) (length rs)
-    known = fits g ls h ks (held ns) (held os) (length rs) (sym e ∙ z)
+    known = fits g ls h ks (held ns) (held os) (length rs) z
 
     pub ready : Ready g ls h ks (held ns) (held os) (length rs)
     unfolding is_edge
@@ -100,4 +104,4 @@ module _ (g : Graph) (ls : List ℕ) (h : Graph) (ks ns os rs : List ℕ) (k : �
         let room = known.rooms in
         let en = nodes_filled g.N h.N (word g) (met_word_by h.nodes g.outputs (g.I + g.N) h.I) ns ns₁ ns₂ (omega (arith, room.long_nodes, held_le ns)) p q in
         let er = locks_joined g.N h.N ls ks rs rs₁ rs₂ known.first_locks r t in
-        rw (en, eo, er, words_are g h (3 * h.N), outputs_are g h h.O) (sym (call_is g ls h ks ns os rs (sym e ∙ z)))
+        rw (en, eo, er, words_are g h (3 * h.N), outputs_are g h h.O) (sym (call_is g ls h ks ns os rs z))

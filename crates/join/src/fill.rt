@@ -121,9 +121,9 @@ pub fn meet_nodes(
         let before = literals joined_node_table.old (begun start got joined_node_bits.old) in
         literals joined_node_table.new joined_node_bits.new ≡ words_put start (tab (3 * second_nodes) word) before }
 {
+    let end = second_nodes as usize;
     let mut more = got;
-    let mut v: usize = 0;
-    while v < second_nodes as usize {
+    for v in 0..end {
         more = meet_node(
             v,
             start + 3 * v,
@@ -135,9 +135,8 @@ pub fn meet_nodes(
             joined_node_table,
             joined_node_bits,
         );
-        v += 1;
     }
-    put_last(joined_node_bits, start + 3 * v, more);
+    put_last(joined_node_bits, start + 3 * end, more);
 }
 
 // Puts the second's outputs, met.
@@ -159,15 +158,14 @@ pub fn meet_outputs(
         let before = literals joined_output_table.old joined_output_bits.old in
         literals joined_output_table.new joined_output_bits.new ≡ filled (tab outputs (λ j. met_by os base inputs (get_or ps j 0))) before }
 {
+    let end = outputs as usize;
     let mut got: u64 = 0;
-    let mut j: usize = 0;
-    while j < outputs as usize {
+    for j in 0..end {
         let x = second_output_table.edge_at(j);
         let y = met(x, output_table, base, inputs);
         got = put_word(joined_output_table, joined_output_bits, j, got, y);
-        j += 1;
     }
-    put_last(joined_output_bits, j, got);
+    put_last(joined_output_bits, end, got);
 }
 
 // Copies so many lock bytes to place `start` on.

@@ -11,10 +11,9 @@ ghost use Rattle.graph.specs.Tables.{lent_graph};
 mod faults;
 mod fill;
 
-use graph::Lent;
-use graph::faults::refused_by;
 use graph::table::room_of;
-use tagged_file::Loaded;
+use graph::{Lent, Refusal};
+use tagged_file::Sizes;
 
 // Output k of the first graph drives input k of the second. Both are checked whole before anything is filled: a refusal has changed nothing.
 pub fn join(
@@ -25,7 +24,7 @@ pub fn join(
     joined_output_table: &mut [u32],
     joined_output_bits: &mut [u64],
     joined_locks: &mut [u8],
-) -> Loaded
+) -> Result<Sizes, Refusal>
     ensures { let g = lent_graph first.now in
         let h = lent_graph second.now in
         let ns = literals joined_node_table.old joined_node_bits.old in
@@ -34,16 +33,13 @@ pub fn join(
         locked_outcome (loaded_answer result) k joined_locks.new
         ≡ join_call g first.now.locks.now h second.now.locks.now ns os joined_locks.old }
 {
-    let number = faults::join_number(
+    faults::check_join(
         first,
         second,
         room_of(joined_node_table, joined_node_bits),
         room_of(joined_output_table, joined_output_bits),
         joined_locks.len(),
-    );
-    if number != 0 {
-        return Loaded::Refused(refused_by(number));
-    }
+    )?;
     let base = first.inputs + first.nodes;
     let got = fill::copy_nodes(
         first.nodes,
@@ -73,9 +69,9 @@ pub fn join(
     );
     fill::copy_locks(first.nodes, first.locks, 0, joined_locks);
     fill::copy_locks(second.nodes, second.locks, first.nodes, joined_locks);
-    Loaded::Graph {
+    Ok(Sizes {
         inputs: first.inputs,
         nodes: first.nodes + second.nodes,
         outputs: second.outputs,
-    }
+    })
 }

@@ -1,5 +1,5 @@
 -- `join` meets its contract: the tests decide, and what fills the slices does what the definition says. From the laws of the whole.
-use mathlib.Core.Path.{◌≡◌}
+use mathlib.Core.Path.{◌≡◌, sym}
 use Prim.Native.Nat.{ℕ}
 use native.Mathlib.Omega.{arith}
 use lib.ListN.{length}
@@ -7,16 +7,15 @@ use Rattle.graph.specs.Graph.{Graph}
 use Rattle.graph.specs.Literals.{held, literals}
 use Rattle.graph.proofs.Words.{is_word}
 use Rattle.join.specs.Join.{join_number}
-use Rattle.join.proofs.Accepted.{number_range}
 use Rattle.join.proofs.Filling.{room_kept}
 use Rattle.join.proofs.Whole.{Ready, join_refused, ready, join_accepted}
 use Rattle.join.proofs.join.Goals as goal
-use Rattle.join.proofs.join.Goals.{After-join_number-number}
+use Rattle.join.proofs.join.Goals.{In_ok-check_join}
 use Rattle.graph.specs.Tables.{lent_graph}
 
 -- after the tests: both graphs, and what they have said
 
-module _ (n : After-join_number-number) where
+module _ (n : In_ok-check_join) where
   abbrev g : Graph
   g =
       let a = n.args in
@@ -34,37 +33,34 @@ module _ (n : After-join_number-number) where
   abbrev output_room : ℕ
   output_room = let a = n.args in held (literals a.joined_output_table.now a.joined_output_bits.now)
 
-  number : let a = n.args in n.join_number-number.result ≡ join_number g a.first.now.locks.now h a.second.now.locks.now node_room output_room (length a.joined_locks.now)
-  number = rw (n.room_of-2.ensures, n.room_of.ensures) at n.join_number-number.ensures
+  number : let a = n.args in join_number g a.first.now.locks.now h a.second.now.locks.now node_room output_room (length a.joined_locks.now) ≡ 0
+  number = sym (rw (n.room_of-2.ensures, n.room_of.ensures) at n.in_ok-check_join.ensures)
 
-  passed : n.join_number-number.result ≡ 0 → (let a = n.args in Ready g a.first.now.locks.now h a.second.now.locks.now node_room output_room (length a.joined_locks.now))
-  passed z =
+  passed : let a = n.args in Ready g a.first.now.locks.now h a.second.now.locks.now node_room output_room (length a.joined_locks.now)
+  passed =
       let a = n.args in
-      ready g a.first.now.locks.now h a.second.now.locks.now (literals a.joined_node_table.now a.joined_node_bits.now) (literals a.joined_output_table.now a.joined_output_bits.now) a.joined_locks.now _ number z
+      ready g a.first.now.locks.now h a.second.now.locks.now (literals a.joined_node_table.now a.joined_node_bits.now) (literals a.joined_output_table.now a.joined_output_bits.now) a.joined_locks.now number
 
-pub refused_by-requires : goal.refused_by-requires
-refused_by-requires c =
-    number_range (g (goal.at.refused_by-requires c).After-join_number-number) _ (h (goal.at.refused_by-requires c).After-join_number-number) _ _ _ _ _ (number (goal.at.refused_by-requires c).After-join_number-number) c.if-number-ne0.true
-
-pub returns-then-number-ne0 : goal.returns-then-number-ne0
-returns-then-number-ne0 c =
-    join_refused (g (goal.at.returns-then-number-ne0 c).After-join_number-number) _ (h (goal.at.returns-then-number-ne0 c).After-join_number-number) _ _ _ _ _ (number (goal.at.returns-then-number-ne0 c).After-join_number-number) _ c.refused_by.ensures c.if-number-ne0.true
+pub returns-in_err-check_join : goal.returns-in_err-check_join
+returns-in_err-check_join c =
+    let a = c.args in
+    join_refused (lent_graph a.first.now) _ (lent_graph a.second.now) _ _ _ _ _ _ c.from_residual.ensures.1 (rw (c.room_of-2.ensures, c.room_of.ensures) at c.in_err-check_join.ensures)
 
 pub overflow_add-base : goal.overflow_add-base
-overflow_add-base c = omega (arith, (passed (goal.at.overflow_add-base c).After-join_number-number c.if-number-ne0.false).meets.few_indices)
+overflow_add-base c = omega (arith, (passed (goal.at.overflow_add-base c).In_ok-check_join).meets.few_indices)
 
 pub copy_nodes-got-requires : goal.copy_nodes-got-requires
 copy_nodes-got-requires c =
-    let f = (passed (goal.at.copy_nodes-got-requires c).After-join_number-number c.if-number-ne0.false).known in
+    let f = (passed (goal.at.copy_nodes-got-requires c).In_ok-check_join).known in
     let p = f.first_admitted in
-    record { fact = (p.few_nodes, p.held_nodes, is_word (g (goal.at.copy_nodes-got-requires c).After-join_number-number) p); nodes_bound = omega (arith, f.rooms.long_nodes) }
+    record { fact = (p.few_nodes, p.held_nodes, is_word (g (goal.at.copy_nodes-got-requires c).In_ok-check_join) p); nodes_bound = omega (arith, f.rooms.long_nodes) }
 
 pub overflow_mul-first : goal.overflow_mul-first
-overflow_mul-first c = omega (arith, (passed (goal.at.overflow_mul-first c).After-join_number-number c.if-number-ne0.false).known.first_admitted.few_nodes)
+overflow_mul-first c = omega (arith, (passed (goal.at.overflow_mul-first c).In_ok-check_join).known.first_admitted.few_nodes)
 
 pub meet_nodes-requires : goal.meet_nodes-requires
 meet_nodes-requires c =
-    let r = passed (goal.at.meet_nodes-requires c).After-join_number-number c.if-number-ne0.false in
+    let r = passed (goal.at.meet_nodes-requires c).In_ok-check_join in
     let k = c.copy_nodes-got.auto in
     let a = c.args in
     record {
@@ -75,22 +71,22 @@ meet_nodes-requires c =
 
 pub meet_outputs-requires : goal.meet_outputs-requires
 meet_outputs-requires c =
-    let r = passed (goal.at.meet_outputs-requires c).After-join_number-number c.if-number-ne0.false in
+    let r = passed (goal.at.meet_outputs-requires c).In_ok-check_join in
     record { meets = r.meets; fact = (r.known.second_admitted.held_outputs, r.outputs_low); outputs_bound = r.known.rooms.long_outputs }
 
 pub copy_locks-requires : goal.copy_locks-requires
 copy_locks-requires c =
-    let f = (passed (goal.at.copy_locks-requires c).After-join_number-number c.if-number-ne0.false).known in
+    let f = (passed (goal.at.copy_locks-requires c).In_ok-check_join).known in
     (f.first_locks.enough, omega (arith, f.rooms.enough_locks))
 
 pub copy_locks-requires-2 : goal.copy_locks-requires-2
 copy_locks-requires-2 c =
-    let f = (passed (goal.at.copy_locks-requires-2 c).After-join_number-number c.if-number-ne0.false).known in
+    let f = (passed (goal.at.copy_locks-requires-2 c).In_ok-check_join).known in
     (f.second_locks.enough, omega (arith, f.rooms.enough_locks, c.copy_locks.auto.joined_locks))
 
 pub overflow_add-result : goal.overflow_add-result
-overflow_add-result c = omega (arith, (passed (goal.at.overflow_add-result c).After-join_number-number c.if-number-ne0.false).known.rooms.few_nodes)
+overflow_add-result c = omega (arith, (passed (goal.at.overflow_add-result c).In_ok-check_join).known.rooms.few_nodes)
 
 pub returns : goal.returns
 returns c =
-    join_accepted (g (goal.at.returns c).After-join_number-number) _ (h (goal.at.returns c).After-join_number-number) _ _ _ _ _ (number (goal.at.returns c).After-join_number-number) c.if-number-ne0.false _ _ _ _ _ c.copy_nodes-got.ensures c.meet_nodes.ensures c.meet_outputs.ensures c.copy_locks.ensures c.copy_locks-2.ensures
+    join_accepted (g (goal.at.returns c).In_ok-check_join) _ (h (goal.at.returns c).In_ok-check_join) _ _ _ _ (number (goal.at.returns c).In_ok-check_join) _ _ _ _ _ c.copy_nodes-got.ensures c.meet_nodes.ensures c.meet_outputs.ensures c.copy_locks.ensures c.copy_locks-2.ensures

@@ -1,6 +1,6 @@
 -- `fill::copy_locks` meets its contract. The invariant: the bytes so far are copied. From the laws on a copy.
 use mathlib.Core.Path.{◌≡◌}
-use Prim.Native.Nat.{◌-◌, ◌≤◌}
+use Prim.Native.Nat.{◌≤◌}
 use lib.Seq.{paste}
 use Rattle.join.proofs.fill.copy_locks.Given as goal
 

@@ -2,7 +2,7 @@
 -- filled tables.
 use mathlib.Core.Path.{◌≡◌}
 use mathlib.Core.List.{List}
-use Prim.Native.Nat.{ℕ, ◌-◌, ◌*◌, ◌≤◌}
+use Prim.Native.Nat.{ℕ, ◌*◌, ◌≤◌}
 use lib.ListN.{length, get_or}
 use Rattle.graph.specs.Finite.{tab}
 use Rattle.graph.specs.Inner.{begun}

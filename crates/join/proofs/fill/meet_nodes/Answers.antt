@@ -48,4 +48,4 @@ pub returns : goal.returns
 returns c =
     let l = c.loop-v in
     let e : l.v ≡ c.args.second_nodes = omega arith in
-    rw (← e) (ap (literals l.joined_node_table) c.put_last.ensures ∙ l.invariant.1)
+    ap (literals l.joined_node_table) c.put_last.ensures ∙ rw e at l.invariant.1

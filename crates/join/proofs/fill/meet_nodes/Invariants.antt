@@ -1,6 +1,6 @@
 -- `fill::meet_nodes` meets its contract. The invariant: the words of the nodes so far are put. From the laws of filling.
 use mathlib.Core.Path.{◌≡◌}
-use Prim.Native.Nat.{◌+◌, ◌-◌, ◌*◌, ◌≤◌}
+use Prim.Native.Nat.{◌+◌, ◌*◌, ◌≤◌}
 use lib.ListN.{length}
 use Rattle.graph.specs.Finite.{tab}
 use Rattle.graph.specs.Inner.{begun, words_put}
@@ -15,6 +15,3 @@ invariant-loop-v l =
     × (literals l.joined_node_table (begun (l.start + 3 * l.v) l.more l.joined_node_bits) ≡ words_put l.start (tab (3 * l.v) (met_word_by (lent_table l.second_node_table) (lent_table l.output_table) l.base l.inputs)) (literals l.initial.joined_node_table (begun l.start l.got l.initial.joined_node_bits)))
     × (length l.joined_node_table ≡ length l.initial.joined_node_table)
     × (length l.joined_node_bits ≡ length l.initial.joined_node_bits)
-
-abbrev pub decreases-loop-v : goal.decreases-loop-v
-decreases-loop-v l = l.second_nodes - l.v

@@ -51,4 +51,4 @@ pub returns : goal.returns
 returns c =
     let l = c.loop-j in
     let e : l.j ≡ c.args.outputs = omega arith in
-    rw (← e) (ap (literals l.joined_output_table) c.put_last.ensures ∙ l.invariant.1)
+    ap (literals l.joined_output_table) c.put_last.ensures ∙ rw e at l.invariant.1

@@ -1,6 +1,6 @@
 -- `fill::meet_outputs` meets its contract. The invariant: the outputs so far are put. From the laws of filled tables.
 use mathlib.Core.Path.{◌≡◌}
-use Prim.Native.Nat.{◌-◌, ◌≤◌}
+use Prim.Native.Nat.{◌≤◌}
 use lib.ListN.{length, get_or}
 use Rattle.graph.specs.Finite.{tab}
 use Rattle.graph.specs.Inner.{begun}
@@ -15,6 +15,3 @@ invariant-loop-j l =
     × (literals l.joined_output_table (begun l.j l.got l.joined_output_bits) ≡ filled (tab l.j (λ k. met_by (lent_table l.output_table) l.base l.inputs (get_or (lent_table l.second_output_table) k 0))) (literals l.initial.joined_output_table l.initial.joined_output_bits))
     × (length l.joined_output_table ≡ length l.initial.joined_output_table)
     × (length l.joined_output_bits ≡ length l.initial.joined_output_bits)
-
-abbrev pub decreases-loop-j : goal.decreases-loop-j
-decreases-loop-j l = l.outputs - l.j
