@@ -4,23 +4,19 @@ use mathlib.Core.Bool.{true, and-false}
 use mathlib.Core.List.{List}
 use mathlib.Core.Logic.{◌≢◌}
 use Prim.Native.Nat.{ℕ, ◌*◌, ◌≤◌, ◌<◌}
-use native.Mathlib.Omega.{arith}
 use lib.ListN.{length}
 use borrow.Author.Tests.{eq-eqb, ne_eqb}
-use Rattle.graph.specs.Finite.{first}
 use Rattle.graph.specs.Graph.{Graph}
 use Rattle.graph.specs.Count.{readers, node_readers}
-use Rattle.graph.specs.Admission.{admission_number, Admitted}
+use Rattle.graph.specs.Admission.{Admitted}
 use Rattle.graph.proofs.Admit.{admitted, locks_admitted}
-use Rattle.graph.specs.Answer.{Answer, Outcome, outcome, refused}
-use Rattle.graph.specs.Inner.{IsRefusal}
-use Rattle.graph.proofs.Answers.{first_le, if_less_le, admission_le, refused_outcome, accepted_outcome}
-use Rattle.graph.proofs.Cases.{cond_le}
-use Rattle.graph.proofs.Tests.{off, both, fault, none, passes, less, no_less}
-use Rattle.moves.specs.Call.{node_fault, root_fault, scratch_fault, tree_number, rewrite, tree_call}
+use Rattle.graph.specs.Answer.{Answer, Outcome, outcome}
+use Rattle.graph.proofs.Answers.{accepted_outcome}
+use Rattle.graph.proofs.Tests.{off, both, passes, less, no_less}
+use Rattle.moves.specs.Call.{root_fault, scratch_fault, tree_number, rewrite, tree_call}
 use Rattle.moves.specs.Tree.{is_root, tree}
 use Rattle.moves.specs.Compose.{IsRoot}
-use Rattle.moves.proofs.Known.{node_known, node_fault_le}
+use Rattle.moves.proofs.Known.{node_known}
 
 -- the test of a root, as the code makes it
 module _ (g : Graph) (u : ℕ) where
@@ -46,35 +42,6 @@ module _ (g : Graph) where
   scratch_known s e = (off s (8 * g.N) 7 0 e).0
 
   module _ (ls : List ℕ) (s r : ℕ) where
-    -- the numbers in their order
-    pub by_admission : (k : ℕ) → k ≡ admission_number g ls → k ≢ 0 → k ≡ tree_number g ls s r
-    unfolding tree_number
-    by_admission k e d = fault (admission_number g ls) _ e (λ z. d (e ∙ z))
-
-    pub by_node : admission_number g ls ≡ 0 → (k : ℕ) → k ≡ node_fault g r → k ≢ 0 → k ≡ tree_number g ls s r
-    unfolding tree_number
-    by_node a k e d = none (admission_number g ls) _ a (fault (node_fault g r) _ e (λ z. d (e ∙ z)))
-
-    pub by_rest : admission_number g ls ≡ 0 → node_fault g r ≡ 0 → (k t m : ℕ) → k ≡ first t m → t ≡ root_fault g r → m ≡ scratch_fault g s → k ≡ tree_number g ls s r
-    unfolding tree_number
-    by_rest a n k t m e p q = none (admission_number g ls) _ a (none (node_fault g r) _ n (e ∙ rw (p, q)))
-
-    root_le : root_fault g r ≤ 9
-    unfolding root_fault
-    root_le = cond_le (is_root g r) 0 7 9 (omega arith) (omega arith)
-
-    scratch_le : scratch_fault g s ≤ 9
-    unfolding scratch_fault
-    scratch_le = if_less_le s (8 * g.N) 8 0 9 (omega arith) (omega arith)
-
-    tree_le : tree_number g ls s r ≤ 13
-    unfolding tree_number
-    tree_le = first_le _ _ 13 (omega (arith, admission_le g ls)) (first_le _ _ 13 (omega (arith, node_fault_le g r)) (first_le _ _ 13 (omega (arith, root_le)) (omega (arith, scratch_le))))
-
-    -- what `refused_by` asks of the number
-    pub tree_range : (k : ℕ) → k ≡ tree_number g ls s r → k ≢ 0 → IsRefusal k
-    tree_range k e d = (omega (arith, d), omega (arith, tree_le))
-
     -- what an accepted call may rest on
     pub accepted_by : tree_number g ls s r ≡ 0 → (Admitted g) × (IsRoot g r) × (8 * g.N ≤ s) × (g.N ≤ length ls)
     unfolding tree_number
@@ -93,11 +60,7 @@ pub long_scratch : (g : Graph) (s : ℕ) → 8 * g.N ≤ s → 0 ≡ scratch_fau
 unfolding scratch_fault
 long_scratch g s h = no_less s (8 * g.N) 8 0 h refl
 
--- the call, refused and not
-pub refused_call : (g : Graph) (ls : List ℕ) (s r k : ℕ) → k ≡ tree_number g ls s r → k ≢ 0 → outcome (refused k) g ≡ tree_call g ls s r
-unfolding tree_call
-refused_call g ls s r k e d = refused_outcome k (tree_number g ls s r) g (rewrite g ls (tree g r)) e (λ z. d (e ∙ z))
-
+-- the call, accepted
 pub accepted_call : (g : Graph) (ls : List ℕ) (s r : ℕ) (o : Outcome) → tree_number g ls s r ≡ 0 → o ≡ rewrite g ls (tree g r) → o ≡ tree_call g ls s r
 unfolding tree_call
 accepted_call g ls s r o e q = q ∙ accepted_outcome (tree_number g ls s r) g (rewrite g ls (tree g r)) e

@@ -9,9 +9,8 @@ pub mod faults;
 mod rewrite;
 pub mod writing;
 
-use graph::Lent;
-use graph::faults::refused_by;
 use graph::table::Table;
+use graph::{Lent, Refusal};
 use moves::Saving;
 
 // The tree call: of all choices of moves for the tree of a root that leave locked nodes alone the first with the least C, by falling
@@ -27,7 +26,7 @@ pub fn tree_call<'x>(
     locks: &'x [u8],
     root: u32,
     scratch: &mut [u32],
-) -> Saving
+) -> Result<Saving, Refusal>
     ensures outcome { let g = graph_in inputs nodes outputs node_table.now node_bits.old output_table.now output_bits.old in
         let k = graph_in inputs nodes outputs node_table.now node_bits.new output_table.now output_bits.new in
         outcome (saving_answer result) k ≡ tree_call g locks.now (length scratch.old) root }
@@ -47,11 +46,8 @@ pub fn tree_call<'x>(
         },
         locks,
     };
-    let number = faults::tree_number(&lent, root, scratch.len());
-    if number != 0 {
-        return Saving::Refused(refused_by(number));
-    }
-    rewrite::rewrite_tree(
+    faults::check_tree(&lent, root, scratch.len())?;
+    Ok(rewrite::rewrite_tree(
         inputs,
         nodes,
         outputs,
@@ -62,5 +58,5 @@ pub fn tree_call<'x>(
         locks,
         root,
         scratch,
-    )
+    ))
 }

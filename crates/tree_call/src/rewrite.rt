@@ -3,7 +3,7 @@ ghost use Rattle.std.specs.Prelude.{◌≡◌, ◌*◌, ◌≤◌, length};
 ghost use Rattle.graph.specs.Admission.{Admitted};
 ghost use Rattle.graph.specs.Answer.{outcome};
 ghost use Rattle.graph.specs.Literals.{graph_in};
-ghost use Rattle.moves.specs.Call.{saving_answer, rewrite};
+ghost use Rattle.moves.specs.Call.{told_saving, rewrite};
 ghost use Rattle.moves.specs.Tree.{tree};
 ghost use Rattle.moves.specs.Compose.{IsRoot};
 
@@ -13,7 +13,6 @@ use graph::edges::complemented;
 use graph::table::Table;
 use moves::Saving;
 use moves::gains::{Odds, saved_by};
-use moves::words::wide;
 use trees::deciding::decide_tree;
 use trees::making::decided_step;
 use trees::start::fill_scratch;
@@ -35,7 +34,7 @@ pub fn rewrite_tree<'x>(
         Admitted g × IsRoot g root × (8 * nodes ≤ length scratch.old) × (nodes ≤ length locks.now) }
     ensures { let g = graph_in inputs nodes outputs node_table.now node_bits.old output_table.now output_bits.old in
         let k = graph_in inputs nodes outputs node_table.now node_bits.new output_table.now output_bits.new in
-        outcome (saving_answer result) k ≡ rewrite g locks.now (tree g root) }
+        outcome (told_saving result) k ≡ rewrite g locks.now (tree g root) }
 {
     let lent = Lent {
         inputs,
@@ -53,7 +52,7 @@ pub fn rewrite_tree<'x>(
     };
     let before = complemented(&lent);
     fill_scratch(&lent, scratch);
-    let v = wide(root - (inputs + 1));
+    let v = (root - (inputs + 1)) as usize;
     decide_tree(&lent, v, scratch);
     let step = decided_step(&lent, v, before, scratch);
     write_tree(

@@ -1,8 +1,8 @@
 -- A root, by its readers and those in the node table.
 use mathlib.Core.Path.{sym, ◌∙◌}
-use Rattle.graph.specs.Graph.{Graph, graph_of}
+use Rattle.graph.specs.Graph.{Graph}
 use Rattle.tree_call.proofs.Refused.{root_several, root_read, no_root}
-use Rattle.tree_call.proofs.faults.root_fault.Goals as goal
+use Rattle.tree_call.proofs.faults.check_root.Goals as goal
 use Rattle.graph.specs.Tables.{lent_graph}
 
 pub returns-then-r-ne1 : goal.returns-then-r-ne1
