@@ -1,29 +1,27 @@
 // What refuses to export a graph.
 ghost use Rattle.std.specs.Prelude.{◌≡◌};
-ghost use Rattle.aiger.specs.Export.{export_number};
+ghost use Rattle.graph.specs.Answer.{refusal_number};
 ghost use Rattle.graph.specs.Tables.{lent_graph};
+ghost use Rattle.aiger.specs.Export.{export_number};
 
 use crate::sizes;
-use graph::Lent;
+use graph::faults::check_admission;
+use graph::{Lent, Refusal};
 
-// The number that refuses it, with this many words of scratch and bytes of buffer; 0 is none. Where any text of so many nodes fits, it is not
-// measured.
-pub fn export_number(lent: &Lent, words: usize, room: usize) -> u32
+// With this many words of scratch and bytes of buffer. Where any text of so many nodes fits, it is not measured.
+pub fn check_export(lent: &Lent, words: usize, room: usize) -> Result<(), Refusal>
     ensures { let g = lent_graph lent.now in
-        result ≡ export_number g lent.now.locks.now words room }
+        refusal_number result ≡ export_number g lent.now.locks.now words room }
 {
-    let k = graph::faults::admission_number(lent);
-    if k != 0 {
-        return k;
-    }
+    check_admission(lent)?;
     if words < lent.nodes as usize {
-        return 8;
+        return Err(Refusal::ShortScratch);
     }
     if sizes::most_bytes(lent.inputs, lent.nodes, lent.outputs) <= room {
-        return 0;
+        return Ok(());
     }
     if room < sizes::text_size(lent) {
-        return 9;
+        return Err(Refusal::ShortBuffer);
     }
-    0
+    Ok(())
 }

@@ -15,19 +15,15 @@ mod sizes;
 mod steps;
 mod text;
 
-use graph::Lent;
-use tagged_file::Written;
+use graph::{Lent, Refusal};
 
-// The text's length is known before scratch or the buffer is written: a refusal has changed nothing.
-pub fn export(lent: &Lent, scratch: &mut [u32], buffer: &mut [u8]) -> Written
+// Returns the length of the text, which is known before scratch or the buffer is written: a refusal has changed nothing.
+pub fn export(lent: &Lent, scratch: &mut [u32], buffer: &mut [u8]) -> Result<usize, Refusal>
     ensures outcome { let g = lent_graph lent.now in
         write_outcome (written_answer result) buffer.new ≡ export_call g lent.now.locks.now scratch.old buffer.old }
     ensures scratch { ScratchKept (written_answer result) scratch.old scratch.new }
 {
-    let number = faults::export_number(lent, scratch.len(), buffer.len());
-    if number != 0 {
-        return Written::Refused(graph::faults::refused_by(number));
-    }
+    faults::check_export(lent, scratch.len(), buffer.len())?;
     gates::fill_literals(lent, scratch);
-    Written::Bytes(text::put_text(lent, scratch, buffer))
+    Ok(text::put_text(lent, scratch, buffer))
 }

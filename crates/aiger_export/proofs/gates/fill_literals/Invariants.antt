@@ -1,12 +1,9 @@
 -- `fill_literals` meets its contract: scratch has the literals of the nodes passed. From the laws on counting and sweeps.
-use Prim.Native.Nat.{◌-◌}
 use mathlib.Core.Path.{◌≡◌}
 use lib.ListN.{length}
-use Rattle.graph.specs.Graph.{graph_of}
 use Rattle.graph.proofs.Sweep.{swept}
 use Rattle.aiger_export.specs.Inner.{node_literal}
 use Rattle.aiger_export.proofs.Placed.{Counted}
-use Rattle.graph.specs.Literals.{literals}
 use Rattle.aiger_export.proofs.gates.fill_literals.Given as goal
 use Rattle.graph.specs.Tables.{lent_graph}
 

@@ -1,8 +1,5 @@
 -- `gate_count` meets its contract: the ANDs of the nodes passed are counted. From the laws on counting.
-use Prim.Native.Nat.{◌-◌}
-use Rattle.graph.specs.Graph.{graph_of}
 use Rattle.aiger_export.proofs.Placed.{Counted}
-use Rattle.graph.specs.Literals.{literals}
 use Rattle.aiger_export.proofs.gates.gate_count.Given as goal
 use Rattle.graph.specs.Tables.{lent_graph}
 

@@ -1,11 +1,9 @@
 -- `nodes_size` meets its contract: the lengths of the nodes' lines are added up, and the ANDs counted. From the laws on lengths
 -- in a row and on counting.
 use Prim.Native.Nat.{◌+◌}
-use Rattle.graph.specs.Graph.{graph_of}
 use Rattle.aiger_export.specs.Inner.{node_lines}
 use Rattle.aiger_export.proofs.Placed.{Counted}
 use Rattle.aiger_export.proofs.Summed.{Summed}
-use Rattle.graph.specs.Literals.{literals}
 use Rattle.aiger_export.proofs.sizes.nodes_size.Given as goal
 use Rattle.graph.specs.Tables.{lent_graph}
 

@@ -1,8 +1,6 @@
 -- `outputs_size` meets its contract: the widths of the lines passed are added up. From the laws on lengths in a row.
-use Rattle.graph.specs.Graph.{graph_of}
 use Rattle.aiger_export.specs.Inner.{output_line}
 use Rattle.aiger_export.proofs.Summed.{Summed}
-use Rattle.graph.specs.Literals.{literals}
 use Rattle.aiger_export.proofs.sizes.outputs_size.Given as goal
 use Rattle.graph.specs.Tables.{lent_graph}
 

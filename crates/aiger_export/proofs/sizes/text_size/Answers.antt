@@ -1,5 +1,5 @@
 -- `text_size` meets its contract: the parts' lengths come to the text's. From the text in parts.
-use Rattle.graph.specs.Graph.{Graph, graph_of}
+use Rattle.graph.specs.Graph.{Graph}
 use Rattle.aiger.proofs.Exported.{few_gates}
 use Rattle.aiger_export.proofs.Stored.{text_long}
 use native.Mathlib.Omega.{arith}

@@ -1,8 +1,6 @@
 -- `step_at` meets its contract: no node passed has reached the index yet. From the laws on steps.
-use Prim.Native.Nat.{◌-◌, ◌<◌}
-use Rattle.graph.specs.Graph.{graph_of}
+use Prim.Native.Nat.{◌<◌}
 use Rattle.aiger_export.proofs.Placed.{Counted}
-use Rattle.graph.specs.Literals.{literals}
 use Rattle.aiger_export.proofs.steps.step_at.Given as goal
 use Rattle.graph.specs.Tables.{lent_graph}
 

@@ -4,7 +4,7 @@ use native.Mathlib.Nat.{add-zero}
 use native.Mathlib.Omega.{arith}
 use mathlib.Core.Path.{◌≡◌}
 use lib.ListN.{get_or}
-use Rattle.graph.specs.Graph.{Graph, graph_of}
+use Rattle.graph.specs.Graph.{Graph}
 use Rattle.graph.proofs.Words.{readable}
 use Rattle.aiger.proofs.Gates.{word_early, word_third}
 use Rattle.aiger_export.proofs.Named.{Read, read_majority, xor_first, majority_first, xor_is, majority_is}

@@ -1,8 +1,6 @@
 -- `put_outputs` meets its contract: the lines that are left come to the whole. From the laws on parts in a row.
-use Rattle.graph.specs.Graph.{graph_of}
 use Rattle.tagged_file.proofs.Emitted.{Left}
 use Rattle.aiger_export.specs.Inner.{output_line}
-use Rattle.graph.specs.Literals.{literals}
 use Rattle.aiger_export.proofs.text.put_outputs.Given as goal
 use Rattle.graph.specs.Tables.{lent_graph}
 

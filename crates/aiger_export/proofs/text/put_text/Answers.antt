@@ -2,7 +2,7 @@
 use mathlib.Core.Path.{◌∙◌, sym}
 use mathlib.Core.List.{[]}
 use native.Mathlib.Nat.{zero-add}
-use Rattle.graph.specs.Graph.{Graph, graph_of}
+use Rattle.graph.specs.Graph.{Graph}
 use Rattle.tagged_file.specs.Write.{in_order}
 use Rattle.aiger.specs.Export.{header}
 use Rattle.aiger.proofs.Exported.{few_gates}
