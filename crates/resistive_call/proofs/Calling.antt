@@ -1,16 +1,14 @@
--- What the call leaves and saves: its moves, written, leave the graph of the choice, and other edges add what they added. And the call, refused
--- and not.
+-- What the call leaves and saves: its moves, written, leave the graph of the choice, and other edges add what they added. And the call, accepted.
 use mathlib.Core.Path.{◌≡◌, sym, ap, ◌∙◌}
 use mathlib.Core.List.{List}
-use mathlib.Core.Logic.{◌≢◌}
 use Prim.Native.Nat.{ℕ, ◌+◌, ◌-◌}
 use native.Mathlib.Omega.{arith}
 use Rattle.graph.specs.Admission.{Admitted}
-use Rattle.graph.specs.Answer.{Answer, refused, Outcome, outcome}
+use Rattle.graph.specs.Answer.{Answer, Outcome, outcome}
 use Rattle.graph.specs.Count.{C}
 use Rattle.graph.specs.Finite.{difference}
 use Rattle.graph.specs.Graph.{Graph, node}
-use Rattle.graph.proofs.Answers.{refused_outcome, accepted_outcome}
+use Rattle.graph.proofs.Answers.{accepted_outcome}
 use Rattle.graph.proofs.DifferenceSum.{no_difference}
 use Rattle.moves.specs.Call.{moved, tree_number, rewrite_by, split}
 use Rattle.moves.specs.Compose.{IsRoot}
@@ -45,11 +43,7 @@ rewrite_is g k ls sc r v b a x adm i e td w p q y =
     saved_by_lem g (tree g (node g v)) (best_still g ls (node g v)) k b a 0 0 after (omega (arith, p, q)) others ∙
     ap (λ (u : ℕ). rewrite_by g (tree g u) (best_still g ls u)) n
 
--- the call, refused and not
-pub refused_call : (g : Graph) (ls : List ℕ) (s r k : ℕ) → k ≡ tree_number g ls s r → k ≢ 0 → outcome (refused k) g ≡ resistive_call g ls s r
-unfolding resistive_call
-refused_call g ls s r k e d = refused_outcome k (tree_number g ls s r) g (rewrite_by g (tree g r) (best_still g ls r)) e (λ z. d (e ∙ z))
-
+-- the call, accepted
 pub accepted_call : (g : Graph) (ls : List ℕ) (s r : ℕ) (o : Outcome) → tree_number g ls s r ≡ 0 → o ≡ rewrite_by g (tree g r) (best_still g ls r) → o ≡ resistive_call g ls s r
 unfolding resistive_call
 accepted_call g ls s r o e q = q ∙ accepted_outcome (tree_number g ls s r) g (rewrite_by g (tree g r) (best_still g ls r)) e

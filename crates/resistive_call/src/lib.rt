@@ -12,11 +12,10 @@ mod keys;
 mod numbers;
 mod rewrite;
 
-use graph::Lent;
-use graph::faults::refused_by;
 use graph::table::Table;
+use graph::{Lent, Refusal};
 use moves::Saving;
-use tree_call::faults::tree_number;
+use tree_call::faults::check_tree;
 
 // The call on a tree for resistive memory: of all choices of moves for the tree of a root that leave locked nodes alone and the root's
 // readers unturned, the first with the most majorities of just one complemented input and, of these, the least C, by falling index.
@@ -31,7 +30,7 @@ pub fn resistive_call<'x>(
     locks: &'x [u8],
     root: u32,
     scratch: &mut [u32],
-) -> Saving
+) -> Result<Saving, Refusal>
     ensures outcome { let g = graph_in inputs nodes outputs node_table.now node_bits.old output_table.now output_bits.old in
         let k = graph_in inputs nodes outputs node_table.now node_bits.new output_table.now output_bits.new in
         outcome (saving_answer result) k ≡ resistive_call g locks.now (length scratch.old) root }
@@ -51,11 +50,8 @@ pub fn resistive_call<'x>(
         },
         locks,
     };
-    let number = tree_number(&lent, root, scratch.len());
-    if number != 0 {
-        return Saving::Refused(refused_by(number));
-    }
-    rewrite::rewrite_still(
+    check_tree(&lent, root, scratch.len())?;
+    Ok(rewrite::rewrite_still(
         inputs,
         nodes,
         outputs,
@@ -66,5 +62,5 @@ pub fn resistive_call<'x>(
         locks,
         root,
         scratch,
-    )
+    ))
 }

@@ -3,7 +3,7 @@ ghost use Rattle.std.specs.Prelude.{◌≡◌, ◌*◌, ◌≤◌, length};
 ghost use Rattle.graph.specs.Admission.{Admitted};
 ghost use Rattle.graph.specs.Answer.{outcome};
 ghost use Rattle.graph.specs.Literals.{graph_in};
-ghost use Rattle.moves.specs.Call.{saving_answer, rewrite_by};
+ghost use Rattle.moves.specs.Call.{told_saving, rewrite_by};
 ghost use Rattle.moves.specs.Tree.{tree};
 ghost use Rattle.moves.specs.Compose.{IsRoot};
 ghost use Rattle.resistive.specs.Resistive.{best_still};
@@ -14,7 +14,6 @@ use graph::edges::complemented;
 use graph::table::Table;
 use moves::Saving;
 use moves::gains::{Odds, saved_by};
-use moves::words::wide;
 use tree_call::writing::write_tree;
 use trees::start::fill_scratch;
 
@@ -35,7 +34,7 @@ pub fn rewrite_still<'x>(
         Admitted g × IsRoot g root × (8 * nodes ≤ length scratch.old) × (nodes ≤ length locks.now) }
     ensures { let g = graph_in inputs nodes outputs node_table.now node_bits.old output_table.now output_bits.old in
         let k = graph_in inputs nodes outputs node_table.now node_bits.new output_table.now output_bits.new in
-        outcome (saving_answer result) k ≡ rewrite_by g (tree g root) (best_still g locks.now root) }
+        outcome (told_saving result) k ≡ rewrite_by g (tree g root) (best_still g locks.now root) }
 {
     let lent = Lent {
         inputs,
@@ -53,7 +52,7 @@ pub fn rewrite_still<'x>(
     };
     let before = complemented(&lent);
     fill_scratch(&lent, scratch);
-    let v = wide(root - (inputs + 1));
+    let v = (root - (inputs + 1)) as usize;
     decide_still(&lent, v, scratch);
     write_tree(
         inputs,

@@ -5,7 +5,6 @@ use Rattle.graph.specs.Graph.{Graph}
 use Rattle.trees.proofs.Falling.{bound_of}
 use Rattle.resistive_call.proofs.ChoicePass.{ChoiceRight}
 use Rattle.trees.proofs.Passes.{FallenTo}
-use Rattle.graph.specs.Literals.{graph_in}
 use Rattle.resistive_call.proofs.deciding.fill_choices.Given as goal
 use Rattle.graph.specs.Tables.{lent_graph}
 

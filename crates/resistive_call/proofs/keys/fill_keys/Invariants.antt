@@ -2,7 +2,6 @@
 use Prim.Native.Nat.{◌-◌}
 use Rattle.trees.proofs.Passes.{RisenTo}
 use Rattle.resistive_call.proofs.KeyPass.{KeyRight}
-use Rattle.graph.specs.Literals.{graph_in}
 use Rattle.resistive_call.proofs.keys.fill_keys.Given as goal
 use Rattle.graph.specs.Tables.{lent_graph}
 
