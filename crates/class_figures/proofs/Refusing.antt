@@ -7,12 +7,16 @@ use native.Mathlib.Nat.{not-suc-le-zero, le_of_suc-le-suc}
 use native.Mathlib.Omega.{arith}
 use lib.IntN.{ℤ}
 use lib.ListN.{length, get_or, take, drop}
-use Rattle.std.proofs.Common.{get_or-take, get_or-drop, ◌∙◌}
+use Rattle.std.specs.List.{list_any}
+use Rattle.std.proofs.lemmas.Bool.{lt-leb}
+use Rattle.std.proofs.lemmas.List.Folds.{list_any_none, list_any_at}
+use Rattle.std.proofs.lemmas.List.Elements.{All-from_get_or}
+use Rattle.std.proofs.Common.{true, false, nat_le, ◌⊎◌, inl, inr, le-leb, length-take, get_or-take, get_or-drop, ◌∙◌}
 use Rattle.class_figures.specs.Figures.{figures}
 use Rattle.graph.specs.Finite.{first, first_of}
 use Rattle.graph.specs.Answer.{Answer}
 use Rattle.graph.proofs.Cases.{lt_or_le}
-use Rattle.graph.proofs.Tests.{less, no_less, both, on, off, all_none, each_none}
+use Rattle.graph.proofs.Tests.{less, no_less, fault, none, both, on, off, all_none, each_none}
 use Rattle.class_figures.specs.Call.{record_length, figure_number, record_number, length_number, figures_number}
 use Rattle.class_figures.specs.Inner.{Roomy}
 
@@ -26,7 +30,7 @@ module _ (r : List ℕ) where
   unfolding figure_number
   low_figure j h = sym (less (get_or r j 0) 1099511627776 0 3 h refl)
 
-  pub high_figure : (j : ℕ) → 1099511627776 ≤ get_or r j 0 → figure_number r j ≡ 3
+  high_figure : (j : ℕ) → 1099511627776 ≤ get_or r j 0 → figure_number r j ≡ 3
   unfolding figure_number
   high_figure j h = sym (no_less (get_or r j 0) 1099511627776 0 3 h refl)
 
@@ -34,15 +38,46 @@ module _ (r : List ℕ) where
   unfolding figure_number
   figure_low j e = (on (get_or r j 0) 1099511627776 2 0 e).0
 
-  -- the words that a short record lacks are as good as 0
-  pub rest_none : (j : ℕ) → first_of j (figure_number r) ≡ 0 → min record_length (length r) ≤ j → first_of record_length (figure_number r) ≡ 0
-  rest_none j e h =
-      all_none record_length (figure_number r)
-      (λ i l.
+  figure_cases : (n : ℕ) → (first_of n (figure_number r) ≡ 0) ⊎ (first_of n (figure_number r) ≡ 3)
+  unfolding first_of
+  figure_cases zero = inl refl
+  figure_cases (suc n) =
       ⊎_elim
-      (λ (k : i < j). each_none j (figure_number r) e i k)
-      (λ (k : j ≤ i). low_figure i (let z = get_d_past r i (omega arith) in omega arith))
-      (lt_or_le i j))
+      (λ (e : first_of n (figure_number r) ≡ 0).
+      ⊎_elim
+      (λ (l : get_or r n 0 < 1099511627776). inl (sym (none _ _ e (sym (low_figure n l)))))
+      (λ (l : 1099511627776 ≤ get_or r n 0). inr (sym (none _ _ e (sym (high_figure n l)))))
+      (lt_or_le (get_or r n 0) 1099511627776))
+      (λ (e : first_of n (figure_number r) ≡ 3). inr (sym (fault _ _ (sym e) (λ z. omega arith))))
+      (figure_cases n)
+
+  -- the words that a short record lacks are as good as 0
+  pub high_word : list_any (nat_le 1099511627776) (take record_length r) ≡ true → first_of record_length (figure_number r) ≡ 3
+  high_word e =
+      ⊎_elim
+      (λ (z : first_of record_length (figure_number r) ≡ 0).
+      let none_high : list_any (nat_le 1099511627776) (take record_length r) ≡ false =
+      list_any_none (nat_le 1099511627776) (take record_length r)
+      (All-from_get_or (λ x. nat_le 1099511627776 x ≡ false) (take record_length r) 0
+      (λ i l.
+      let h : i < record_length = omega (arith, length-take record_length r) in
+      rw (get_or-take record_length r i 0 h) (lt-leb _ _ (figure_low i (each_none record_length (figure_number r) z i h))))) in
+      absurd (cc))
+      (λ (z : first_of record_length (figure_number r) ≡ 3). z)
+      (figure_cases record_length)
+
+  pub no_high_word : list_any (nat_le 1099511627776) (take record_length r) ≡ false → first_of record_length (figure_number r) ≡ 0
+  no_high_word e =
+      all_none record_length (figure_number r)
+      (λ i h.
+      ⊎_elim
+      (λ (l : get_or r i 0 < 1099511627776). low_figure i l)
+      (λ (l : 1099511627776 ≤ get_or r i 0).
+      let k : i < length (take record_length r) = ⊎_elim (λ (k : i < length r). omega (arith, length-take record_length r)) (λ (k : length r ≤ i). absurd (omega (arith, get_d_past r i k))) (lt_or_le i (length r)) in
+      let some_high : list_any (nat_le 1099511627776) (take record_length r) ≡ true =
+      list_any_at (nat_le 1099511627776) (take record_length r) i 0 k (rw (get_or-take record_length r i 0 h) (le-leb _ _ l)) in
+      absurd (cc))
+      (lt_or_le (get_or r i 0) 1099511627776))
 
   pub roomy : (n : ℕ) → record_number n r ≡ 0 → length_number r ≡ 0 → Roomy r
   unfolding record_number length_number

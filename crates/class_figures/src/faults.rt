@@ -1,5 +1,6 @@
 // What refuses a call of a class.
-ghost use Rattle.std.specs.Prelude.{◌≡◌, min, get_or};
+ghost use Rattle.std.specs.Prelude.{◌≡◌, get_or, take, nat_le};
+ghost use Rattle.std.specs.List.{list_any};
 ghost use Rattle.graph.specs.Finite.{first};
 ghost use Rattle.graph.specs.Answer.{refusal_number};
 ghost use Rattle.graph.specs.Admission.{tables_number};
@@ -8,23 +9,18 @@ ghost use Rattle.graph.specs.Tables.{lent_graph};
 
 use graph::{Lent, Refusal};
 
-fn lesser(a: usize, b: usize) -> usize
-    ensures { result ≡ min a b }
-{
-    if a < b {
-        return a;
-    }
-    b
-}
-
 // How many graphs a record counts.
 fn counted(book: &[u64]) -> u64
     ensures { result ≡ get_or book.now 0 0 }
 {
-    if book.len() == 0 {
-        return 0;
-    }
-    book[0]
+    book.first().copied().unwrap_or(0)
+}
+
+// Whether a record holds a figure of 2 to the 40th or above.
+fn holds_high(book: &[u64]) -> bool
+    ensures { result ≡ list_any (nat_le 1099511627776) (take 86 book.now) }
+{
+    book.iter().take(86).any(|figure| 1099511627776 <= *figure)
 }
 
 // Refused by 3 where a record counts too many, or holds a figure of 2 to the 40th or above.
@@ -34,11 +30,8 @@ fn check_record(limit: u64, book: &[u64]) -> Result<(), Refusal>
     if limit <= counted(book) {
         return Err(Refusal::OverLimit);
     }
-    let end = lesser(86, book.len());
-    for j in 0..end {
-        if 1099511627776 <= book[j] {
-            return Err(Refusal::OverLimit);
-        }
+    if holds_high(book) {
+        return Err(Refusal::OverLimit);
     }
     Ok(())
 }

@@ -7,15 +7,6 @@ ghost use Rattle.class_figures.specs.Inner.{Roomy};
 use crate::ClassFigures;
 use graph::signed;
 
-fn at_most(n: u64) -> u64
-    ensures { result ≡ min 16 n }
-{
-    if 16 < n {
-        return 16;
-    }
-    n
-}
-
 // What is told of so many graphs whose five totals these are.
 fn told(count: u64, totals: &[u64]) -> ClassFigures
     requires { (5 ≤ length totals.now) × ((k : ℕ) → k < 5 → get_or totals.now k 0 ≤ 17592186044416) }
@@ -65,5 +56,5 @@ pub fn latest(book: &[u64]) -> ClassFigures
         latest_total(book, 3),
         latest_total(book, 4),
     ];
-    told(at_most(book[0]), &totals)
+    told(book[0].min(16), &totals)
 }
