@@ -1,10 +1,9 @@
 -- `cells::node_cells` meets its contract: the sum over the nodes passed, at most 12 a node. From its callees' contracts.
 use mathlib.Core.Path.{◌≡◌}
 use mathlib.Core.List.{List, []}
-use Prim.Native.Nat.{ℕ, ◌-◌, ◌*◌, ◌≤◌}
+use Prim.Native.Nat.{ℕ, ◌*◌, ◌≤◌}
 use Rattle.graph.specs.Finite.{sum}
 use Rattle.graph.specs.Graph.{graph_of}
-use Rattle.graph.specs.Literals.{literals}
 use Rattle.class_figures.specs.Figures.{kind_cells}
 use Rattle.class_figures.proofs.cells.node_cells.Given as goal
 use Rattle.graph.specs.Tables.{lent_table}

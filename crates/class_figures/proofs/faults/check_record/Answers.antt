@@ -1,5 +1,5 @@
 -- `faults::check_record` meets its contract. From the laws on refusing.
-use Rattle.std.proofs.Common.{◌≡◌, ℕ, get_or, refl, sym, ap, ◌∙◌, arith}
+use Rattle.std.proofs.Common.{◌≡◌, ℕ, get_or, refl, sym, ◌∙◌, arith}
 use Rattle.graph.specs.Finite.{if_less}
 use Rattle.graph.proofs.Tests.{less, no_less, fault, none}
 use Rattle.class_figures.specs.Call.{record_number}

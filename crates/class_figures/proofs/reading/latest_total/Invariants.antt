@@ -1,6 +1,6 @@
 -- `reading::latest_total` meets its contract: the sum over the rows passed. From what a record holds.
 use mathlib.Core.Path.{◌≡◌}
-use Prim.Native.Nat.{◌+◌, ◌-◌, ◌*◌, ◌≤◌}
+use Prim.Native.Nat.{◌+◌, ◌*◌, ◌≤◌}
 use lib.ListN.{get_or}
 use Rattle.graph.specs.Finite.{sum}
 use Rattle.class_figures.proofs.reading.latest_total.Given as goal
