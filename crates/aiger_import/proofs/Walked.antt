@@ -8,11 +8,19 @@ use native.Mathlib.Nat.{eq-or-lt_of_le}
 use native.Mathlib.Numerals.{add-one}
 use lib.ListN.{length, get_or, drop, set, length-drop}
 use lib.Seq.{drop-drop, get_or-set_same, get_or-set_other}
+use Rattle.std.proofs.Common.{Result, Ok, Err}
+use Rattle.std.specs.Result.{IsErrAnd}
+use Rattle.std.proofs.lemmas.Result.{err_from_is_err_and}
+use Rattle.graph.specs.Answer.{number_of}
+use Rattle.graph.specs.declared.Refusal.{Refusal}
 use Rattle.graph.specs.Finite.{first}
+use Rattle.graph.proofs.Answers.{number_some}
 use Rattle.graph.proofs.Tests.{fault, none}
 use Rattle.aiger.specs.Lines.{number, ended_number, next, skip, number_at, line_number}
 use Rattle.aiger.proofs.Walk.{skip_next}
-use Rattle.aiger_import.specs.Reading.{NumberRead, LineRead}
+use Rattle.aiger_import.specs.Reading.{NumberIs, NumberRead, Taken, LineRead}
+use Rattle.aiger_import.specs.declared.lines.Number.{Number}
+use Rattle.aiger_import.proofs.Tested.{err_passed}
 
 -- j of a line's numbers are read, up to place `at`
 pub record Walked (k : ℕ) (s ns : List ℕ) (at j : ℕ) : Type 0 where
@@ -37,60 +45,75 @@ unfolding line_number
 line_last zero s h = refl
 line_last (suc k) s h = absurd (omega arith)
 
+-- a line that is refused
+line_refused : {k : ℕ} {s ns : List ℕ} (r : Result ℕ Refusal) (x : Refusal) → IsErrAnd r (λ y. y ≡ x) → number_of x ≡ line_number k s → LineRead k s ns r
+line_refused {k} {s} r x q m =
+    let p = err_from_is_err_and r q in
+    rw (p.1, p.2) (record { passed = err_passed (line_number k s) (suc k) s x m; numbers = λ size h. absurd (cc) })
+
+-- a fact on what was returned
+taken_is : {n m : ℕ} {s : List ℕ} (size : ℕ) → ◌≡◌ {A = Result ℕ Refusal} (Ok m) (Ok size) → Taken n s m → Taken n s size
+taken_is {n} {m} {s} size e t = let q : m ≡ size = cc in rw (← q) t
+
 -- one more number, at the front of what is left
-module _ (k : ℕ) (s ns : List ℕ) (at j : ℕ) (w : Walked k s ns at j) (end : ℕ) (t : List ℕ) (e : t ≡ drop at s) (n v size : ℕ) (r : NumberRead end t n v size) where
+module _ (k : ℕ) (s ns : List ℕ) (at j : ℕ) (w : Walked k s ns at j) (end : ℕ) (t : List ℕ) (e : t ≡ drop at s) where
   left_is : t ≡ skip j s
   left_is = e ∙ w.place
 
-  pub ends : at + size ≤ length s
-  ends = let f = ap length e in omega (arith, length-drop at s, r.within, w.within)
+  ended_at : ended_number end t ≡ ended_number end (skip j s)
+  ended_at = ap (ended_number end) left_is
 
-  after : n ≡ 0 → drop (at + size) s ≡ skip (suc j) s
-  unfolding next
-  after z =
-      sym (drop-drop size at s) ∙ ap (λ (l : List ℕ). drop size l) (sym e) ∙ ap (λ (m : ℕ). drop m t) (r.size_is z) ∙ ap next left_is ∙ sym (skip_next j s)
+  -- with a space after it, and with a newline
+  step : j < k → end ≡ 32 → line_number k s ≡ first (ended_number end t) (line_number (k - (j + 1)) (skip (suc j) s))
+  step h f =
+      let q : k - j - 1 ≡ k - (j + 1) = omega arith in
+      let p : ended_number 32 (skip j s) ≡ ended_number end t = ap (λ (m : ℕ). ended_number m (skip j s)) (sym f) ∙ sym ended_at in
+      sym w.rest ∙ line_more (k - j) (skip j s) (omega arith) ∙ rw (p, q, skip_next j s) refl
 
-  known : n ≡ 0 → j < length ns → (i : ℕ) → i < suc j → get_or (set ns j v) i 0 ≡ number_at s i
-  known z l i h =
-      ⊎_elim
-      (λ (q : i ≡ j). rw q (get_or-set_same ns j v 0 l ∙ r.value_is z ∙ ap number left_is))
-      (λ (q : i < j). get_or-set_other ns j i v 0 (omega arith) ∙ w.numbers i q)
-      (eq-or-lt_of_le (omega arith))
+  last_step : k ≤ j → end ≡ 10 → line_number k s ≡ ended_number end t
+  last_step h f =
+      let d : k - j ≡ 0 = omega arith in
+      sym w.rest ∙ line_last (k - j) (skip j s) d ∙ ap (λ (m : ℕ). ended_number m (skip j s)) (sym f) ∙ sym ended_at
 
-  module _ (h : j < k) (f : end ≡ 32) where
-    step : line_number k s ≡ first n (line_number (k - (j + 1)) (skip (suc j) s))
-    step =
-        let q : k - j - 1 ≡ k - (j + 1) = omega arith in
-        let p : ended_number 32 (skip j s) ≡ n = ap (λ (m : ℕ). ended_number m (skip j s)) (sym f) ∙ ap (ended_number end) (sym left_is) ∙ sym r.fault_is in
-        sym w.rest ∙ line_more (k - j) (skip j s) (omega arith) ∙ rw (p, q, skip_next j s) refl
+  pub space_fault : j < k → end ≡ 32 → (r : Result ℕ Refusal) (x : Refusal) → IsErrAnd r (λ y. y ≡ x) → NumberRead end t (Err x) → LineRead k s ns r
+  space_fault h f r x q n = line_refused r x q (fault _ _ n.fault_is (λ z. number_some x (n.fault_is ∙ z)) ∙ sym (step h f))
 
-    pub walked_fault : (n ≡ 0 → ⊥) → LineRead k s ns n 0
-    walked_fault z =
-        record {
-          passed = record { fault_is = fault n _ refl z ∙ sym step; within = λ y. absurd (z y); after = λ y. absurd (z y) };
-          numbers = λ y. absurd (z y);
-        }
+  pub newline_fault : k ≤ j → end ≡ 10 → (r : Result ℕ Refusal) (x : Refusal) → IsErrAnd r (λ y. y ≡ x) → NumberRead end t (Err x) → LineRead k s ns r
+  newline_fault h f r x q n = line_refused r x q (n.fault_is ∙ sym (last_step h f))
 
-    pub walked_more : n ≡ 0 → j < length ns → Walked k s (set ns j v) (at + size) (j + 1)
-    walked_more z l =
+  module _ (n : Number) (r : NumberRead end t (Ok n)) where
+    abbrev number_is : NumberIs t n
+    number_is = r.is n refl
+
+    pub ends : at + n.size ≤ length s
+    ends = let f = ap length e in omega (arith, length-drop at s, number_is.within, w.within)
+
+    after : drop (at + n.size) s ≡ skip (suc j) s
+    unfolding next
+    after =
+        sym (drop-drop n.size at s) ∙ ap (λ (l : List ℕ). drop n.size l) (sym e) ∙ ap (λ (m : ℕ). drop m t) number_is.size_is ∙ ap next left_is ∙ sym (skip_next j s)
+
+    known : j < length ns → (i : ℕ) → i < suc j → get_or (set ns j n.value) i 0 ≡ number_at s i
+    known l i h =
+        ⊎_elim
+        (λ (q : i ≡ j). rw q (get_or-set_same ns j n.value 0 l ∙ number_is.value_is ∙ ap number left_is))
+        (λ (q : i < j). get_or-set_other ns j i n.value 0 (omega arith) ∙ w.numbers i q)
+        (eq-or-lt_of_le (omega arith))
+
+    pub walked_more : j < k → end ≡ 32 → j < length ns → Walked k s (set ns j n.value) (at + n.size) (j + 1)
+    walked_more h f l =
         record {
           most = omega arith;
           within = ends;
-          place = rw (add-one j) (after z);
-          rest = rw (add-one j) (rw (add-one j) at (none n _ z refl ∙ sym step));
-          numbers = rw (add-one j) (known z l);
+          place = rw (add-one j) after;
+          rest = rw (add-one j) (rw (add-one j) at (none _ _ (sym r.fault_is) refl ∙ sym (step h f)));
+          numbers = rw (add-one j) (known l);
         }
 
-  pub walked_last : k ≤ j → end ≡ 10 → k < length ns → LineRead k s (set ns k v) n (at + size)
-  walked_last h f l =
-      let q : j ≡ k = omega (arith, w.most) in
-      let d : k - j ≡ 0 = omega arith in
-      record {
-        passed =
-            record {
-              fault_is = r.fault_is ∙ ap (λ (m : ℕ). ended_number m t) f ∙ ap (ended_number 10) left_is ∙ sym (line_last (k - j) (skip j s) d) ∙ w.rest;
-              within = λ z. ends;
-              after = λ z. rw q at (after z);
-            };
-        numbers = λ z i m. rw q at (known z (omega arith)) i (omega arith);
-      }
+    pub walked_last : k ≤ j → end ≡ 10 → k < length ns → LineRead k s (set ns k n.value) (Ok (at + n.size))
+    walked_last h f l =
+        let q : j ≡ k = omega (arith, w.most) in
+        record {
+          passed = record { fault_is = r.fault_is ∙ sym (last_step h f); taken = λ size z. taken_is size z (record { within = ends; after = rw q at after }) };
+          numbers = λ size z i m. rw q at (known (omega arith)) i (omega arith);
+        }

@@ -1,111 +1,96 @@
-// The check pass over the lines after the header: the number of the first fault from front to back, 0 where there is none.
+// The check pass over the lines after the header: the first fault from front to back.
 ghost use Rattle.std.specs.Prelude.{◌≡◌, ◌+◌, ◌≤◌};
+ghost use Rattle.graph.specs.Answer.{refusal_number};
 ghost use Rattle.graph.specs.Finite.{first};
 ghost use Rattle.aiger.specs.Lines.{skip};
 ghost use Rattle.aiger.specs.Import.{input_line_number, output_line_number, gate_line_number, output_lines_number, gate_lines_number, body_number};
 ghost use Rattle.aiger_import.specs.Reading.{Passed};
 
-use crate::lines::{Line, read_line};
+use crate::lines::read_line;
+use graph::Refusal;
+use tagged_file::Sizes;
 
-pub fn input_line(s: &[u8], k: u32) -> Line
+// Each check of a line returns its bytes. The line of input k:
+pub fn check_input(s: &[u8], k: u32) -> Result<usize, Refusal>
     requires { k ≤ 4096 }
-    ensures { Passed (input_line_number s.now k) 1 s.now result.fault result.size }
+    ensures { Passed (input_line_number s.now k) 1 s.now result }
 {
     let mut n = [0u32; 1];
-    let line = read_line(s, 0, &mut n);
-    if line.fault != 0 {
-        return line;
-    }
+    let size = read_line(s, 0, &mut n)?;
     if n[0] != 2 * (1 + k) {
-        return Line { fault: 12, size: 0 };
+        return Err(Refusal::WrongNumbering);
     }
-    line
+    Ok(size)
 }
 
 // An output may name an index below `end`.
-pub fn output_line(s: &[u8], end: u32) -> Line
-    ensures { Passed (output_line_number s.now end) 1 s.now result.fault result.size }
+pub fn check_output(s: &[u8], end: u32) -> Result<usize, Refusal>
+    ensures { Passed (output_line_number s.now end) 1 s.now result }
 {
     let mut n = [0u32; 1];
-    let line = read_line(s, 0, &mut n);
-    if line.fault != 0 {
-        return line;
-    }
+    let size = read_line(s, 0, &mut n)?;
     if end <= n[0] / 2 {
-        return Line { fault: 5, size: 0 };
+        return Err(Refusal::BadLiteral);
     }
-    line
+    Ok(size)
 }
 
 // The gate with this index.
-pub fn gate_line(s: &[u8], index: u32) -> Line
+pub fn check_gate(s: &[u8], index: u32) -> Result<usize, Refusal>
     requires { index ≤ 104097 }
-    ensures { Passed (gate_line_number s.now index) 3 s.now result.fault result.size }
+    ensures { Passed (gate_line_number s.now index) 3 s.now result }
 {
     let mut n = [0u32; 3];
-    let line = read_line(s, 2, &mut n);
-    if line.fault != 0 {
-        return line;
-    }
+    let size = read_line(s, 2, &mut n)?;
     if n[0] != 2 * index {
-        return Line { fault: 12, size: 0 };
+        return Err(Refusal::WrongNumbering);
     }
     if index <= n[1] / 2 {
-        return Line { fault: 5, size: 0 };
+        return Err(Refusal::BadLiteral);
     }
     if index <= n[2] / 2 {
-        return Line { fault: 5, size: 0 };
+        return Err(Refusal::BadLiteral);
     }
-    line
+    Ok(size)
 }
 
-pub fn gates_number(rest: &[u8], nodes: u32, start: u32) -> u32
+pub fn check_gates(rest: &[u8], nodes: u32, start: u32) -> Result<(), Refusal>
     requires { start + nodes ≤ 104097 }
-    ensures { result ≡ gate_lines_number rest.now nodes start }
+    ensures { refusal_number result ≡ gate_lines_number rest.now nodes start }
 {
     let mut s = rest;
     for k in 0..nodes {
-        let line = gate_line(s, start + k);
-        let fault = line.fault;
-        if fault != 0 {
-            return fault;
-        }
-        let size = line.size;
+        let size = check_gate(s, start + k)?;
         s = &s[size..];
     }
-    0
+    Ok(())
 }
 
-pub fn outputs_number(rest: &[u8], inputs: u32, nodes: u32, outputs: u32) -> u32
-    requires { (inputs ≤ 4096) × (nodes ≤ 100000) }
-    ensures { result ≡ first (output_lines_number rest.now outputs (inputs + 1 + nodes)) (gate_lines_number (skip outputs rest.now) nodes (inputs + 1)) }
+pub fn check_outputs(rest: &[u8], sizes: Sizes) -> Result<(), Refusal>
+    requires { (sizes.inputs ≤ 4096) × (sizes.nodes ≤ 100000) }
+    ensures { let i = sizes.inputs in
+        let n = sizes.nodes in
+        let o = sizes.outputs in
+        refusal_number result ≡ first (output_lines_number rest.now o (i + 1 + n)) (gate_lines_number (skip o rest.now) n (i + 1)) }
 {
+    let start = sizes.inputs + 1;
+    let end = start + sizes.nodes;
     let mut s = rest;
-    for j in 0..outputs {
-        let line = output_line(s, inputs + 1 + nodes);
-        let fault = line.fault;
-        if fault != 0 {
-            return fault;
-        }
-        let size = line.size;
+    for j in 0..sizes.outputs {
+        let size = check_output(s, end)?;
         s = &s[size..];
     }
-    gates_number(s, nodes, inputs + 1)
+    check_gates(s, sizes.nodes, start)
 }
 
-pub fn inputs_number(rest: &[u8], inputs: u32, nodes: u32, outputs: u32) -> u32
-    requires { (inputs ≤ 4096) × (nodes ≤ 100000) }
-    ensures { result ≡ body_number rest.now inputs nodes outputs }
+pub fn check_inputs(rest: &[u8], sizes: Sizes) -> Result<(), Refusal>
+    requires { (sizes.inputs ≤ 4096) × (sizes.nodes ≤ 100000) }
+    ensures { refusal_number result ≡ body_number rest.now sizes.inputs sizes.nodes sizes.outputs }
 {
     let mut s = rest;
-    for k in 0..inputs {
-        let line = input_line(s, k);
-        let fault = line.fault;
-        if fault != 0 {
-            return fault;
-        }
-        let size = line.size;
+    for k in 0..sizes.inputs {
+        let size = check_input(s, k)?;
         s = &s[size..];
     }
-    outputs_number(s, inputs, nodes, outputs)
+    check_outputs(s, sizes)
 }

@@ -17,8 +17,7 @@ pub fn after_ones<'a>(rest: &'a [u8], lines: u32) -> &'a [u8]
 {
     let mut s = rest;
     for k in 0..lines {
-        let line = known_number(s);
-        let size = line.size;
+        let size = known_number(s).size;
         s = &s[size..];
     }
     s
@@ -62,16 +61,15 @@ pub fn fill_outputs<'a>(
         literals output_table.new output_bits.new ≡ filled (tab outputs (number_at rest.now)) os }
 {
     let mut s = rest;
+    let end = outputs as usize;
     let mut got: u64 = 0;
-    let mut j: usize = 0;
-    while j < outputs as usize {
+    for j in 0..end {
         let put = fill_output(s, j, got, output_table, output_bits);
         let size = put.size;
         s = &s[size..];
         got = put.got;
-        j += 1;
     }
-    put_last(output_bits, j, got);
+    put_last(output_bits, end, got);
     s
 }
 
@@ -108,14 +106,13 @@ pub fn fill_gates(rest: &[u8], nodes: u32, node_table: &mut [u32], node_bits: &m
         literals node_table.new node_bits.new ≡ filled (tab (3 * nodes) (gate_word rest.now 0)) ns }
 {
     let mut s = rest;
+    let end = nodes as usize;
     let mut got: u64 = 0;
-    let mut k: usize = 0;
-    while k < nodes as usize {
+    for k in 0..end {
         let put = fill_gate(s, 3 * k, got, node_table, node_bits);
         let size = put.size;
         s = &s[size..];
         got = put.got;
-        k += 1;
     }
-    put_last(node_bits, 3 * k, got)
+    put_last(node_bits, 3 * end, got)
 }

@@ -1,87 +1,58 @@
 // The header "aag M I L O A".
-ghost use Rattle.std.specs.Prelude.{◌≡◌, ◌<◌};
+ghost use Rattle.std.specs.Prelude.{◌≡◌};
+ghost use Rattle.graph.specs.Answer.{refusal_number};
 ghost use Rattle.aiger.specs.Import.{aag_number};
 ghost use Rattle.aiger_import.specs.Reading.{HeaderRead};
 
 use crate::lines::read_line;
-use graph::faults::room_number;
+use graph::Refusal;
+use graph::faults::check_room;
+use tagged_file::Sizes;
 
+// What the header says, and how many bytes it takes.
 #[derive(Clone, Copy)]
 pub struct Header {
-    pub fault: u32,
-    pub inputs: u32,
-    pub nodes: u32,
-    pub outputs: u32,
+    pub sizes: Sizes,
     pub size: usize,
 }
 
-pub fn aag_number(s: &[u8]) -> u32
-    ensures { result ≡ aag_number s.now }
+pub fn check_aag(s: &[u8]) -> Result<(), Refusal>
+    ensures { refusal_number result ≡ aag_number s.now }
 {
-    if s.len() < 4 {
-        return 10;
+    if s.starts_with(b"aag ") {
+        return Ok(());
     }
-    if s[0] != 97 {
-        return 10;
-    }
-    if s[1] != 97 {
-        return 10;
-    }
-    if s[2] != 103 {
-        return 10;
-    }
-    if s[3] != 32 {
-        return 10;
-    }
-    0
+    Err(Refusal::BadText)
 }
 
-// A header that is refused.
-pub fn no_header(fault: u32) -> Header
-    ensures { result.fault ≡ fault }
-{
-    Header {
-        fault,
-        inputs: 0,
-        nodes: 0,
-        outputs: 0,
-        size: 0,
-    }
-}
-
-pub fn wide(x: u32) -> u64
-    ensures { (result ≡ x) × (result < 4294967296) }
-{
-    x as u64
-}
-
-pub fn read_header(s: &[u8], node_room: usize, output_room: usize, lock_room: usize) -> Header
+pub fn read_header(
+    s: &[u8],
+    node_room: usize,
+    output_room: usize,
+    lock_room: usize,
+) -> Result<Header, Refusal>
     ensures { HeaderRead s.now node_room output_room lock_room result }
 {
-    let aag = aag_number(s);
-    if aag != 0 {
-        return no_header(aag);
-    }
+    check_aag(s)?;
     let mut n = [0u32; 5];
-    let line = read_line(&s[4..], 4, &mut n);
-    let fault = line.fault;
-    if fault != 0 {
-        return no_header(fault);
-    }
+    let size = read_line(&s[4..], 4, &mut n)?;
     let inputs = n[1];
     let outputs = n[3];
     let nodes = n[4];
     if n[2] != 0 {
-        return no_header(11);
+        return Err(Refusal::HasLatches);
     }
-    if wide(n[0]) != wide(inputs) + wide(nodes) {
-        return no_header(12);
+    if u64::from(n[0]) != u64::from(inputs) + u64::from(nodes) {
+        return Err(Refusal::WrongNumbering);
     }
-    Header {
-        fault: room_number(inputs, nodes, outputs, node_room, output_room, lock_room),
+    check_room(inputs, nodes, outputs, node_room, output_room, lock_room)?;
+    let sizes = Sizes {
         inputs,
         nodes,
         outputs,
-        size: 4 + line.size,
-    }
+    };
+    Ok(Header {
+        sizes,
+        size: 4 + size,
+    })
 }

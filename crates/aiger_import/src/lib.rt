@@ -12,9 +12,9 @@ mod fill;
 mod header;
 mod lines;
 
-use graph::faults::refused_by;
-use graph::table;
-use tagged_file::Loaded;
+use graph::Refusal;
+use graph::table::room_of;
+use tagged_file::Sizes;
 use tagged_file::locks::free;
 
 // The first pass checks the whole text, the second fills the tables and frees every node: a refusal has changed nothing.
@@ -25,7 +25,7 @@ pub fn import(
     output_table: &mut [u32],
     output_bits: &mut [u64],
     locks: &mut [u8],
-) -> Loaded
+) -> Result<Sizes, Refusal>
     ensures { let ns = literals node_table.old node_bits.old in
         let os = literals output_table.old output_bits.old in
         locked_outcome (loaded_answer result) (loaded_graph result (literals node_table.new node_bits.new) (literals output_table.new output_bits.new)) locks.new
@@ -33,29 +33,16 @@ pub fn import(
 {
     let header = header::read_header(
         text,
-        table::room_of(node_table, node_bits),
-        table::room_of(output_table, output_bits),
+        room_of(node_table, node_bits),
+        room_of(output_table, output_bits),
         locks.len(),
-    );
-    let fault = header.fault;
-    if fault != 0 {
-        return Loaded::Refused(refused_by(fault));
-    }
-    let start = header.size;
-    let inputs = header.inputs;
-    let nodes = header.nodes;
-    let outputs = header.outputs;
-    let number = faults::inputs_number(&text[start..], inputs, nodes, outputs);
-    if number != 0 {
-        return Loaded::Refused(refused_by(number));
-    }
-    let after = fill::after_ones(&text[start..], inputs);
-    let gates = fill::fill_outputs(after, outputs, output_table, output_bits);
-    fill::fill_gates(gates, nodes, node_table, node_bits);
-    free(locks, nodes);
-    Loaded::Graph {
-        inputs,
-        nodes,
-        outputs,
-    }
+    )?;
+    let sizes = header.sizes;
+    let body = &text[header.size..];
+    faults::check_inputs(body, sizes)?;
+    let after = fill::after_ones(body, sizes.inputs);
+    let gates = fill::fill_outputs(after, sizes.outputs, output_table, output_bits);
+    fill::fill_gates(gates, sizes.nodes, node_table, node_bits);
+    free(locks, sizes.nodes);
+    Ok(sizes)
 }

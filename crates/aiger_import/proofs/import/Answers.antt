@@ -1,14 +1,16 @@
 -- `import` meets its contract: the check pass decides, and the fill pass does what the definition says. From the laws of both passes.
 use mathlib.Core.List.{List, []}
+use mathlib.Core.Path.{refl, sym}
 use native.Mathlib.Omega.{arith}
 use lib.ListN.{length}
 use Prim.Native.Nat.{ℕ}
+use Rattle.std.proofs.Common.{Ok}
 use Rattle.file_checks.proofs.Checked.{rest}
 use Rattle.graph.specs.Literals.{literals, held}
 use Rattle.aiger_import.specs.Reading.{HeaderRead}
-use Rattle.aiger_import.proofs.Whole.{header_range, header_refused, header_rooms, body_range, body_refused, inputs_there, outputs_there, gates_there, import_accepted}
+use Rattle.aiger_import.proofs.Whole.{header_refused, header_rooms, body_refused, inputs_there, outputs_there, gates_there, import_accepted}
 use Rattle.aiger_import.proofs.import.Goals as goal
-use Rattle.aiger_import.proofs.import.Goals.{After-read_header-header, Start}
+use Rattle.aiger_import.proofs.import.Goals.{In_ok-header, Start}
 
 abbrev ns : Start → List ℕ
 ns s = literals s.args.node_table.now s.args.node_bits.now
@@ -17,57 +19,47 @@ abbrev os : Start → List ℕ
 os s = literals s.args.output_table.now s.args.output_bits.now
 
 -- what the header says, by what the tables hold
+header : (c : In_ok-header) → HeaderRead c.args.text.now (held (literals c.args.node_table.now c.args.node_bits.now)) (held (literals c.args.output_table.now c.args.output_bits.now)) (length c.args.locks.now) (Ok c.in_ok-header.header)
+header c = rw (c.room_of-2.ensures, c.room_of.ensures) at c.in_ok-header.ensures
 
-header : (c : After-read_header-header) → HeaderRead c.args.text.now (held (literals c.args.node_table.now c.args.node_bits.now)) (held (literals c.args.output_table.now c.args.output_bits.now)) (length c.args.locks.now) c.read_header-header.result
-header c = rw (c.room_of-2.ensures, c.room_of.ensures) at c.read_header-header.ensures
+pub returns-in_err-header : goal.returns-in_err-header
+returns-in_err-header c = header_refused _ _ _ _ _ _ c.from_residual.ensures.1 (rw (c.room_of-2.ensures, c.room_of.ensures) at c.in_err-header.ensures)
 
-pub refused_by-requires : goal.refused_by-requires
-refused_by-requires c = header_range _ (ns (goal.at.refused_by-requires c).Start) (os (goal.at.refused_by-requires c).Start) c.args.locks.now _ (header (goal.at.refused_by-requires c).After-read_header-header) c.if-fault-ne0.true
+pub slice_bounds-body-count : goal.slice_bounds-body-count
+slice_bounds-body-count c = (c.in_ok-header.ensures.is _ refl).within
 
-pub returns-then-fault-ne0 : goal.returns-then-fault-ne0
-returns-then-fault-ne0 c = header_refused _ (ns (goal.at.returns-then-fault-ne0 c).Start) (os (goal.at.returns-then-fault-ne0 c).Start) c.args.locks.now _ (header (goal.at.returns-then-fault-ne0 c).After-read_header-header) _ c.refused_by.ensures c.if-fault-ne0.true
+pub slice_bounds-body-start : goal.slice_bounds-body-start
+slice_bounds-body-start c = omega (arith, (c.in_ok-header.ensures.is _ refl).within)
 
-pub slice_bounds-inputs_number-count : goal.slice_bounds-inputs_number-count
-slice_bounds-inputs_number-count c = omega (arith, c.read_header-header.ensures.within c.if-fault-ne0.false)
-
-pub slice_bounds-inputs_number-start : goal.slice_bounds-inputs_number-start
-slice_bounds-inputs_number-start c = omega (arith, c.read_header-header.ensures.within c.if-fault-ne0.false)
-
-pub inputs_number-number-requires : goal.inputs_number-number-requires
-inputs_number-number-requires c =
-    let r = header_rooms _ (ns (goal.at.inputs_number-number-requires c).Start) (os (goal.at.inputs_number-number-requires c).Start) c.args.locks.now _ (header (goal.at.inputs_number-number-requires c).After-read_header-header) c.if-fault-ne0.false in
+pub check_inputs-requires : goal.check_inputs-requires
+check_inputs-requires c =
+    let s = goal.at.check_inputs-requires c in
+    let r = header_rooms _ (ns s.Start) (os s.Start) c.args.locks.now _ (header s.In_ok-header) in
     (r.few_inputs, r.few_nodes)
 
-pub refused_by-requires-then-number-ne0 : goal.refused_by-requires-then-number-ne0
-refused_by-requires-then-number-ne0 c =
-    body_range _ (ns (goal.at.refused_by-requires-then-number-ne0 c).Start) (os (goal.at.refused_by-requires-then-number-ne0 c).Start) c.args.locks.now _ (header (goal.at.refused_by-requires-then-number-ne0 c).After-read_header-header) c.if-fault-ne0.false _ (rest c.read_header-header.result.size c.args.text.now) _ c.inputs_number-number.ensures c.if-number-ne0.true
-
-pub returns-then-number-ne0 : goal.returns-then-number-ne0
-returns-then-number-ne0 c =
-    body_refused _ (ns (goal.at.returns-then-number-ne0 c).Start) (os (goal.at.returns-then-number-ne0 c).Start) c.args.locks.now _ (header (goal.at.returns-then-number-ne0 c).After-read_header-header) c.if-fault-ne0.false _ (rest c.read_header-header.result.size c.args.text.now) _ c.inputs_number-number.ensures _ c.refused_by-then-number-ne0.ensures c.if-number-ne0.true
-
-pub slice_bounds-after_ones-count : goal.slice_bounds-after_ones-count
-slice_bounds-after_ones-count c = omega (arith, c.read_header-header.ensures.within c.if-fault-ne0.false)
-
-pub slice_bounds-after_ones-start : goal.slice_bounds-after_ones-start
-slice_bounds-after_ones-start c = omega (arith, c.read_header-header.ensures.within c.if-fault-ne0.false)
+pub returns-in_err-check_inputs : goal.returns-in_err-check_inputs
+returns-in_err-check_inputs c =
+    let s = goal.at.returns-in_err-check_inputs c in
+    body_refused _ (ns s.Start) (os s.Start) c.args.locks.now _ (header s.In_ok-header) _ (rest c.in_ok-header.header.size c.args.text.now) _ _
+    c.from_residual-in_err-check_inputs.ensures.1 c.in_err-check_inputs.ensures
 
 pub after_ones-after-requires : goal.after_ones-after-requires
 after_ones-after-requires c =
-    inputs_there _ (ns (goal.at.after_ones-after-requires c).Start) (os (goal.at.after_ones-after-requires c).Start) c.args.locks.now _ (header (goal.at.after_ones-after-requires c).After-read_header-header) c.if-fault-ne0.false _ (rest c.read_header-header.result.size c.args.text.now) _ c.inputs_number-number.ensures c.if-number-ne0.false
+    let s = goal.at.after_ones-after-requires c in
+    inputs_there _ (ns s.Start) (os s.Start) c.args.locks.now _ (header s.In_ok-header) _ (rest c.in_ok-header.header.size c.args.text.now) (sym c.in_ok-check_inputs.ensures)
 
 pub fill_outputs-gates-requires : goal.fill_outputs-gates-requires
 fill_outputs-gates-requires c =
-    let z = c.if-fault-ne0.false in (
-      outputs_there _ (ns (goal.at.fill_outputs-gates-requires c).Start) (os (goal.at.fill_outputs-gates-requires c).Start) c.args.locks.now _ (header (goal.at.fill_outputs-gates-requires c).After-read_header-header) z _ (rest c.read_header-header.result.size c.args.text.now) _ c.inputs_number-number.ensures c.if-number-ne0.false _ [] c.after_ones-after.ensures,
-      (header_rooms _ (ns (goal.at.fill_outputs-gates-requires c).Start) (os (goal.at.fill_outputs-gates-requires c).Start) c.args.locks.now _ (header (goal.at.fill_outputs-gates-requires c).After-read_header-header) z).long_outputs,
+    let s = goal.at.fill_outputs-gates-requires c in (
+      outputs_there _ (ns s.Start) (os s.Start) c.args.locks.now _ (header s.In_ok-header) _ (rest c.in_ok-header.header.size c.args.text.now) (sym c.in_ok-check_inputs.ensures) _ [] c.after_ones-after.ensures,
+      (header_rooms _ (ns s.Start) (os s.Start) c.args.locks.now _ (header s.In_ok-header)).long_outputs,
     )
 
 pub fill_gates-requires : goal.fill_gates-requires
 fill_gates-requires c =
-    let z = c.if-fault-ne0.false in
-    let r = header_rooms _ (ns (goal.at.fill_gates-requires c).Start) (os (goal.at.fill_gates-requires c).Start) c.args.locks.now _ (header (goal.at.fill_gates-requires c).After-read_header-header) z in (
-      gates_there _ (ns (goal.at.fill_gates-requires c).Start) (os (goal.at.fill_gates-requires c).Start) c.args.locks.now _ (header (goal.at.fill_gates-requires c).After-read_header-header) z _ (rest c.read_header-header.result.size c.args.text.now) _ c.inputs_number-number.ensures c.if-number-ne0.false _ _ c.after_ones-after.ensures
+    let s = goal.at.fill_gates-requires c in
+    let r = header_rooms _ (ns s.Start) (os s.Start) c.args.locks.now _ (header s.In_ok-header) in (
+      gates_there _ (ns s.Start) (os s.Start) c.args.locks.now _ (header s.In_ok-header) _ (rest c.in_ok-header.header.size c.args.text.now) (sym c.in_ok-check_inputs.ensures) _ _ c.after_ones-after.ensures
           c.fill_outputs-gates.ensures.result_value,
       r.few_nodes,
       r.long_nodes,
@@ -75,9 +67,11 @@ fill_gates-requires c =
 
 pub free-requires : goal.free-requires
 free-requires c =
-    (header_rooms _ (ns (goal.at.free-requires c).Start) (os (goal.at.free-requires c).Start) c.args.locks.now _ (header (goal.at.free-requires c).After-read_header-header) c.if-fault-ne0.false).enough_locks
+    let s = goal.at.free-requires c in
+    (header_rooms _ (ns s.Start) (os s.Start) c.args.locks.now _ (header s.In_ok-header)).enough_locks
 
 pub returns : goal.returns
 returns c =
-    import_accepted _ (ns (goal.at.returns c).Start) (os (goal.at.returns c).Start) c.args.locks.now _ (header (goal.at.returns c).After-read_header-header) c.if-fault-ne0.false _ (rest c.read_header-header.result.size c.args.text.now) _ c.inputs_number-number.ensures c.if-number-ne0.false _ _
+    let s = goal.at.returns c in
+    import_accepted _ (ns s.Start) (os s.Start) c.args.locks.now _ (header s.In_ok-header) _ (rest c.in_ok-header.header.size c.args.text.now) (sym c.in_ok-check_inputs.ensures) _ _
     c.after_ones-after.ensures c.fill_outputs-gates.ensures.result_value _ _ _ c.fill_gates.ensures c.fill_outputs-gates.ensures.output_bits_after c.free.ensures

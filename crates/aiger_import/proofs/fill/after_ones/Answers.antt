@@ -16,20 +16,20 @@ front c = rw c.loop-k.invariant.0 (c.requires c.loop-k.k c.loop-k-test.true)
 pub loop-k-init : goal.loop-k-init
 loop-k-init c = (refl, omega arith)
 
-pub known_number-line-requires : goal.known_number-line-requires
-known_number-line-requires c = front (goal.at.known_number-line-requires c).In-loop-k
+pub known_number-size-requires : goal.known_number-size-requires
+known_number-size-requires c = front (goal.at.known_number-size-requires c).In-loop-k
 
 pub slice_bounds-s-count : goal.slice_bounds-s-count
-slice_bounds-s-count c = omega (arith, there c.loop-k.s.now _ (front (goal.at.slice_bounds-s-count c).In-loop-k) c.known_number-line.ensures.1)
+slice_bounds-s-count c = omega (arith, there c.loop-k.s.now _ (front (goal.at.slice_bounds-s-count c).In-loop-k) c.known_number-size.ensures.1)
 
 pub slice_bounds-s-start : goal.slice_bounds-s-start
-slice_bounds-s-start c = omega (arith, there c.loop-k.s.now _ (front (goal.at.slice_bounds-s-start c).In-loop-k) c.known_number-line.ensures.1)
+slice_bounds-s-start c = omega (arith, there c.loop-k.s.now _ (front (goal.at.slice_bounds-s-start c).In-loop-k) c.known_number-size.ensures.1)
 
 pub loop-k-preserved : goal.loop-k-preserved
 loop-k-preserved c =
     let s = c.loop-k.s.now in
-    let n = c.known_number-line.result.size in
-    (past c.args.rest.now s _ c.loop-k.k 1 n (c.loop-k.k + 1) c.loop-k.invariant.0 (rest n s) (after s n (front (goal.at.loop-k-preserved c).In-loop-k) c.known_number-line.ensures.1) refl, omega arith)
+    let n = c.known_number-size.result.size in
+    (past c.args.rest.now s _ c.loop-k.k 1 n (c.loop-k.k + 1) c.loop-k.invariant.0 (rest n s) (after s n (front (goal.at.loop-k-preserved c).In-loop-k) c.known_number-size.ensures.1) refl, omega arith)
 
 pub returns : goal.returns
 returns c =

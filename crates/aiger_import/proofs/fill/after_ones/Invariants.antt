@@ -1,6 +1,6 @@
 -- `fill::after_ones` meets its contract. The invariant: so many lines are passed. From the laws of the fill pass.
 use mathlib.Core.Path.{◌≡◌}
-use Prim.Native.Nat.{◌-◌, ◌≤◌}
+use Prim.Native.Nat.{◌≤◌}
 use Rattle.aiger.specs.Lines.{skip}
 use Rattle.aiger_import.proofs.fill.after_ones.Given as goal
 

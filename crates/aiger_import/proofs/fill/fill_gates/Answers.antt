@@ -28,9 +28,6 @@ slice_bounds-s-count c = omega (arith, c.fill_gate-put.ensures.0.0)
 pub slice_bounds-s-start : goal.slice_bounds-s-start
 slice_bounds-s-start c = omega (arith, c.fill_gate-put.ensures.0.0)
 
-pub overflow_add-k : goal.overflow_add-k
-overflow_add-k c = omega (arith, c.loop-k-test.true)
-
 pub loop-k-preserved : goal.loop-k-preserved
 loop-k-preserved c =
     let a = c.args in
@@ -46,11 +43,11 @@ loop-k-preserved c =
       c.fill_gate-put.auto.node_bits ∙ c.loop-k.invariant.4,
     )
 
-pub overflow_mul-k-2 : goal.overflow_mul-k-2
-overflow_mul-k-2 c = omega (arith, c.loop-k.invariant.1, c.requires.1)
+pub overflow_mul-end : goal.overflow_mul-end
+overflow_mul-end c = omega (arith, c.requires.1)
 
 pub put_last-requires : goal.put_last-requires
-put_last-requires c = omega (arith, c.loop-k.invariant.1, c.loop-k.invariant.4, c.requires.2, held_literals c.args.node_table.now c.args.node_bits.now)
+put_last-requires c = omega (arith, c.loop-k.invariant.4, c.requires.2, held_literals c.args.node_table.now c.args.node_bits.now)
 
 pub shape_of-node_table : goal.shape_of-node_table
 shape_of-node_table c = c.loop-k.invariant.3
@@ -62,4 +59,4 @@ pub returns : goal.returns
 returns c =
     let i = c.loop-k.invariant in
     let e : c.loop-k.k ≡ c.args.nodes = omega arith in
-    rw (c.put_last.ensures, ← e) i.2
+    rw c.put_last.ensures (rw e at i.2)

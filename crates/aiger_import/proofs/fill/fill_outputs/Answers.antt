@@ -25,9 +25,6 @@ slice_bounds-s-count c = omega (arith, c.fill_output-put.ensures.0.0)
 pub slice_bounds-s-start : goal.slice_bounds-s-start
 slice_bounds-s-start c = omega (arith, c.fill_output-put.ensures.0.0)
 
-pub overflow_add-j : goal.overflow_add-j
-overflow_add-j c = omega (arith, c.loop-j-test.true)
-
 pub loop-j-preserved : goal.loop-j-preserved
 loop-j-preserved c =
     let a = c.args in
@@ -43,7 +40,7 @@ loop-j-preserved c =
     )
 
 pub put_last-requires : goal.put_last-requires
-put_last-requires c = omega (arith, c.loop-j.invariant.1, c.loop-j.invariant.4, c.requires.1, held_literals c.args.output_table.now c.args.output_bits.now)
+put_last-requires c = omega (arith, c.loop-j.invariant.4, c.requires.1, held_literals c.args.output_table.now c.args.output_bits.now)
 
 pub shape_of-output_table : goal.shape_of-output_table
 shape_of-output_table c = c.loop-j.invariant.3
@@ -55,4 +52,4 @@ pub returns : goal.returns
 returns c =
     let i = c.loop-j.invariant in
     let e : c.loop-j.j ≡ c.args.outputs = omega arith in
-    record { result_value = rw e at i.0; output_bits_after = rw (c.put_last.ensures, ← e) i.2 }
+    record { result_value = rw e at i.0; output_bits_after = rw c.put_last.ensures (rw e at i.2) }

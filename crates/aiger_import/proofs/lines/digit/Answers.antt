@@ -1,18 +1,10 @@
--- `lines::digit` tests what `if_digit` does. From the laws on tests.
-use mathlib.Core.Path.{refl}
+-- `lines::digit` meets its contract. From the tests alone.
+use mathlib.Core.Logic.{inl, inr, ⊎_elim}
+use Prim.Native.Nat.{◌<◌, ◌≤◌}
 use native.Mathlib.Omega.{arith}
-use Rattle.graph.proofs.Tests.{less, no_less}
-use Rattle.aiger.specs.Lines.{if_digit}
+use Rattle.graph.proofs.Cases.{lt_or_le}
 use Rattle.aiger_import.proofs.lines.digit.Goals as goal
 
-pub returns-then-b-lt48 : goal.returns-then-b-lt48
-unfolding if_digit
-returns-then-b-lt48 c = less _ _ _ _ (omega arith) refl
-
-pub returns-then-b-lt58 : goal.returns-then-b-lt58
-unfolding if_digit
-returns-then-b-lt58 c = no_less _ _ _ _ (omega arith) (less _ _ _ _ (omega arith) refl)
-
-pub returns : goal.returns
-unfolding if_digit
-returns c = no_less _ _ _ _ (omega arith) (no_less _ _ _ _ (omega arith) refl)
+pub returns-in_default : goal.returns-in_default
+returns-in_default c =
+    ⊎_elim (λ (l : c.args.b < 48). inl l) (λ (l : 48 ≤ c.args.b). inr (omega arith)) (lt_or_le c.args.b 48)

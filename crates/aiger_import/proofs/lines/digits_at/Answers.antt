@@ -1,27 +1,23 @@
 -- `lines::digits_at` meets its contract. The invariant: the digits passed are worth the value, which is below the limit. From
 -- the laws on a number read digit by digit.
 use native.Mathlib.Omega.{arith}
-use Rattle.aiger_import.proofs.Numbers.{some, reading_start, reading_end, reading_none, reading_more, reading_over}
+use Rattle.aiger_import.proofs.Numbers.{reading_start, reading_end, reading_none, reading_more, reading_over}
 use Rattle.aiger_import.proofs.lines.digits_at.Goals as goal
 
 pub loop-count-init : goal.loop-count-init
 loop-count-init c = reading_start _
 
-pub returns-then-d-eq10 : goal.returns-then-d-eq10
-returns-then-d-eq10 c =
-    reading_none _ c.loop-count.value _ c.loop-count.invariant c.loop-count-test.true _ c.digit-d.ensures c.if-d-eq10.true
+pub returns-in_default : goal.returns-in_default
+returns-in_default c = reading_none _ _ _ c.loop-count.invariant c.loop-count-test.true c.in_default.ensures
 
 pub overflow_add-value : goal.overflow_add-value
-overflow_add-value c =
-    omega (arith, some _ _ c.digit-d.ensures c.if-d-eq10.false, c.loop-count.invariant.low)
+overflow_add-value c = omega (arith, c.in-Some.ensures, c.loop-count.invariant.low)
 
 pub returns-then-value-ge4294967296 : goal.returns-then-value-ge4294967296
-returns-then-value-ge4294967296 c =
-    reading_over _ _ _ c.loop-count.invariant c.loop-count-test.true _ c.digit-d.ensures c.if-d-eq10.false c.if-value-ge4294967296.true
+returns-then-value-ge4294967296 c = reading_over _ _ _ c.loop-count.invariant c.loop-count-test.true _ c.in-Some.ensures c.if-value-ge4294967296.true
 
 pub loop-count-preserved : goal.loop-count-preserved
-loop-count-preserved c =
-    reading_more _ _ _ c.loop-count.invariant c.loop-count-test.true _ c.digit-d.ensures c.if-d-eq10.false c.if-value-ge4294967296.false
+loop-count-preserved c = reading_more _ _ _ c.loop-count.invariant c.loop-count-test.true _ c.in-Some.ensures c.if-value-ge4294967296.false
 
 pub returns : goal.returns
 returns c = reading_end _ _ _ c.loop-count.invariant c.loop-count-test.false

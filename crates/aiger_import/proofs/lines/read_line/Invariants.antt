@@ -1,6 +1,5 @@
 -- `lines::read_line` meets its contract. The invariant: so many of the line's numbers are read. From the laws on lines read.
 use mathlib.Core.Path.{◌≡◌}
-use Prim.Native.Nat.{◌-◌}
 use lib.ListN.{length}
 use Rattle.aiger_import.proofs.Walked.{Walked}
 use Rattle.aiger_import.proofs.lines.read_line.Given as goal
