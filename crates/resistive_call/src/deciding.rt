@@ -15,7 +15,6 @@ use crate::{family, keys, numbers};
 use graph::Lent;
 use graph::literal::MARK;
 use moves::rows;
-use moves::words::{narrow, wide};
 use trees::fields::{read, store};
 
 // Of so many moves of a kind, those that leave the readers unturned: the first of a majority, the first two of an XOR.
@@ -23,9 +22,9 @@ pub fn still_moves(xor: bool, moves: u32) -> u32
     ensures { result ≡ min moves (still_moves xor) }
 {
     if xor {
-        return family::lesser(moves, 2);
+        return moves.min(2);
     }
-    family::lesser(moves, 1)
+    moves.min(1)
 }
 
 // The families of the reader w of node v, with the move stored for w, while v is decided: v unturned, and turned.
@@ -60,7 +59,7 @@ pub fn decide_key(lent: &Lent, v: usize, scratch: &[u32]) -> u32
     if place == MARK {
         return family::first_score(xor, still_moves(xor, moves), z, 0, 0);
     }
-    let beside = reader_keys(lent, v, wide(place) / 3, scratch);
+    let beside = reader_keys(lent, v, place as usize / 3, scratch);
     family::first_score(xor, moves, z, beside[0], beside[1])
 }
 
@@ -71,9 +70,9 @@ pub fn fill_choices(lent: &Lent, root: usize, scratch: &mut [u32])
     ensures { let g = lent_graph lent.now in
         StillDecided g lent.now.locks.now (lent.now.inputs + 1 + root) scratch.new × CostsOnly scratch.old scratch.new }
 {
-    let mut v = narrow(root);
+    let mut v = root as u32;
     while v != MARK {
-        let w = wide(v);
+        let w = v as usize;
         let m = decide_key(lent, w, scratch);
         store(scratch, w, 4, m);
         v = read(scratch, w, 5);

@@ -9,15 +9,6 @@ ghost use Rattle.resistive_call.specs.Keys.{third_by, chain_by, Weighed, Low, sc
 use moves::decide::{LeastMove, either};
 use moves::rows;
 
-pub fn lesser(a: u32, b: u32) -> u32
-    ensures { result ≡ min a b }
-{
-    if b < a {
-        return b;
-    }
-    a
-}
-
 // What a node of the tree with n complemented inputs adds to the key.
 pub fn weight_of(xor: bool, n: u32) -> u32
     requires { n ≤ 3 }
@@ -37,7 +28,7 @@ pub fn third(xor: bool, even: u32, odd: u32, n: u32) -> u32
     requires { (even ≤ 304100) × (odd ≤ 304100) × (n ≤ 2) }
     ensures { (result ≡ third_by xor even odd n) × (result ≤ 608200) }
 {
-    lesser(even + weight_of(xor, n), odd + weight_of(xor, n + 1))
+    (even + weight_of(xor, n)).min(odd + weight_of(xor, n + 1))
 }
 
 // All three words, each with both of its costs.
@@ -48,9 +39,9 @@ pub fn chain(xor: bool, a: u32, b: u32, c: u32, d: u32, e: u32, f: u32) -> u32
     let none = third(xor, e, f, 0);
     let one = third(xor, e, f, 1);
     let two = third(xor, e, f, 2);
-    let even = lesser(c + none, d + one);
-    let odd = lesser(c + one, d + two);
-    lesser(a + even, b + odd)
+    let even = (c + none).min(d + one);
+    let odd = (c + one).min(d + two);
+    (a + even).min(b + odd)
 }
 
 // Under move k, which the compiler knows.
@@ -169,7 +160,7 @@ pub fn turn_least(xor: bool, z: [u32; 6], t: u32) -> u32
     ensures { (result ≡ turn_by xor z t) × (result ≤ 1216400) }
 {
     if xor {
-        return lesser(family_of(true, z, 2 * t), family_of(true, z, 2 * t + 1));
+        return family_of(true, z, 2 * t).min(family_of(true, z, 2 * t + 1));
     }
     family_of(false, z, t)
 }

@@ -11,7 +11,6 @@ ghost use Rattle.graph.specs.Tables.{lent_graph};
 use crate::{family, numbers};
 use graph::Lent;
 use moves::rows;
-use moves::words::wide;
 use trees::fields::{read, store};
 
 // What is stored for node v, from what is stored below it.
@@ -36,10 +35,10 @@ pub fn fill_keys(lent: &Lent, root: usize, scratch: &mut [u32])
     ensures { let g = lent_graph lent.now in
         KeyedBelow g lent.now.locks.now scratch.new (lent.now.inputs + 1 + root) root × CostsOnly scratch.old scratch.new }
 {
-    let mut v = wide(read(scratch, root, 7));
+    let mut v = read(scratch, root, 7) as usize;
     while v != root {
         let key = node_key(lent, v, scratch);
         store(scratch, v, 4, key);
-        v = wide(read(scratch, v, 6));
+        v = read(scratch, v, 6) as usize;
     }
 }

@@ -11,7 +11,7 @@ use graph::literal::MARK;
 use graph::{Lent, table};
 use moves::decide::given_costs;
 use moves::rows;
-use moves::words::{narrow, which_name, wide};
+use moves::words::which_name;
 use trees::fields::read;
 
 // One of the two costs that are stored in one word.
@@ -51,7 +51,7 @@ pub fn turns_of(lent: &Lent, v: usize, s: u32, u: u32, scratch: &[u32]) -> u32
     if u <= lent.inputs {
         return 608200;
     }
-    let w = wide(u - (lent.inputs + 1));
+    let w = (u - (lent.inputs + 1)) as usize;
     if read(scratch, w, 3) == MARK {
         return 608200;
     }
@@ -101,6 +101,6 @@ pub fn turned_at(lent: &Lent, w: usize, v: usize, z: [u32; 6], scratch: &[u32]) 
     ensures { let g = lent_graph lent.now in
         result ≡ word_keys g scratch.now v 1 w }
 {
-    let which = which_name(&lent.node_table, w, lent.inputs + 1 + narrow(v));
+    let which = which_name(&lent.node_table, w, lent.inputs + 1 + v as u32);
     given_costs(z, which, 1)
 }

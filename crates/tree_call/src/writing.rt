@@ -12,7 +12,6 @@ ghost use Rattle.trees.specs.Deciding.{MovesHeld, stored_moved};
 use graph::literal::MARK;
 use graph::table::{Table, turn_word};
 use moves::rows;
-use moves::words::{narrow, wide};
 use node_call::write;
 use trees::fields::read;
 
@@ -117,9 +116,9 @@ pub fn write_tree(
         let h = graph_in inputs nodes outputs node_table.now node_bits.new output_table.now output_bits.new in
         h ≡ stored_moved g (inputs + 1 + root) scratch.now }
 {
-    let mut v = narrow(root);
+    let mut v = root as u32;
     while v != MARK {
-        let w = wide(v);
+        let w = v as usize;
         let p = read(scratch, w, 3);
         let m = read(scratch, w, 4);
         write_at(

@@ -1,6 +1,5 @@
 -- `decide_key` meets its contract. From what a family is worked out from.
-use mathlib.Core.Path.{ap}
-use Prim.Native.Nat.{◌/◌}
+use mathlib.Core.Path.{refl}
 use native.Mathlib.Omega.{arith}
 use Rattle.graph.specs.Graph.{Graph}
 use Rattle.graph.proofs.Words.{readable}
@@ -30,7 +29,7 @@ returns-then-place c =
 
 pub reader_keys-beside-requires : goal.reader_keys-beside-requires
 reader_keys-beside-requires c =
-    let r = reader_now _ _ c.requires.0 _ c.requires.1 _ c.read-place.ensures c.if-place.false _ (ap (λ y. y / 3) c.wide.ensures) c.requires.2 c.requires.4 in
+    let r = reader_now _ _ c.requires.0 _ c.requires.1 _ c.read-place.ensures c.if-place.false _ refl c.requires.2 c.requires.4 in
     (c.requires.0, c.requires.1, r.0, r.1, r.2, r.3)
 
 pub first_score-requires-2 : goal.first_score-requires-2
@@ -41,4 +40,4 @@ first_score-requires-2 c =
 
 pub returns : goal.returns
 returns c =
-    found_other _ _ _ _ _ _ (c.is_xor-xor.ensures _ _ _ _) (c.moves_at-moves.ensures _ _ _ _ c.requires.1) _ c.numbers_at-z.ensures _ _ _ _ c.read-place.ensures c.if-place.false (ap (λ y. y / 3) c.wide.ensures) c.reader_keys-beside.ensures.0 c.first_score-2.ensures
+    found_other _ _ _ _ _ _ (c.is_xor-xor.ensures _ _ _ _) (c.moves_at-moves.ensures _ _ _ _ c.requires.1) _ c.numbers_at-z.ensures _ _ _ _ c.read-place.ensures c.if-place.false refl c.reader_keys-beside.ensures.0 c.first_score-2.ensures

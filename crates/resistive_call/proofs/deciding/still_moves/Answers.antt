@@ -3,7 +3,7 @@ use Rattle.resistive_call.proofs.Families.{still_xor, still_majority}
 use Rattle.resistive_call.proofs.deciding.still_moves.Goals as goal
 
 pub returns-then-xor : goal.returns-then-xor
-returns-then-xor c = still_xor _ _ _ c.if-xor.true c.lesser.ensures
+returns-then-xor c = still_xor _ _ _ c.if-xor.true c.min.ensures
 
 pub returns : goal.returns
-returns c = still_majority _ _ _ c.if-xor.false c.lesser-2.ensures
+returns c = still_majority _ _ _ c.if-xor.false c.min-2.ensures

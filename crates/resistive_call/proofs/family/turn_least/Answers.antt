@@ -10,7 +10,7 @@ pub family_of-requires-then-xor : goal.family_of-requires-then-xor
 family_of-requires-then-xor c = (c.requires.0, arity_true _ (omega (arith, c.requires.1)))
 
 pub returns-then-xor : goal.returns-then-xor
-returns-then-xor c = (turn_xor _ _ _ _ _ _ c.if-xor.true c.family_of.ensures.0 c.family_of-then-xor.ensures.0 c.lesser.ensures, omega (arith, c.lesser.ensures, c.family_of.ensures.1))
+returns-then-xor c = (turn_xor _ _ _ _ _ _ c.if-xor.true c.family_of.ensures.0 c.family_of-then-xor.ensures.0 c.min.ensures, omega (arith, c.min.ensures, c.family_of.ensures.1))
 
 pub family_of-requires-2 : goal.family_of-requires-2
 family_of-requires-2 c = (c.requires.0, arity_false _ (omega (arith, c.requires.1)))

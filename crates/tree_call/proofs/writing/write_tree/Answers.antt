@@ -1,55 +1,48 @@
 -- `write_tree` meets its contract: the moves of the nodes passed are written. From the laws of the pass.
-use mathlib.Core.Path.{◌≡◌, refl, ap, ◌∙◌}
-use Prim.Native.Nat.{ℕ, ◌<◌}
+use mathlib.Core.Path.{refl, ◌∙◌}
+use Prim.Native.Nat.{◌<◌}
 use native.Mathlib.Omega.{arith}
 use Rattle.graph.specs.Graph.{Graph}
 use Rattle.graph.specs.Literals.{graph_in}
-use Rattle.state.specs.State.{field}
 use Rattle.trees.proofs.Falling.{bound_of}
 use Rattle.tree_call.proofs.Written.{WrittenTo, written_none, written_all, next_node, next_asks, next_written}
 use Rattle.tree_call.proofs.writing.write_tree.Goals as goal
-use Rattle.tree_call.proofs.writing.write_tree.Goals.{After-read-v, After-wide-w, Start}
+use Rattle.tree_call.proofs.writing.write_tree.Goals.{After-read-v, In-loop-v, Start}
 
 abbrev graph : Start → Graph
 graph s = let a = s.args in graph_in a.inputs a.nodes a.outputs a.node_table.now a.node_bits.now a.output_table.now a.output_bits.now
 
 -- the node that is read stands in scratch
 
-in-scratch : (c : After-wide-w) → c.wide-w.result < c.args.nodes
+in-scratch : (c : In-loop-v) → c.loop-v.v < c.args.nodes
 in-scratch c =
-    omega (arith, c.wide-w.ensures, next_node (graph (goal.at.After-wide-w c).Start) c.args.scratch.now c.requires.0 c.args.root c.requires.1 c.requires.2 c.args.locks.now c.requires.3 c.loop-v.v _ c.loop-v.invariant.0 c.loop-v-test.true)
-
--- a field of it
-
-module _ (c : After-wide-w) where
-  read_at : (f x : ℕ) → x ≡ field c.args.scratch.now c.wide-w.result f → x ≡ field c.args.scratch.now c.loop-v.v f
-  read_at f x e = e ∙ ap (λ (w : ℕ). field c.args.scratch.now w f) c.wide-w.ensures
+    omega (arith, next_node (graph (goal.at.In-loop-v c).Start) c.args.scratch.now c.requires.0 c.args.root c.requires.1 c.requires.2 c.args.locks.now c.requires.3 c.loop-v.v _ c.loop-v.invariant.0 c.loop-v-test.true)
 
 -- what a turn makes
 
 loop-both : (c : After-read-v) → WrittenTo (graph (goal.at.After-read-v c).Start) c.args.scratch.now c.args.root c.read-v.result (graph_in c.args.inputs c.args.nodes c.args.outputs c.args.node_table.now c.write_at.new.node_bits c.args.output_table.now c.write_at.new.output_bits) × (bound_of c.read-v.result < bound_of c.loop-v.v)
 loop-both c =
-    next_written (graph (goal.at.After-read-v c).Start) c.args.scratch.now c.requires.0 c.args.root c.requires.1 c.requires.2 c.args.locks.now c.requires.3 c.loop-v.v _ c.loop-v.invariant.0 c.loop-v-test.true _ _ _ (read_at (goal.at.After-read-v c).After-wide-w 4 _ c.read-m.ensures) (read_at (goal.at.After-read-v c).After-wide-w 5 _ c.read-v.ensures) c.write_at.ensures
+    next_written (graph (goal.at.After-read-v c).Start) c.args.scratch.now c.requires.0 c.args.root c.requires.1 c.requires.2 c.args.locks.now c.requires.3 c.loop-v.v _ c.loop-v.invariant.0 c.loop-v-test.true _ _ _ c.read-m.ensures c.read-v.ensures c.write_at.ensures
 
-pub narrow-v-requires : goal.narrow-v-requires
-narrow-v-requires c = let p = c.requires in omega (arith, p.0.admitted.few_nodes, p.1)
+pub overflow_cast-v : goal.overflow_cast-v
+overflow_cast-v c = let p = c.requires in omega (arith, p.0.admitted.few_nodes, p.1)
 
 pub loop-v-init : goal.loop-v-init
 loop-v-init c =
-    (written_none (graph (goal.at.loop-v-init c).Start) c.args.scratch.now c.requires.0 c.args.root c.requires.1 c.requires.2 _ c.narrow-v.ensures, refl, refl)
+    (written_none (graph (goal.at.loop-v-init c).Start) c.args.scratch.now c.requires.0 c.args.root c.requires.1 c.requires.2 _ refl, refl, refl)
 
 pub read-p-requires : goal.read-p-requires
-read-p-requires c = let p = c.requires in omega (arith, in-scratch (goal.at.read-p-requires c).After-wide-w, p.0.long, p.0.admitted.few_nodes)
+read-p-requires c = let p = c.requires in omega (arith, in-scratch (goal.at.read-p-requires c).In-loop-v, p.0.long, p.0.admitted.few_nodes)
 
 pub read-m-requires : goal.read-m-requires
-read-m-requires c = let p = c.requires in omega (arith, in-scratch (goal.at.read-m-requires c).After-wide-w, p.0.long, p.0.admitted.few_nodes)
+read-m-requires c = let p = c.requires in omega (arith, in-scratch (goal.at.read-m-requires c).In-loop-v, p.0.long, p.0.admitted.few_nodes)
 
 pub write_at-requires : goal.write_at-requires
 write_at-requires c =
-    next_asks (graph (goal.at.write_at-requires c).Start) c.args.scratch.now c.requires.0 c.args.root c.requires.1 c.requires.2 c.args.locks.now c.requires.3 c.loop-v.v _ c.loop-v.invariant.0 c.loop-v-test.true _ _ (read_at (goal.at.write_at-requires c).After-wide-w 3 _ c.read-p.ensures) (read_at (goal.at.write_at-requires c).After-wide-w 4 _ c.read-m.ensures)
+    next_asks (graph (goal.at.write_at-requires c).Start) c.args.scratch.now c.requires.0 c.args.root c.requires.1 c.requires.2 c.args.locks.now c.requires.3 c.loop-v.v _ c.loop-v.invariant.0 c.loop-v-test.true _ _ c.read-p.ensures c.read-m.ensures
 
 pub read-v-requires : goal.read-v-requires
-read-v-requires c = let p = c.requires in omega (arith, in-scratch (goal.at.read-v-requires c).After-wide-w, p.0.long, p.0.admitted.few_nodes)
+read-v-requires c = let p = c.requires in omega (arith, in-scratch (goal.at.read-v-requires c).In-loop-v, p.0.long, p.0.admitted.few_nodes)
 
 pub loop-v-smaller : goal.loop-v-smaller
 loop-v-smaller c = (loop-both (goal.at.loop-v-smaller c).After-read-v).1
