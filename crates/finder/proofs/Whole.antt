@@ -1,23 +1,25 @@
 -- The finder whole: scratch that is cleared says nothing, a refusal changes nothing, and what is accepted is the pass and the drop. From the
 -- definitions.
 use mathlib.Core.Path.{◌≡◌, ◌∙◌}
-use mathlib.Core.Logic.{◌≢◌}
 use mathlib.Core.List.{List, [], ◌∷◌}
 use Prim.Native.Nat.{ℕ, ◌+◌, ◌*◌, ◌≤◌}
 use native.Mathlib.Omega.{arith}
 use lib.ListN.{length}
+use Rattle.std.proofs.Common.{Result}
+use Rattle.std.specs.Result.{IsErrAnd}
+use Rattle.std.proofs.lemmas.Result.{err_from_is_err_and}
 use Rattle.graph.specs.Graph.{Graph}
 use Rattle.graph.specs.Admission.{Admitted, LockBytes, admission_number}
-use Rattle.graph.specs.Answer.{locked_outcome, accepted, refused}
-use Rattle.graph.specs.Inner.{IsRefusal}
+use Rattle.graph.specs.Answer.{locked_outcome, accepted, number_of}
+use Rattle.graph.specs.declared.Refusal.{Refusal}
 use Rattle.graph.proofs.Admit.{admitted, locks_admitted}
-use Rattle.graph.proofs.Answers.{first_le, if_less_le, admission_le, refused_locked, accepted_locked}
-use Rattle.graph.proofs.Tests.{fault, none, both, off}
+use Rattle.graph.proofs.Answers.{number_some, refused_locked, accepted_locked}
+use Rattle.graph.proofs.Tests.{both, off}
 use Rattle.moves.specs.Call.{scratch_fault}
 use Rattle.trees.specs.Filling.{Cleared}
 use Rattle.hidden.specs.Find.{passed}
 use Rattle.hidden.specs.Drop.{dropped, dropped_locks}
-use Rattle.hidden.specs.Call.{find_number, found, find_call}
+use Rattle.hidden.specs.Call.{found_answer, nodes_after_answer, find_number, found, find_call}
 use Rattle.hidden.proofs.Pass.{passed_same}
 use Rattle.majority_call.proofs.Decided.{cleared_facts}
 use Rattle.finder.specs.Passing.{Clean}
@@ -32,30 +34,15 @@ cleared_clean g n sc e l z =
 pub passed_admitted : (g k : Graph) (ls : List ℕ) → Admitted g → k ≡ passed g ls g.N → Admitted k
 passed_admitted g k ls adm e = rw e (passed_same g ls adm g.N (omega arith)).keeps.admitted
 
+-- a check's refusal leaves the graph with its nodes
+pub ends_find : (r : Result ℕ Refusal) (x : Refusal) (k : ℕ → Graph) (n : ℕ) (ls : List ℕ) (s : ℕ) → IsErrAnd r (λ y. y ≡ x) → number_of x ≡ find_number (k n) ls s
+    → locked_outcome (found_answer r) (k (nodes_after_answer n (found_answer r))) ls ≡ find_call (k n) ls s
+unfolding find_call
+ends_find r x k n ls s e q =
+    let p = err_from_is_err_and r e in
+    rw (p.1, p.2) (refused_locked (number_of x) (find_number (k n) ls s) (k n) ls (found (k n) ls) q (λ z. number_some x (q ∙ z)))
+
 module _ (g : Graph) (ls : List ℕ) (s : ℕ) where
-  pub by_admission : (k : ℕ) → k ≡ admission_number g ls → k ≢ 0 → k ≡ find_number g ls s
-  unfolding find_number
-  by_admission k e n = fault (admission_number g ls) (scratch_fault g s) e (λ z. n (e ∙ z))
-
-  pub by_scratch : (k : ℕ) → admission_number g ls ≡ 0 → k ≡ scratch_fault g s → k ≡ find_number g ls s
-  unfolding find_number
-  by_scratch k z e = none (admission_number g ls) (scratch_fault g s) z e
-
-  scratch_le : scratch_fault g s ≤ 16
-  unfolding scratch_fault
-  scratch_le = if_less_le s (8 * g.N) 8 0 16 (omega arith) (omega arith)
-
-  number_le : find_number g ls s ≤ 16
-  unfolding find_number
-  number_le = first_le (admission_number g ls) (scratch_fault g s) 16 (omega (arith, admission_le g ls)) scratch_le
-
-  pub in_range : (k : ℕ) → k ≡ find_number g ls s → k ≢ 0 → IsRefusal k
-  in_range k e d = (omega arith, omega (arith, number_le))
-
-  pub refused_call : (k : ℕ) → k ≡ find_number g ls s → k ≢ 0 → locked_outcome (refused k) g ls ≡ find_call g ls s
-  unfolding find_call
-  refused_call k e d = refused_locked k (find_number g ls s) g ls (found g ls) e (λ z. d (e ∙ z))
-
   -- what an accepted call knows
   pub record Fine : Type 0 where
     pub admitted : Admitted g

@@ -1,19 +1,17 @@
-// Which of the numbers 3, 4, 5, 13 and 8 refuses the finder; 0 is none.
+// What refuses the finder.
 ghost use Rattle.std.specs.Prelude.{◌≡◌};
+ghost use Rattle.graph.specs.Answer.{refusal_number};
 ghost use Rattle.hidden.specs.Call.{find_number};
 ghost use Rattle.graph.specs.Tables.{lent_graph};
 
-use graph::Lent;
-use graph::faults::admission_number;
-use tree_call::faults::scratch_fault;
+use graph::faults::check_admission;
+use graph::{Lent, Refusal};
+use tree_call::faults::check_scratch;
 
-pub fn find_number(lent: &Lent, length: usize) -> u32
+pub fn check_find(lent: &Lent, length: usize) -> Result<(), Refusal>
     ensures { let g = lent_graph lent.now in
-        result ≡ find_number g lent.now.locks.now length }
+        refusal_number result ≡ find_number g lent.now.locks.now length }
 {
-    let admission = admission_number(lent);
-    if admission != 0 {
-        return admission;
-    }
-    scratch_fault(lent.nodes, length)
+    check_admission(lent)?;
+    check_scratch(lent.nodes, length)
 }

@@ -22,10 +22,8 @@ mod passing;
 mod signs;
 mod trying;
 
-use graph::Lent;
-use graph::faults::refused_by;
 use graph::table::Table;
-use hidden::Found;
+use graph::{Lent, Refusal};
 use moves::words::wide;
 use trees::fields::clear;
 
@@ -75,7 +73,7 @@ pub fn find<'x>(
     output_bits: &'x mut [u64],
     locks: &'x mut [u8],
     scratch: &mut [u32],
-) -> Found
+) -> Result<u32, Refusal>
     ensures outcome { let n = nodes_after_answer nodes (found_answer result) in
         let g = graph_in inputs nodes outputs node_table.old node_bits.old output_table.old output_bits.old in
         let k = graph_in inputs n outputs node_table.new node_bits.new output_table.new output_bits.new in
@@ -96,11 +94,8 @@ pub fn find<'x>(
         },
         locks,
     };
-    let number = faults::find_number(&lent, scratch.len());
-    if number != 0 {
-        return Found::Refused(refused_by(number));
-    }
-    let left = pass_and_drop(
+    faults::check_find(&lent, scratch.len())?;
+    Ok(pass_and_drop(
         inputs,
         nodes,
         outputs,
@@ -110,6 +105,5 @@ pub fn find<'x>(
         output_bits,
         locks,
         scratch,
-    );
-    Found::Nodes(left)
+    ))
 }

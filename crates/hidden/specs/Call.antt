@@ -1,6 +1,6 @@
 -- The majority call and the finder's call, on a graph g with the locks ls.
-use Rattle.std.specs.Prelude.{◌∷◌}
-use Rattle.graph.specs.All.{cond, List, [], ℕ, get_or, if_less, if_equal, first, Graph, admission_number, Answer, accepted, refused, number_of, Outcome, outcome, guarded, LockedOutcome, locked_outcome, guarded_locks}
+use Rattle.std.specs.Prelude.{◌∷◌, Result}
+use Rattle.graph.specs.All.{cond, List, [], ℕ, get_or, if_less, if_equal, first, Graph, admission_number, Answer, accepted, Outcome, outcome, guarded, LockedOutcome, locked_outcome, guarded_locks}
 use Rattle.moves.specs.All.{lock_at, node_fault, scratch_fault}
 use Rattle.hidden.specs.Truth.{Triple, leak, truth}
 use Rattle.hidden.specs.Majority.{is_majority, made}
@@ -8,20 +8,20 @@ use Rattle.hidden.specs.Find.{passed}
 use Rattle.hidden.specs.Drop.{dropped, dropped_locks}
 use Rattle.hidden.specs.declared.Majority.{Majority}
 use Rattle.hidden.specs.declared.Majority.TheVariants as became
-use Rattle.hidden.specs.declared.Found.{Found}
-use Rattle.hidden.specs.declared.Found.TheVariants as finder
+use Rattle.graph.specs.{Answer.answer_by, declared.Refusal.Refusal}
 
 -- what each case of the majority call's answer says: 0 where the node is a majority now, 1 for "not majority", 2 for "not covered"
-abbrev pub majority_answer : Majority → Answer
-majority_answer became.Made = accepted (0 ∷ [])
-majority_answer became.NotMajority = accepted (1 ∷ [])
-majority_answer became.NotCovered = accepted (2 ∷ [])
-majority_answer (became.Refused r) = refused (number_of r)
+abbrev pub told_majority : Majority → Answer
+told_majority became.Made = accepted (0 ∷ [])
+told_majority became.NotMajority = accepted (1 ∷ [])
+told_majority became.NotCovered = accepted (2 ∷ [])
+
+abbrev pub majority_answer : Result Majority Refusal → Answer
+majority_answer = answer_by told_majority
 
 -- and of the finder's: the new number of nodes
-abbrev pub found_answer : Found → Answer
-found_answer (finder.Nodes n) = accepted (n ∷ [])
-found_answer (finder.Refused r) = refused (number_of r)
+abbrev pub found_answer : Result ℕ Refusal → Answer
+found_answer = answer_by (λ n. accepted (n ∷ []))
 
 -- the number of nodes that a graph of n has after such an answer
 abbrev pub nodes_after_answer : ℕ → Answer → ℕ

@@ -1,7 +1,7 @@
 -- The majority call whole: outputs do not matter to it, a refusal changes nothing, and no accepted answer has a number. From the definitions.
 use mathlib.Core.Path.{◌≡◌, refl, ap, ◌∙◌}
 use mathlib.Core.Bool.{true, false}
-use mathlib.Core.Logic.{⊎_elim, ◌≢◌}
+use mathlib.Core.Logic.{⊎_elim}
 use mathlib.Core.List.{List, []}
 use Prim.Native.Nat.{ℕ, zero, suc, ◌+◌, ◌*◌, ◌≤◌, ◌<◌}
 use native.Mathlib.Omega.{arith}
@@ -11,15 +11,13 @@ use Rattle.graph.specs.Finite.{if_equal}
 use Rattle.graph.specs.Graph.{Graph, graph_of, is_edge, is_xor}
 use Rattle.graph.specs.Value.{node_value}
 use Rattle.graph.specs.Admission.{Admitted, admission_number}
-use Rattle.graph.specs.Answer.{Answer, Outcome, outcome, refused}
-use Rattle.graph.specs.Inner.{IsRefusal}
+use Rattle.graph.specs.Answer.{Answer, Outcome, outcome}
 use Rattle.graph.proofs.Admit.{admitted}
-use Rattle.graph.proofs.Answers.{first_le, if_less_le, admission_le, refused_outcome, accepted_outcome}
-use Rattle.graph.proofs.Cases.{true_or_false, cond_le}
+use Rattle.graph.proofs.Answers.{accepted_outcome}
+use Rattle.graph.proofs.Cases.{true_or_false}
 use Rattle.graph.proofs.Tests.{both, off}
-use Rattle.moves.specs.Rows.{lock_at}
 use Rattle.moves.specs.Call.{node_fault, scratch_fault}
-use Rattle.moves.proofs.Known.{node_known, node_fault_le}
+use Rattle.moves.proofs.Known.{node_known}
 use Rattle.evaluation.specs.Inner.{nodes_of}
 use Rattle.hidden.specs.Truth.{Triple, leak, leaks, node_byte, over, truth}
 use Rattle.hidden.specs.Majority.{is_majority, rewired, majority_of, made}
@@ -59,31 +57,6 @@ module _ (i n o : ℕ) (ns os : List ℕ) (t : Triple) where
   with_outputs a ns' u e = ap lift e ∙ lifted u
 
 module _ (g : Graph) (ls : List ℕ) (s : ℕ) (t : Triple) (u : ℕ) where
-  triple_le : triple_fault t u ≤ 16
-  unfolding triple_fault
-  triple_le = if_less_le 0 t.one _ 7 16 (if_less_le t.one t.two _ 7 16 (if_less_le t.two t.three _ 7 16 (if_less_le t.three u 0 7 16 (omega arith) (omega arith)) (omega arith)) (omega arith)) (omega arith)
-
-  lock_le : lock_fault g ls u ≤ 16
-  unfolding lock_fault if_equal
-  lock_le = cond_le (eqb (lock_at g ls u) 1) 16 0 16 (omega arith) (omega arith)
-
-  scratch_le : scratch_fault g s ≤ 16
-  unfolding scratch_fault
-  scratch_le = if_less_le s (8 * g.N) 8 0 16 (omega arith) (omega arith)
-
-  number_le : majority_number g ls s t u ≤ 16
-  unfolding majority_number
-  number_le =
-      first_le (admission_number g ls) _ 16 (omega (arith, admission_le g ls))
-      (first_le (node_fault g u) _ 16 (omega (arith, node_fault_le g u)) (first_le (triple_fault t u) _ 16 triple_le (first_le (lock_fault g ls u) (scratch_fault g s) 16 lock_le scratch_le)))
-
-  pub in_range : (k : ℕ) → k ≡ majority_number g ls s t u → k ≢ 0 → IsRefusal k
-  in_range k e d = (omega arith, omega (arith, number_le))
-
-  pub refused_call : (k : ℕ) → k ≡ majority_number g ls s t u → k ≢ 0 → outcome (refused k) g ≡ majority_call g ls s t u
-  unfolding majority_call
-  refused_call k e d = refused_outcome k (majority_number g ls s t u) g (majority_outcome g t u) e (λ z. d (e ∙ z))
-
   pub accepted_call : (o : Outcome) → majority_number g ls s t u ≡ 0 → o ≡ majority_outcome g t u → o ≡ majority_call g ls s t u
   unfolding majority_call
   accepted_call o z e = e ∙ accepted_outcome (majority_number g ls s t u) g (majority_outcome g t u) z

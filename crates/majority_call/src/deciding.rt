@@ -5,7 +5,7 @@ ghost use Rattle.graph.specs.Answer.{outcome};
 ghost use Rattle.graph.specs.Literals.{literals};
 ghost use Rattle.evaluation.specs.Inner.{nodes_of};
 ghost use Rattle.hidden.specs.Truth.{triple};
-ghost use Rattle.hidden.specs.Call.{majority_answer, majority_outcome};
+ghost use Rattle.hidden.specs.Call.{told_majority, majority_outcome};
 ghost use Rattle.hidden.specs.Inner.{Rising};
 
 use crate::{making, valuing};
@@ -30,7 +30,7 @@ pub fn decide(
         Admitted g × (inputs < node) × (node < inputs + 1 + nodes) × Rising (triple one two three) node × (8 * nodes ≤ length scratch.old) }
     ensures { let g = nodes_of inputs nodes (literals node_table.old node_bits.old) in
         let h = nodes_of inputs nodes (literals node_table.new node_bits.new) in
-        outcome (majority_answer result) h ≡ majority_outcome g (triple one two three) node }
+        outcome (told_majority result) h ≡ majority_outcome g (triple one two three) node }
 {
     clear(wide(nodes), scratch);
     let v = wide(node - inputs - 1);

@@ -12,9 +12,8 @@ mod faults;
 pub mod making;
 pub mod valuing;
 
-use graph::Lent;
-use graph::faults::refused_by;
 use graph::table::Table;
+use graph::{Lent, Refusal};
 use hidden::Majority;
 
 // The majority call: a node, with three lower indices, rising and none of them 0, becomes one majority of the three where its truth value over
@@ -32,7 +31,7 @@ pub fn majority_call<'x>(
     two: u32,
     three: u32,
     scratch: &mut [u32],
-) -> Majority
+) -> Result<Majority, Refusal>
     ensures outcome { let g = graph_in inputs nodes outputs node_table.old node_bits.old output_table.now.indices.now output_table.now.bits.now in
         let h = graph_in inputs nodes outputs node_table.new node_bits.new output_table.now.indices.now output_table.now.bits.now in
         outcome (majority_answer result) h ≡ majority_call g locks.now (length scratch.old) (triple one two three) node }
@@ -49,11 +48,8 @@ pub fn majority_call<'x>(
         output_table: *output_table,
         locks,
     };
-    let number = faults::majority_number(&lent, node, one, two, three, scratch.len());
-    if number != 0 {
-        return Majority::Refused(refused_by(number));
-    }
-    deciding::decide(
+    faults::check_majority(&lent, node, one, two, three, scratch.len())?;
+    Ok(deciding::decide(
         inputs, nodes, node_table, node_bits, node, one, two, three, scratch,
-    )
+    ))
 }

@@ -1,37 +1,24 @@
--- Which number refuses a preview, what is known where none does, and what it then answers. From the laws on tests and on the tree
--- call's numbers.
+-- What a preview answers that is refused, what is known of one that is not, and what it then answers. From the laws on tests.
 use mathlib.Core.Path.{◌≡◌, refl, ap, ◌∙◌}
 use mathlib.Core.List.{List}
-use mathlib.Core.Logic.{⊎_elim, ◌≢◌}
+use Rattle.std.proofs.Common.{Result}
+use Rattle.std.specs.Result.{IsErrAnd}
 use Prim.Native.Nat.{ℕ, ◌*◌, ◌≤◌}
-use native.Mathlib.Omega.{arith}
 use lib.ListN.{length}
 use Rattle.graph.specs.Graph.{Graph}
 use Rattle.graph.specs.Admission.{Admitted}
-use Rattle.graph.specs.Answer.{Answer, refused}
-use Rattle.graph.specs.Inner.{IsRefusal}
-use Rattle.graph.proofs.Answers.{tables_le, first_le, if_less_le, refused_is, accepted_is}
-use Rattle.graph.proofs.Cases.{eq_or_ne}
+use Rattle.graph.specs.Answer.{Answer, number_of}
+use Rattle.graph.specs.declared.Refusal.{Refusal}
+use Rattle.graph.proofs.Answers.{number_some, ends_call, accepted_is}
 use Rattle.graph.proofs.Tests.{equal, unequal, off, both}
 use Rattle.moves.specs.Tree.{tree}
 use Rattle.moves.specs.Compose.{IsRoot}
-use Rattle.moves.specs.Call.{rewrite, tree_number}
-use Rattle.tree_call.proofs.Refused.{tree_range, accepted_by}
+use Rattle.moves.specs.Call.{saving_answer, rewrite}
+use Rattle.moves.specs.declared.Saving.{Saving}
+use Rattle.tree_call.proofs.Refused.{accepted_by}
 use Rattle.preview.specs.Preview.{moves_told, preview_number, preview_answer, preview_bytes}
 
 module _ (g : Graph) (ls : List ℕ) (b s r : ℕ) where
-  tree_le : tree_number g ls s r ≤ 19
-  tree_le =
-      ⊎_elim (λ (e : tree_number g ls s r ≡ 0). omega (arith, e)) (λ (e : tree_number g ls s r ≢ 0). (tree_range g ls s r (tree_number g ls s r) refl e).1) (eq_or_ne (tree_number g ls s r) 0)
-
-  preview_le : preview_number g ls b s r ≤ 19
-  unfolding preview_number
-  preview_le = first_le _ _ 19 (omega (arith, tables_le g ls)) (first_le _ _ 19 (if_less_le b g.N 4 0 19 (omega arith) (omega arith)) tree_le)
-
-  -- what `refused_by` asks of the number
-  pub preview_range : (k : ℕ) → k ≡ preview_number g ls b s r → k ≢ 0 → IsRefusal k
-  preview_range k e d = (omega (arith, d), omega (arith, e, preview_le))
-
   -- what an accepted preview may rest on
   pub accepted_preview : preview_number g ls b s r ≡ 0 → (Admitted g) × (IsRoot g r) × (8 * g.N ≤ s) × (g.N ≤ b) × (g.N ≤ length ls)
   unfolding preview_number
@@ -45,10 +32,13 @@ unfolding rewrite
 rewritten g ls us = refl
 
 -- the preview, refused and not
-pub refused_preview : (g : Graph) (ls bs : List ℕ) (s r k : ℕ) → k ≡ preview_number g ls (length bs) s r → k ≢ 0 → (refused k ≡ preview_answer g ls (length bs) s r) × (bs ≡ preview_bytes g ls bs s r)
+pub refused_preview : (g : Graph) (ls bs : List ℕ) (s q : ℕ) (r : Result Saving Refusal) (x : Refusal) → IsErrAnd r (λ y. y ≡ x) → number_of x ≡ preview_number g ls (length bs) s q
+    → (saving_answer r ≡ preview_answer g ls (length bs) s q) × (bs ≡ preview_bytes g ls bs s q)
 unfolding preview_answer preview_bytes
-refused_preview g ls bs s r k e d =
-    (refused_is k (preview_number g ls (length bs) s r) (rewrite g ls (tree g r)).answer e (λ z. d (e ∙ z)), unequal (preview_number g ls (length bs) s r) 0 (moves_told g ls r bs) bs (λ z. d (e ∙ z)) refl)
+refused_preview g ls bs s q r x e n = (
+  ends_call _ r x _ _ e n,
+  unequal (preview_number g ls (length bs) s q) 0 (moves_told g ls q bs) bs (λ z. number_some x (n ∙ z)) refl,
+)
 
 pub told_preview : (g : Graph) (ls bs bs' : List ℕ) (s r : ℕ) (x : Answer) → preview_number g ls (length bs) s r ≡ 0 → x ≡ (rewrite g ls (tree g r)).answer → bs' ≡ moves_told g ls r bs
     → (x ≡ preview_answer g ls (length bs) s r) × (bs' ≡ preview_bytes g ls bs s r) × (x.number ≡ 0)

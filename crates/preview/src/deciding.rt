@@ -1,7 +1,7 @@
 // A tree decided in the state and its moves told; made in scratch, they say what the call would save.
 ghost use Rattle.std.specs.Prelude.{◌≡◌, true, ◌+◌, ◌*◌, ◌≤◌, ◌<◌, length};
 ghost use Rattle.graph.specs.Admission.{Admitted};
-ghost use Rattle.moves.specs.Call.{saving_answer, rewrite};
+ghost use Rattle.moves.specs.Call.{told_saving, rewrite};
 ghost use Rattle.moves.specs.Tree.{is_root, tree};
 ghost use Rattle.moves.specs.Compose.{IsRoot};
 ghost use Rattle.preview.specs.Preview.{moves_told};
@@ -37,7 +37,7 @@ pub fn preview_tree(lent: &Lent, root: u32, bytes: &mut [u8], scratch: &mut [u32
     requires { let g = lent_graph lent.now in
         Admitted g × IsRoot g root × (8 * lent.now.nodes ≤ length scratch.old) × (lent.now.nodes ≤ length bytes.old) × (lent.now.nodes ≤ length lent.now.locks.now) }
     ensures { let g = lent_graph lent.now in
-        (saving_answer result ≡ (rewrite g lent.now.locks.now (tree g root)).answer) × (bytes.new ≡ moves_told g lent.now.locks.now root bytes.old) }
+        (told_saving result ≡ (rewrite g lent.now.locks.now (tree g root)).answer) × (bytes.new ≡ moves_told g lent.now.locks.now root bytes.old) }
 {
     let before = complemented(lent);
     let v = wide(root - (lent.inputs + 1));

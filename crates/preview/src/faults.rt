@@ -1,22 +1,20 @@
-// Which number refuses a preview; 0 is none.
+// What refuses a preview.
 ghost use Rattle.std.specs.Prelude.{◌≡◌};
+ghost use Rattle.graph.specs.Answer.{refusal_number};
 ghost use Rattle.preview.specs.Preview.{preview_number};
 ghost use Rattle.graph.specs.Tables.{lent_graph};
 
-use graph::Lent;
-use graph::faults::tables_number;
-use tree_call::faults::tree_number;
+use graph::faults::check_tables;
+use graph::{Lent, Refusal};
+use tree_call::faults::check_tree;
 
-pub fn preview_number(lent: &Lent, root: u32, bytes: usize, length: usize) -> u32
+pub fn check_preview(lent: &Lent, root: u32, bytes: usize, length: usize) -> Result<(), Refusal>
     ensures { let g = lent_graph lent.now in
-        result ≡ preview_number g lent.now.locks.now bytes length root }
+        refusal_number result ≡ preview_number g lent.now.locks.now bytes length root }
 {
-    let room = tables_number(lent);
-    if room != 0 {
-        return room;
-    }
+    check_tables(lent)?;
     if bytes < lent.nodes as usize {
-        return 4;
+        return Err(Refusal::ShortSlice);
     }
-    tree_number(lent, root, length)
+    check_tree(lent, root, length)
 }

@@ -10,21 +10,22 @@ mod deciding;
 mod faults;
 mod telling;
 
-use graph::Lent;
-use graph::faults::refused_by;
+use graph::{Lent, Refusal};
 use moves::Saving;
 
 // The tree call seen first: its saving, and each node's move in its byte. The tables are only read.
-pub fn preview(lent: &Lent, root: u32, bytes: &mut [u8], scratch: &mut [u32]) -> Saving
+pub fn preview(
+    lent: &Lent,
+    root: u32,
+    bytes: &mut [u8],
+    scratch: &mut [u32],
+) -> Result<Saving, Refusal>
     ensures answer { let g = lent_graph lent.now in
         saving_answer result ≡ preview_answer g lent.now.locks.now (length bytes.old) (length scratch.old) root }
     ensures bytes { let g = lent_graph lent.now in
         bytes.new ≡ preview_bytes g lent.now.locks.now bytes.old (length scratch.old) root }
     ensures scratch { ScratchKept (saving_answer result) scratch.old scratch.new }
 {
-    let number = faults::preview_number(lent, root, bytes.len(), scratch.len());
-    if number != 0 {
-        return Saving::Refused(refused_by(number));
-    }
-    deciding::preview_tree(lent, root, bytes, scratch)
+    faults::check_preview(lent, root, bytes.len(), scratch.len())?;
+    Ok(deciding::preview_tree(lent, root, bytes, scratch))
 }

@@ -1,34 +1,28 @@
 -- `find` meets its contract: a refusal changes nothing, and an accepted call is the pass and the drop. From the laws on the whole finder.
-use mathlib.Core.Path.{refl, sym, ◌∙◌}
-use lib.ListN.{length}
+use Rattle.std.proofs.Common.{ℕ, length, refl, sym}
 use Rattle.graph.specs.Graph.{Graph}
 use Rattle.graph.specs.Literals.{graph_in}
-use Rattle.finder.proofs.Whole.{in_range, refused_call, accepted_call, fine}
+use Rattle.finder.proofs.Whole.{ends_find, accepted_call, fine}
 use Rattle.finder.proofs.find.Goals as goal
 use Rattle.finder.proofs.find.Goals.{Start}
 
-abbrev graph : Start → Graph
-graph s =
-    let a = s.args in
-    graph_in a.inputs a.nodes a.outputs a.node_table.now a.node_bits.now a.output_table.now a.output_bits.now
+abbrev graph : Start → ℕ → Graph
+graph s n = let a = s.args in graph_in a.inputs n a.outputs a.node_table.now a.node_bits.now a.output_table.now a.output_bits.now
 
-pub refused_by-requires : goal.refused_by-requires
-refused_by-requires c =
-    let n = c.find_number-number in
-    in_range (graph (goal.at.refused_by-requires c).Start) c.args.locks.now (length c.args.scratch.now) n.result n.ensures c.if-number-ne0.true
+pub returns-in_err-check_find : goal.returns-in_err-check_find
+returns-in_err-check_find c =
+    let a = c.args in
+    record {
+      outcome = ends_find _ _ (graph (goal.at.returns-in_err-check_find c).Start) a.nodes a.locks.now (length a.scratch.now) c.from_residual.ensures.1 c.in_err-check_find.ensures;
+      scratch = λ z. refl;
+    }
 
-pub returns-then-number-ne0 : goal.returns-then-number-ne0
-returns-then-number-ne0 c =
-    let q = c.refused_by.ensures in
-    record { outcome = refused_call (graph (goal.at.returns-then-number-ne0 c).Start) c.args.locks.now (length c.args.scratch.now) _ (q ∙ c.find_number-number.ensures) (λ z. c.if-number-ne0.true (sym q ∙ z)); scratch = λ z. refl }
-
-pub pass_and_drop-left-requires : goal.pass_and_drop-left-requires
-pass_and_drop-left-requires c =
-    let f = fine (graph (goal.at.pass_and_drop-left-requires c).Start) c.args.locks.now (length c.args.scratch.now) (sym c.find_number-number.ensures ∙ c.if-number-ne0.false) in
+pub pass_and_drop-requires : goal.pass_and_drop-requires
+pass_and_drop-requires c =
+    let f = fine (graph (goal.at.pass_and_drop-requires c).Start c.args.nodes) c.args.locks.now (length c.args.scratch.now) (sym c.in_ok-check_find.ensures) in
     (f.admitted, f.locked, f.long)
 
 pub returns : goal.returns
 returns c =
-    let o = c.pass_and_drop-left in
-    let z = sym c.find_number-number.ensures ∙ c.if-number-ne0.false in
-    record { outcome = accepted_call (graph (goal.at.returns c).Start) c.args.locks.now (length c.args.scratch.now) _ o.result _ refl z o.ensures.0 o.ensures.1; scratch = λ y. absurd (y refl) }
+    let o = c.pass_and_drop in
+    record { outcome = accepted_call (graph (goal.at.returns c).Start c.args.nodes) c.args.locks.now (length c.args.scratch.now) _ o.result _ refl (sym c.in_ok-check_find.ensures) o.ensures.0 o.ensures.1; scratch = λ y. absurd (y refl) }

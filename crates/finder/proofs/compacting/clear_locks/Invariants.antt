@@ -1,5 +1,5 @@
 -- `clear_locks` meets its contract: the places passed are 0. From the laws on `set`.
-use Prim.Native.Nat.{◌-◌, ◌≤◌}
+use Prim.Native.Nat.{◌≤◌}
 use Rattle.finder.specs.Compacting.{Cleared}
 use Rattle.finder.proofs.compacting.clear_locks.Given as goal
 

@@ -1,5 +1,5 @@
 -- `clear_words` meets its contract: the places passed are 0. From the laws on `set`.
-use Prim.Native.Nat.{◌-◌, ◌≤◌}
+use Prim.Native.Nat.{◌≤◌}
 use Rattle.graph.specs.Literals.{literals}
 use Rattle.finder.specs.Compacting.{Cleared}
 use Rattle.finder.proofs.Rooms.{SameRoom}

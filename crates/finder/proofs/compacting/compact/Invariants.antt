@@ -1,7 +1,7 @@
 -- `compact` meets its contract: the nodes passed stand together. From the laws on compaction.
 use mathlib.Core.Bool.{Bool}
 use mathlib.Core.List.{List}
-use Prim.Native.Nat.{ℕ, ◌-◌}
+use Prim.Native.Nat.{ℕ}
 use Rattle.graph.specs.Graph.{graph_of}
 use Rattle.graph.specs.Literals.{literals}
 use Rattle.finder.specs.Compacting.{Moves, Compacted}

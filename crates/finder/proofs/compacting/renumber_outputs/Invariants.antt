@@ -1,5 +1,5 @@
 -- `renumber_outputs` meets its contract: the outputs passed have their new indices. From the laws on moved words.
-use Prim.Native.Nat.{◌-◌, ◌≤◌}
+use Prim.Native.Nat.{◌≤◌}
 use Rattle.graph.specs.Literals.{literals}
 use Rattle.finder.specs.Compacting.{OutputsMoved}
 use Rattle.finder.proofs.Rooms.{SameRoom}

@@ -1,6 +1,4 @@
 -- `follow` meets its contract: the way has come to an index by the places met so far. From the laws on ways.
-use Prim.Native.Nat.{◌-◌}
-use Rattle.graph.specs.Literals.{literals}
 use Rattle.evaluation.specs.Inner.{nodes_of}
 use Rattle.finder.specs.Meeting.{Comes}
 use Rattle.finder.proofs.following.follow.Given as goal

@@ -3,7 +3,6 @@ use mathlib.Core.Path.{◌≡◌}
 use Prim.Native.Nat.{◌≤◌}
 use lib.ListN.{length}
 use Rattle.finder.specs.Living.{Living}
-use Rattle.graph.specs.Literals.{graph_in}
 use Rattle.finder.proofs.living.mark_living.Given as goal
 use Rattle.graph.specs.Tables.{lent_graph}
 

@@ -1,8 +1,7 @@
 -- `mark_outputs` meets its contract: the outputs passed are marked. From the laws on marks.
 use mathlib.Core.Path.{◌≡◌}
-use Prim.Native.Nat.{◌-◌, ◌≤◌}
+use Prim.Native.Nat.{◌≤◌}
 use lib.ListN.{length}
-use Rattle.graph.specs.Literals.{graph_in}
 use Rattle.finder.specs.Living.{Living}
 use Rattle.finder.proofs.living.mark_outputs.Given as goal
 use Rattle.graph.specs.Tables.{lent_graph}

@@ -1,7 +1,7 @@
 -- `unmark` meets its contract: the words passed are 0. From the laws on `set`.
 use mathlib.Core.Path.{◌≡◌}
 use mathlib.Core.List.{List}
-use Prim.Native.Nat.{ℕ, ◌-◌, ◌≤◌, ◌<◌}
+use Prim.Native.Nat.{ℕ, ◌≤◌, ◌<◌}
 use lib.ListN.{length, get_or}
 use Rattle.finder.proofs.living.unmark.Given as goal
 

@@ -1,6 +1,6 @@
 -- `spread` meets its contract: of the words that have been looked at so many are apart, so that three that meet them all have as many of the places seen. From
 -- the laws on ways.
-use Prim.Native.Nat.{◌-◌, ◌≤◌}
+use Prim.Native.Nat.{◌≤◌}
 use Rattle.finder.specs.Meeting.{AtLeast}
 use Rattle.finder.proofs.masks.spread.Given as goal
 

@@ -1,7 +1,7 @@
 -- `insert` meets its contract: what is left to be inserted gives the same list. From the laws on insertion.
 use mathlib.Core.Path.{◌≡◌}
 use mathlib.Core.List.{◌++◌}
-use Prim.Native.Nat.{◌-◌, ◌≤◌}
+use Prim.Native.Nat.{◌≤◌}
 use lib.ListN.{take, length-set}
 use lib.ListN as ln
 use lib.Seq.{slice}

@@ -1,7 +1,7 @@
 -- `number_living` meets its contract: the nodes passed have their numbers. From the laws on ranks.
 use mathlib.Core.Path.{◌≡◌}
 use mathlib.Core.Bool.{Bool}
-use Prim.Native.Nat.{ℕ, ◌-◌, ◌≤◌}
+use Prim.Native.Nat.{ℕ, ◌≤◌}
 use lib.ListN.{length}
 use Rattle.finder.specs.Numbering.{Flags, Numbering}
 use Rattle.finder.proofs.numbering.number_living.Given as goal

@@ -1,6 +1,6 @@
 -- `pass` meets its contract: the table is that of the nodes passed. From the laws on one node.
 use mathlib.Core.Path.{◌≡◌}
-use Prim.Native.Nat.{◌-◌, ◌≤◌}
+use Prim.Native.Nat.{◌≤◌}
 use lib.ListN.{length}
 use Rattle.graph.specs.Literals.{literals}
 use Rattle.evaluation.specs.Inner.{nodes_of}

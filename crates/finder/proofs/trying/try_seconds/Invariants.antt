@@ -1,7 +1,6 @@
 -- `try_seconds` meets its contract: what is left to be tried gives the same. From the laws on trials.
-use Prim.Native.Nat.{◌-◌, ◌≤◌, ◌<◌}
+use Prim.Native.Nat.{◌≤◌, ◌<◌}
 use lib.ListN.{take}
-use Rattle.graph.specs.Literals.{literals}
 use Rattle.evaluation.specs.Inner.{nodes_of}
 use Rattle.hidden.specs.Inner.{left₁, left₂}
 use Rattle.finder.proofs.Trials.{Going}

@@ -5,7 +5,6 @@ use Rattle.evaluation.specs.Inner.{nodes_of}
 use Rattle.hidden.specs.Truth.{triple}
 use Rattle.majority_call.specs.Valuing.{unvalued}
 use Rattle.majority_call.proofs.Stacked.{Rising}
-use Rattle.graph.specs.Literals.{literals}
 use Rattle.majority_call.proofs.valuing.truth.Given as goal
 use Rattle.graph.specs.Tables.{lent_table}
 

@@ -2,7 +2,6 @@
 use Rattle.evaluation.specs.Inner.{nodes_of}
 use Rattle.hidden.specs.Truth.{triple}
 use Rattle.majority_call.proofs.Stacked.{Going}
-use Rattle.graph.specs.Literals.{literals}
 use Rattle.majority_call.proofs.valuing.value_one.Given as goal
 use Rattle.graph.specs.Tables.{lent_table}
 

@@ -1,7 +1,7 @@
 -- `clear` meets its contract: the bytes passed are 0. From the laws on `set`.
 use mathlib.Core.Path.{◌≡◌}
 use mathlib.Core.List.{List}
-use Prim.Native.Nat.{ℕ, ◌-◌, ◌≤◌, ◌<◌}
+use Prim.Native.Nat.{ℕ, ◌≤◌, ◌<◌}
 use lib.ListN.{length, get_or}
 use Rattle.preview.proofs.telling.clear.Given as goal
 

@@ -4,11 +4,10 @@ use mathlib.Core.List.{List}
 use mathlib.Core.Logic.{◌≢◌}
 use Prim.Native.Nat.{ℕ, ◌≤◌, ◌<◌}
 use lib.ListN.{length, get_or}
-use Rattle.graph.specs.Graph.{Graph, graph_of, mark, node}
+use Rattle.graph.specs.Graph.{Graph, mark, node}
 use Rattle.moves.specs.Tree.{root_of}
 use Rattle.state.specs.State.{field, stands}
 use Rattle.trees.proofs.Falling.{bound_of}
-use Rattle.graph.specs.Literals.{literals}
 use Rattle.preview.proofs.telling.tell.Given as goal
 use Rattle.graph.specs.Tables.{lent_graph}
 

@@ -1,9 +1,9 @@
--- `triple_fault` meets its contract. From the laws on tests.
+-- `check_triple` meets its contract. From the laws on tests.
 use mathlib.Core.Path.{refl}
 use native.Mathlib.Omega.{arith}
 use Rattle.graph.proofs.Tests.{less, no_less}
 use Rattle.hidden.specs.Call.{triple_fault}
-use Rattle.majority_call.proofs.faults.triple_fault.Goals as goal
+use Rattle.majority_call.proofs.faults.check_triple.Goals as goal
 
 pub returns-then-one-eq0 : goal.returns-then-one-eq0
 unfolding triple_fault
