@@ -1,4 +1,4 @@
--- Refusals and sizes of a comparison: which numbers there are, what is known of graphs that are not refused, and what each test leaves of the call. From
+-- Refusals and sizes of a comparison: what is known of graphs that are not refused, and what each test leaves of the call. From
 -- the laws on tests and faults.
 use mathlib.Core.Path.{◌≡◌, refl, ap, ◌∙◌}
 use mathlib.Core.List.{List, [], ◌∷◌}
@@ -7,26 +7,20 @@ use Prim.Native.Nat.{ℕ, ◌≤◌, ◌<◌}
 use native.Mathlib.Omega.{arith}
 use lib.ListN.{length}
 use Rattle.graph.specs.Admission.{Admitted, content_number}
-use Rattle.graph.specs.Answer.{accepted, refused}
+use Rattle.graph.specs.Answer.{accepted, refused, number_of}
 use Rattle.graph.specs.Graph.{Graph}
-use Rattle.graph.specs.Inner.{IsRefusal}
+use Rattle.std.specs.Prelude.{Result}
+use Rattle.std.specs.Result.{IsErrAnd}
+use Rattle.std.proofs.lemmas.Result.{err_from_is_err_and}
+use Rattle.graph.specs.declared.Refusal.{Refusal}
+use Rattle.compare.specs.declared.Comparison.{Comparison}
 use Rattle.graph.proofs.Admit.{admitted_by}
-use Rattle.graph.proofs.Answers.{tables_le, content_le, first_le, if_less_le}
+use Rattle.graph.proofs.Answers.{number_some}
 use Rattle.graph.proofs.Cases.{eq_or_ne}
 use Rattle.graph.proofs.Tests.{both, off, less, no_less, equal, unequal}
-use Rattle.compare.specs.Compare.{compared, size_apart, words_compared, graphs_compared, rooms_number, contents_number, compare_number, compare_call}
+use Rattle.compare.specs.Compare.{compared, comparison_answer, size_apart, words_compared, graphs_compared, rooms_number, contents_number, compare_number, compare_call}
 
 module _ (g : Graph) (ls : List ℕ) (h : Graph) (ks : List ℕ) where
-  compare_le : (b : ℕ) → compare_number g ls h ks b ≤ 13
-  unfolding compare_number rooms_number contents_number
-  compare_le b =
-      first_le _ _ 13
-      (first_le _ _ 13 (omega (arith, tables_le g ls)) (first_le _ _ 13 (if_less_le b g.N 4 0 13 (omega arith) (omega arith)) (omega (arith, tables_le h ks))))
-      (first_le _ _ 13 (content_le g ls) (content_le h ks))
-
-  pub compare_range : (b k : ℕ) → k ≡ compare_number g ls h ks b → k ≢ 0 → IsRefusal k
-  compare_range b k e n = (omega arith, omega (arith, e, compare_le b))
-
   pub accepted_both : (b : ℕ) → compare_number g ls h ks b ≡ 0 → Admitted g × Admitted h × (g.N ≤ b)
   unfolding compare_number rooms_number contents_number content_number
   accepted_both b z =
@@ -37,9 +31,11 @@ module _ (g : Graph) (ls : List ℕ) (h : Graph) (ks : List ℕ) where
       (admitted_by g ls r.0 (both _ _ q.0).0, admitted_by h ks t.1 (both _ _ q.1).0, (off b g.N 3 0 t.0).0)
 
   module _ (bs : List ℕ) where
-    pub refused_call : (k : ℕ) → k ≡ compare_number g ls h ks (length bs) → k ≢ 0 → compared (refused k) bs ≡ compare_call g ls h ks bs
+    pub refused_call : (r : Result Comparison Refusal) (x : Refusal) → IsErrAnd r (λ y. y ≡ x) → number_of x ≡ compare_number g ls h ks (length bs) → compared (comparison_answer r) bs ≡ compare_call g ls h ks bs
     unfolding compare_call
-    refused_call k e n = unequal _ 0 _ _ (λ z. n (e ∙ z)) (ap (λ (y : ℕ). compared (refused y) bs) e)
+    refused_call r x q e =
+        let p = err_from_is_err_and r q in
+        rw (p.1, p.2) (unequal _ 0 _ _ (λ z. number_some x (e ∙ z)) (ap (λ (y : ℕ). compared (refused y) bs) e))
 
     pub accepted_call : compare_number g ls h ks (length bs) ≡ 0 → graphs_compared g h bs ≡ compare_call g ls h ks bs
     unfolding compare_call

@@ -9,6 +9,8 @@ use native.Mathlib.Omega.{arith}
 use borrow.Author.Tests.{eq-eqb, ne_eqb}
 use lib.Dec.{eqb}
 use lib.ListN.{length, get_or}
+use Rattle.std.specs.Prelude.{Option, Some, None}
+use Rattle.std.proofs.lemmas.Option.{none-some, same_Some}
 use Rattle.graph.specs.Admission.{Admitted}
 use Rattle.graph.specs.Graph.{Graph, graph_of, node, word, index, is_xor, is_edge}
 use Rattle.graph.specs.Literals.{bit_at}
@@ -31,17 +33,17 @@ use Rattle.compare.proofs.Told.{edge_below, early, told_is, first_fits, second_f
 
 -- the first word that cannot be turned as it is to be, by cases
 unfit_cases : (x : Bool) (a b c : ℕ) → let p = cond x true (eqb a b) in let q = cond x true (eqb a c) in
-    ((unfit x a b c ≡ 0) × (p ≡ true) × (q ≡ true)) ⊎ (((unfit x a b c ≡ 1) × (p ≡ false)) ⊎ ((unfit x a b c ≡ 2) × (p ≡ true) × (q ≡ false)))
+    ((unfit x a b c ≡ None) × (p ≡ true) × (q ≡ true)) ⊎ (((unfit x a b c ≡ Some 1) × (p ≡ false)) ⊎ ((unfit x a b c ≡ Some 2) × (p ≡ true) × (q ≡ false)))
 unfolding unfit
 unfit_cases true a b c = inl (refl, refl, refl)
 unfit_cases false a b c =
     ⊎_elim
     (λ (e : a ≡ b).
     ⊎_elim
-    (λ (f : a ≡ c). inl (sym (equal a b _ 1 e (equal a c 0 2 f refl)), eq-eqb a b e, eq-eqb a c f))
-    (λ (n : a ≢ c). inr (inr (sym (equal a b _ 1 e (unequal a c 0 2 n refl)), eq-eqb a b e, ne_eqb a c n)))
+    (λ (f : a ≡ c). inl (sym (equal a b _ (Some 1) e (equal a c None (Some 2) f refl)), eq-eqb a b e, eq-eqb a c f))
+    (λ (n : a ≢ c). inr (inr (sym (equal a b _ (Some 1) e (unequal a c None (Some 2) n refl)), eq-eqb a b e, ne_eqb a c n)))
     (eq_or_ne a c))
-    (λ (n : a ≢ b). inr (inl (sym (unequal a b _ 1 n refl), ne_eqb a b n)))
+    (λ (n : a ≢ b). inr (inl (sym (unequal a b _ (Some 1) n refl), ne_eqb a b n)))
     (eq_or_ne a b)
 
 pub unfit_same : (x : Bool) (a b c a' b' c' : ℕ) → a ≡ a' → b ≡ b' → (x ≡ false → c ≡ c') → unfit x a b c ≡ unfit x a' b' c'
@@ -84,7 +86,7 @@ module _ (i n : ℕ) (l ds : List ℕ) (adm : Admitted (bare i n l)) where
     fine_next : (k : ℕ) → Fine k → fits g w t k ≡ true → Fine (suc k)
     fine_next k f e j m = ⊎_elim (λ (q : j ≡ k). rw q e) (λ (q : j < k). f j q) (last_or_below m)
 
-    module _ (r : ℕ) (e : r ≡ unfit (is_xor g v) (own_turn sn l ds (3 * v + 0)) (own_turn sn l ds (3 * v + 1)) (own_turn sn l ds (3 * v + 2))) (f : Fine (3 * v)) where
+    module _ (r : Option ℕ) (e : r ≡ unfit (is_xor g v) (own_turn sn l ds (3 * v + 0)) (own_turn sn l ds (3 * v + 1)) (own_turn sn l ds (3 * v + 2))) (f : Fine (3 * v)) where
       after_first : Fine (3 * v + 1)
       after_first = let z : suc (3 * v) ≡ 3 * v + 1 = omega arith in rw z at (fine_next (3 * v) f (first_fits g w adm v h))
 
@@ -92,34 +94,34 @@ module _ (i n : ℕ) (l ds : List ℕ) (adm : Admitted (bare i n l)) where
       after_second p = let z : suc (3 * v + 1) ≡ 3 * v + 2 = omega arith in rw z at (fine_next (3 * v + 1) after_first p)
 
       -- all its words are turned as they are to be, or the sweep stops
-      pub node_goes : r ≡ 0 → Fine (3 * (v + 1))
+      pub node_goes : r ≡ None → Fine (3 * (v + 1))
       node_goes z =
           let y : suc (3 * v + 2) ≡ 3 * (v + 1) = omega arith in
           ⊎_elim
           (λ c. rw y at (fine_next (3 * v + 2) (after_second (second_fits g w adm v h ∙ c.1)) (third_fits g w adm v h ∙ c.2)))
-          (λ d. absurd (⊎_elim (λ c. omega (arith, z, e, unfit_is, c.0)) (λ c. omega (arith, z, e, unfit_is, c.0)) d))
+          (λ d. absurd (⊎_elim (λ c. none-some _ (sym z ∙ e ∙ unfit_is ∙ c.0)) (λ c. none-some _ (sym z ∙ e ∙ unfit_is ∙ c.0)) d))
           (unfit_cases (is_xor g v) (wanted g w t (3 * v)) (wanted g w t (3 * v + 1)) (wanted g w t (3 * v + 2)))
 
-      pub node_stops : r ≢ 0 → 3 * v + r ≡ passing (3 * n) (fits g w t)
-      node_stops z =
+      pub node_stops : (k : ℕ) → r ≡ Some k → 3 * v + k ≡ passing (3 * n) (fits g w t)
+      node_stops k z =
           ⊎_elim
-          (λ c. absurd (z (e ∙ unfit_is ∙ c.0)))
+          (λ c. absurd (none-some _ (sym c.0 ∙ sym unfit_is ∙ sym e ∙ z)))
           (λ d.
           ⊎_elim
           (λ c.
-          let q : r ≡ 1 = e ∙ unfit_is ∙ c.0 in
+          let q : k ≡ 1 = same_Some k 1 (sym z ∙ e ∙ unfit_is ∙ c.0) in
           rw q (passing_is (3 * n) (fits g w t) (3 * v + 1) (omega arith) after_first (λ m. second_fits g w adm v h ∙ c.1)))
           (λ c.
-          let q : r ≡ 2 = e ∙ unfit_is ∙ c.0 in
+          let q : k ≡ 2 = same_Some k 2 (sym z ∙ e ∙ unfit_is ∙ c.0) in
           rw q (passing_is (3 * n) (fits g w t) (3 * v + 2) (omega arith) (after_second (second_fits g w adm v h ∙ c.1)) (λ m. third_fits g w adm v h ∙ c.2)))
           d)
           (unfit_cases (is_xor g v) (wanted g w t (3 * v)) (wanted g w t (3 * v + 1)) (wanted g w t (3 * v + 2)))
 
-      pub word_few : r ≤ 2
-      word_few =
+      pub word_few : (k : ℕ) → r ≡ Some k → k ≤ 2
+      word_few k z =
           ⊎_elim
-          (λ c. omega (arith, e, unfit_is, c.0))
-          (λ d. ⊎_elim (λ c. omega (arith, e, unfit_is, c.0)) (λ c. omega (arith, e, unfit_is, c.0)) d)
+          (λ c. absurd (none-some _ (sym c.0 ∙ sym unfit_is ∙ sym e ∙ z)))
+          (λ d. ⊎_elim (λ c. omega (arith, same_Some k 1 (sym z ∙ e ∙ unfit_is ∙ c.0))) (λ c. omega (arith, same_Some k 2 (sym z ∙ e ∙ unfit_is ∙ c.0))) d)
           (unfit_cases (is_xor g v) (wanted g w t (3 * v)) (wanted g w t (3 * v + 1)) (wanted g w t (3 * v + 2)))
 
     readers_are : flag (is_xor g v) (tells (is_xor g v) (own_turn sn l ds (3 * v + 0)) (own_turn sn l ds (3 * v + 1))) 3 ≡ seen g t (i + 1 + v)

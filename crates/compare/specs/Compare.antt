@@ -1,12 +1,15 @@
 -- Two graphs compared, which is M-111 the other way round: the moves that lead from the first to the second, or the first place where they
 -- differ otherwise.
-use Rattle.std.specs.Prelude.{◌+◌, ◌-◌, ◌*◌, ◌∷◌}
-use Rattle.graph.specs.All.{ℕ, zero, suc, Bool, cond, List, [], map, eqb, length, get_or, tab, if_less, if_equal, first, Graph, word, output, wire, output_wire, tables_number, content_number, Answer, accepted, refused, number_of}
+use Rattle.std.specs.Prelude.{◌+◌, ◌-◌, ◌*◌, ◌∷◌, Option, Some, None, Result}
+use Rattle.graph.specs.All.{ℕ, zero, suc, Bool, cond, List, [], map, eqb, length, get_or, tab, if_less, if_equal, first, Graph, word, output, wire, output_wire, tables_number, content_number, Answer, accepted, refused}
+use Rattle.graph.specs.{Answer.answer_by, declared.Refusal.Refusal}
 use Rattle.choice.specs.All.{best}
 use Rattle.moves.specs.All.{kind_moves, moved}
 use Rattle.order.specs.All.{every_node}
 use Rattle.compare.specs.declared.Comparison.{Comparison}
 use Rattle.compare.specs.declared.Comparison.TheVariants as comparison
+use Rattle.compare.specs.declared.Size.{Size}
+use Rattle.compare.specs.declared.Size.TheVariants as size
 
 -- how many of 0, 1, .. pass a test before the first that does not; n, where the first n do
 unfoldable pub passing : ℕ → (ℕ → Bool) → ℕ
@@ -42,9 +45,24 @@ pub record Compared : Type 0 where
 abbrev pub compared : Answer → List ℕ → Compared
 compared a bs = record { answer = a; moves = bs }
 
-abbrev pub comparison_answer : Comparison → Answer
-comparison_answer (comparison.Told k j) = accepted (k ∷ j ∷ [])
-comparison_answer (comparison.Refused r) = refused (number_of r)
+-- I, N and O by number, and 3 for none of them
+abbrev pub size_number : Option Size → ℕ
+size_number (Some size.Inputs) = 0
+size_number (Some size.Nodes) = 1
+size_number (Some size.Outputs) = 2
+size_number None = 3
+
+-- the two numbers that tell a difference: 0 and 0 for by moves alone; else 1 to 5 for what is the first difference, and where it is
+abbrev pub difference_told : Comparison → List ℕ
+difference_told comparison.Moves = 0 ∷ 0 ∷ []
+difference_told (comparison.Size s) = 1 ∷ size_number (Some s) ∷ []
+difference_told (comparison.NodeIndex p) = 2 ∷ p ∷ []
+difference_told (comparison.OutputIndex p) = 3 ∷ p ∷ []
+difference_told (comparison.NodeBit p) = 4 ∷ p ∷ []
+difference_told (comparison.OutputBit p) = 5 ∷ p ∷ []
+
+abbrev pub comparison_answer : Result Comparison Refusal → Answer
+comparison_answer = answer_by (λ k. accepted (difference_told k))
 
 -- place p of the row, told by k for the node table and by k + 1 for the output table, with its place there
 unfoldable pub place_told : Graph → ℕ → ℕ → Answer

@@ -1,13 +1,18 @@
 -- Moves told by the words of the nodes, by rising index: what inner functions and proofs say, and no promise to a caller.
-use Rattle.std.specs.Prelude.{Bool, true, cond, List, [], ◌∷◌, ℕ, zero, suc, ◌+◌, ◌*◌, ◌%◌, eqb, length, get_or}
+use Rattle.std.specs.Prelude.{Option, Some, None, Bool, true, cond, List, [], ◌∷◌, ℕ, zero, suc, ◌+◌, ◌*◌, ◌%◌, eqb, length, get_or}
 use Rattle.graph.specs.Answer.{accepted}
 use Rattle.graph.specs.Finite.{tab, if_less, if_equal}
 use Rattle.graph.specs.Graph.{Graph, node, word, output, index, is_xor, is_edge}
-use Rattle.graph.specs.Literals.{bit_at}
+use Rattle.graph.specs.Literals.{bit_at, graph_in}
 use Rattle.moves.specs.Apply.{Choice, none, at, own, seen}
 use Rattle.many.specs.Making.{named}
 use Rattle.order.specs.Inner.{tells}
+use Rattle.graph.specs.declared.Lent.{Lent}
 use Rattle.compare.specs.Compare.{passing, Compared, compared}
+
+-- the second graph in the sizes of the first
+abbrev pub beside : Lent → Lent → Graph
+beside g h = graph_in g.inputs g.nodes g.outputs h.node_table.indices.now h.node_table.bits.now h.output_table.indices.now h.output_table.bits.now
 
 -- whether the bit at place j of a table l and that among other bits differ, by twos
 unfoldable pub apart : List ℕ → List ℕ → ℕ → ℕ
@@ -39,9 +44,9 @@ fits g w m j = cond (is_edge g j) (eqb (own g m j) (wanted g w m j)) true
 unfoldable pub out_fits : Graph → (ℕ → ℕ) → Choice → ℕ → Bool
 out_fits g x m j = eqb (wanted_out g x m j) 0
 
--- the first word of a node of a kind that cannot be turned so, by how often each is to be: word 2 or 3, counted from 0; 0 is none
-unfoldable pub unfit : Bool → ℕ → ℕ → ℕ → ℕ
-unfit x a b c = cond x 0 (if_equal a b (if_equal a c 0 2) 1)
+-- the first word of a node of a kind that cannot be turned so, by how often each is to be: word 2 or 3, counted from 0
+unfoldable pub unfit : Bool → ℕ → ℕ → ℕ → Option ℕ
+unfit x a b c = cond x None (if_equal a b (if_equal a c None (Some 2)) (Some 1))
 
 -- what is told of two graphs of one wiring, whose words are to be turned w j times and their outputs x j times
 unfoldable pub explained : Graph → (ℕ → ℕ) → (ℕ → ℕ) → List ℕ → Compared

@@ -2,7 +2,7 @@
 #![tactic(auto)]
 
 ghost use Rattle.std.specs.Prelude.{◌≡◌};
-ghost use Rattle.compare.specs.Compare.{compared, comparison_answer, compare_call};
+ghost use Rattle.compare.specs.Compare.{compared, comparison_answer, compare_call, difference_told};
 ghost use Rattle.graph.specs.Tables.{lent_graph};
 
 mod explaining;
@@ -10,37 +10,55 @@ mod faults;
 mod indices;
 mod telling;
 
-use graph::Lent;
-use graph::faults::refused_by;
+use graph::{Lent, Refusal};
 
-// How two graphs differ, in two numbers: 0 and 0 for by moves alone; else 1 to 5 for what is the first difference, and where it is. Or why the
-// comparison is refused.
+#[derive(Clone, Copy)]
+pub enum Size {
+    Inputs,
+    Nodes,
+    Outputs,
+}
+
+// How two graphs differ: by moves alone, or at the first place that these do not explain.
 #[derive(Clone, Copy)]
 pub enum Comparison {
-    Told(u32, u32),
-    Refused(graph::Refusal),
+    Moves,
+    Size(Size),
+    // The place names another index: of the node table, or of the output table.
+    NodeIndex(u32),
+    OutputIndex(u32),
+    // No moves explain its complement bit together with all before it.
+    NodeBit(u32),
+    OutputBit(u32),
+}
+
+impl Comparison {
+    // The two numbers that the documents give: what is different, and where.
+    pub fn numbers(self) -> [u32; 2]
+        ensures { result ≡ difference_told self }
+    {
+        match self {
+            Comparison::Moves => [0, 0],
+            Comparison::Size(Size::Inputs) => [1, 0],
+            Comparison::Size(Size::Nodes) => [1, 1],
+            Comparison::Size(Size::Outputs) => [1, 2],
+            Comparison::NodeIndex(place) => [2, place],
+            Comparison::OutputIndex(place) => [3, place],
+            Comparison::NodeBit(place) => [4, place],
+            Comparison::OutputBit(place) => [5, place],
+        }
+    }
 }
 
 // The tables are only read, and the bytes are filled where moves lead from the first graph to the second.
-pub fn compare(first: &Lent, second: &Lent, moves: &mut [u8]) -> Comparison
+pub fn compare(first: &Lent, second: &Lent, moves: &mut [u8]) -> Result<Comparison, Refusal>
     ensures { let g = lent_graph first.now in
         let h = lent_graph second.now in
         compared (comparison_answer result) moves.new ≡ compare_call g first.now.locks.now h second.now.locks.now moves.old }
 {
-    let number = faults::compare_number(first, second, moves.len());
-    if number != 0 {
-        return Comparison::Refused(refused_by(number));
+    faults::check_compare(first, second, moves.len())?;
+    if let Some(size) = indices::size_apart(first, second) {
+        return Ok(Comparison::Size(size));
     }
-    let size = indices::size_apart(
-        first.inputs,
-        first.nodes,
-        first.outputs,
-        second.inputs,
-        second.nodes,
-        second.outputs,
-    );
-    if size < 3 {
-        return Comparison::Told(1, size);
-    }
-    explaining::compare_words(first, &second.node_table, &second.output_table, moves)
+    Ok(explaining::compare_words(first, second, moves))
 }

@@ -13,8 +13,8 @@ ghost use Rattle.compare.specs.Compare.{passing};
 ghost use Rattle.compare.specs.Telling.{apart, own_turn, told, fits, unfit};
 ghost use Rattle.graph.specs.Tables.{lent_table};
 
-use graph::table;
 use graph::table::Table;
+use graph::{Lent, table};
 use many::making;
 use moves::rows;
 
@@ -30,24 +30,13 @@ fn own_turn(table: &Table, second_bits: &[u64], seen: &[u64], j: usize) -> u32
 }
 
 // x for an XOR, else y. What stands below goes through it, so that nothing jumps by the kind, which a processor could not foresee.
-fn either(xor: bool, x: u32, y: u32) -> u32
+fn either<T: Copy>(xor: bool, x: T, y: T) -> T
     ensures { result ≡ cond xor x y }
 {
     if xor {
         return x;
     }
     y
-}
-
-// The place of the third word of a node whose words are from place `at` on, or of the first of an XOR.
-fn third_place(xor: bool, at: usize) -> usize
-    requires { at ≤ 1000000 }
-    ensures { result ≡ cond xor at (at + 2) }
-{
-    if xor {
-        return at;
-    }
-    at + 2
 }
 
 // Whether a node's readers are turned, where words 1 and 2 are to be turned x and y times.
@@ -58,84 +47,69 @@ fn readers_turn(xor: bool, x: u32, y: u32) -> u32
     (x + either(xor, y, 0)) % 2
 }
 
-// The first word that no move of the kind turns so, 1 or 2; 0 where there is none.
-fn unfit_word(xor: bool, x: u32, y: u32, z: u32) -> u32
+// The first word that no move of the kind turns so: 1 or 2.
+fn unfit_word(xor: bool, x: u32, y: u32, z: u32) -> Option<usize>
     ensures { result ≡ unfit xor x y z }
 {
     if x != either(xor, x, y) {
-        return 1;
+        return Some(1);
     }
     if x != either(xor, x, z) {
-        return 2;
+        return Some(2);
     }
-    0
+    None
 }
 
 // The same of node v; and it is noted whether the node's readers are turned.
-fn tell_node(
-    inputs: u32,
-    nodes: u32,
-    node_table: &Table,
-    second_node_bits: &[u64],
-    seen: &mut [u64],
-    v: u32,
-) -> u32
-    requires { let l = lent_table node_table.now in
-        Admitted (bare inputs nodes l) × (v < nodes) × (3 * nodes ≤ 64 * length second_node_bits.now) × (length seen.old ≡ 1627) }
-    ensures { let l = lent_table node_table.now in
-        let x = is_xor (bare inputs nodes l) v in
-        let t : ℕ → ℕ = λ k. own_turn seen.old l second_node_bits.now (3 * v + k) in
-        (result ≡ unfit x (t 0) (t 1) (t 2)) × ((w : ℕ) → bit_at seen.new w ≡ (bit_at seen.old w + only (inputs + 1 + v) (flag x (tells x (t 0) (t 1)) 3) w) % 2) }
+fn tell_node(first: &Lent, second_bits: &[u64], seen: &mut [u64], v: u32) -> Option<usize>
+    requires { let l = lent_table first.now.node_table in
+        Admitted (bare first.now.inputs first.now.nodes l) × (v < first.now.nodes) × (3 * first.now.nodes ≤ 64 * length second_bits.now) × (length seen.old ≡ 1627) }
+    ensures { let l = lent_table first.now.node_table in
+        let x = is_xor (bare first.now.inputs first.now.nodes l) v in
+        let t : ℕ → ℕ = λ k. own_turn seen.old l second_bits.now (3 * v + k) in
+        (result ≡ unfit x (t 0) (t 1) (t 2)) × ((w : ℕ) → bit_at seen.new w ≡ (bit_at seen.old w + only (first.now.inputs + 1 + v) (flag x (tells x (t 0) (t 1)) 3) w) % 2) }
 {
     let at = 3 * v as usize;
-    let xor = rows::is_xor(node_table, v as usize);
-    let x = own_turn(node_table, second_node_bits, seen, at);
-    let y = own_turn(node_table, second_node_bits, seen, at + 1);
-    let third = third_place(xor, at);
-    let z = own_turn(node_table, second_node_bits, seen, third);
-    making::note(seen, (inputs + 1 + v) as usize, readers_turn(xor, x, y));
+    let xor = rows::is_xor(&first.node_table, v as usize);
+    let x = own_turn(&first.node_table, second_bits, seen, at);
+    let y = own_turn(&first.node_table, second_bits, seen, at + 1);
+    let third = either(xor, at, at + 2);
+    let z = own_turn(&first.node_table, second_bits, seen, third);
+    making::note(
+        seen,
+        (first.inputs + 1 + v) as usize,
+        readers_turn(xor, x, y),
+    );
     unfit_word(xor, x, y, z)
 }
 
 // How many words of the nodes are turned as they are to be by the moves that are told, from the front on.
-pub fn tell_nodes(
-    inputs: u32,
-    nodes: u32,
-    node_table: &Table,
-    second_node_bits: &[u64],
-    seen: &mut [u64],
-) -> usize
-    requires { let g = bare inputs nodes (lent_table node_table.now) in
-        Admitted g × (3 * nodes ≤ 64 * length second_node_bits.now) × ((d : ℕ → ℕ) → Noted g d seen.old (inputs + 1)) }
-    ensures { let l = lent_table node_table.now in
-        let g = bare inputs nodes l in
-        let w = apart l second_node_bits.now in
-        (result ≡ passing (3 * nodes) (fits g w (told g w))) × (result ≡ 3 * nodes → Noted g (told g w) seen.new (inputs + 1 + nodes)) }
+pub fn tell_nodes(first: &Lent, second_bits: &[u64], seen: &mut [u64]) -> usize
+    requires { let g = bare first.now.inputs first.now.nodes (lent_table first.now.node_table) in
+        Admitted g × (3 * first.now.nodes ≤ 64 * length second_bits.now) × ((d : ℕ → ℕ) → Noted g d seen.old (first.now.inputs + 1)) }
+    ensures { let l = lent_table first.now.node_table in
+        let g = bare first.now.inputs first.now.nodes l in
+        let w = apart l second_bits.now in
+        (result ≡ passing (3 * first.now.nodes) (fits g w (told g w))) × (result ≡ 3 * first.now.nodes → Noted g (told g w) seen.new (first.now.inputs + 1 + first.now.nodes)) }
 {
-    for v in 0..nodes {
-        let word = tell_node(inputs, nodes, node_table, second_node_bits, seen, v);
-        if word != 0 {
-            return 3 * v as usize + word as usize;
+    for v in 0..first.nodes {
+        if let Some(word) = tell_node(first, second_bits, seen, v) {
+            return 3 * v as usize + word;
         }
     }
-    3 * nodes as usize
+    3 * first.nodes as usize
 }
 
 // The same of the outputs, which no move turns but those of the nodes that they name.
-pub fn tell_outputs(
-    outputs: u32,
-    output_table: &Table,
-    second_output_bits: &[u64],
-    seen: &[u64],
-) -> usize
-    requires { let l = lent_table output_table.now in
-        (outputs ≤ held l) × ((j : ℕ) → j < outputs → index (get_or l j 0) < 104128) × (outputs ≤ 64 * length second_output_bits.now) × (length seen.now ≡ 1627) }
-    ensures { let l = lent_table output_table.now in
-        result ≡ passing outputs (λ j. eqb (own_turn seen.now l second_output_bits.now j) 0) }
+pub fn tell_outputs(first: &Lent, second_bits: &[u64], seen: &[u64]) -> usize
+    requires { let l = lent_table first.now.output_table in
+        (first.now.outputs ≤ held l) × ((j : ℕ) → j < first.now.outputs → index (get_or l j 0) < 104128) × (first.now.outputs ≤ 64 * length second_bits.now) × (length seen.now ≡ 1627) }
+    ensures { let l = lent_table first.now.output_table in
+        result ≡ passing first.now.outputs (λ j. eqb (own_turn seen.now l second_bits.now j) 0) }
 {
-    let end = outputs as usize;
+    let end = first.outputs as usize;
     for j in 0..end {
-        if own_turn(output_table, second_output_bits, seen, j) != 0 {
+        if own_turn(&first.output_table, second_bits, seen, j) != 0 {
             return j;
         }
     }
@@ -154,26 +128,19 @@ fn move_told(xor: bool, x: u32, y: u32) -> u8
 }
 
 // The moves told, once it is noted of every index whether its readers are turned.
-pub fn fill_moves(
-    inputs: u32,
-    nodes: u32,
-    node_table: &Table,
-    second_node_bits: &[u64],
-    seen: &[u64],
-    moves: &mut [u8],
-)
-    requires { let l = lent_table node_table.now in
-        Admitted (bare inputs nodes l) × (3 * nodes ≤ 64 * length second_node_bits.now) × (length seen.now ≡ 1627) × (nodes ≤ length moves.old) }
-    ensures { let l = lent_table node_table.now in
-        let t : ℕ → ℕ = own_turn seen.now l second_node_bits.now in
+pub fn fill_moves(first: &Lent, second_bits: &[u64], seen: &[u64], moves: &mut [u8])
+    requires { let l = lent_table first.now.node_table in
+        Admitted (bare first.now.inputs first.now.nodes l) × (3 * first.now.nodes ≤ 64 * length second_bits.now) × (length seen.now ≡ 1627) × (first.now.nodes ≤ length moves.old) }
+    ensures { let l = lent_table first.now.node_table in
+        let t : ℕ → ℕ = own_turn seen.now l second_bits.now in
         let bs = moves.old in
-        moves.new ≡ tab (length bs) (λ v. if_less v nodes (tells (is_xor (bare inputs nodes l) v) (t (3 * v)) (t (3 * v + 1))) (get_or bs v 0)) }
+        moves.new ≡ tab (length bs) (λ v. if_less v first.now.nodes (tells (is_xor (bare first.now.inputs first.now.nodes l) v) (t (3 * v)) (t (3 * v + 1))) (get_or bs v 0)) }
 {
-    for v in 0..nodes as usize {
+    for v in 0..first.nodes as usize {
         let at = 3 * v;
-        let x = own_turn(node_table, second_node_bits, seen, at);
-        let y = own_turn(node_table, second_node_bits, seen, at + 1);
-        let xor = rows::is_xor(node_table, v);
+        let x = own_turn(&first.node_table, second_bits, seen, at);
+        let y = own_turn(&first.node_table, second_bits, seen, at + 1);
+        let xor = rows::is_xor(&first.node_table, v);
         moves[v] = move_told(xor, x, y);
     }
 }

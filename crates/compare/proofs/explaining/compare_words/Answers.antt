@@ -20,13 +20,13 @@ abbrev first : Start → Graph
 first s = lent_graph s.args.first.now
 
 abbrev seconds : Start → List ℕ
-seconds s = lent_table s.args.second_node_table.now
+seconds s = lent_table s.args.second.now.node_table
 
 abbrev second-outs : Start → List ℕ
-second-outs s = lent_table s.args.second_output_table.now
+second-outs s = lent_table s.args.second.now.output_table
 
 abbrev second : Start → Graph
-second s = graph_in s.args.first.now.inputs s.args.first.now.nodes s.args.first.now.outputs s.args.second_node_table.now.indices.now s.args.second_node_table.now.bits.now s.args.second_output_table.now.indices.now s.args.second_output_table.now.bits.now
+second s = graph_in s.args.first.now.inputs s.args.first.now.nodes s.args.first.now.outputs s.args.second.now.node_table.indices.now s.args.second.now.node_table.bits.now s.args.second.now.output_table.indices.now s.args.second.now.output_table.bits.now
 
 wired-le : (g h : Graph) → wired_to g h ≤ places g
 unfolding wired_to
@@ -40,8 +40,8 @@ pub explain-requires : goal.explain-requires
 explain-requires c =
     let a = c.args in (
       c.requires.0,
-      omega (arith, c.requires.1.held_nodes, held_literals a.second_node_table.now.indices.now a.second_node_table.now.bits.now),
-      omega (arith, c.requires.1.held_outputs, held_literals a.second_output_table.now.indices.now a.second_output_table.now.bits.now),
+      omega (arith, c.requires.1.held_nodes, held_literals a.second.now.node_table.indices.now a.second.now.node_table.bits.now),
+      omega (arith, c.requires.1.held_outputs, held_literals a.second.now.output_table.indices.now a.second.now.output_table.bits.now),
       c.requires.2,
     )
 
@@ -51,5 +51,5 @@ returns c =
     let w : Alike (first (goal.at.returns c).Start) (seconds (goal.at.returns c).Start) (second-outs (goal.at.returns c).Start)
     = record { admitted = c.requires.0; admitted_second = c.requires.1; wired = omega (arith, c.if-place-first.false, c.wired_to-place.ensures, wired-le (first (goal.at.returns c).Start) (second (goal.at.returns c).Start)) } in
     c.explain.ensures
-    ∙ words_told (first (goal.at.returns c).Start) (seconds (goal.at.returns c).Start) (second-outs (goal.at.returns c).Start) w (apart (first (goal.at.returns c).Start).nodes a.second_node_table.now.bits.now) (apart (first (goal.at.returns c).Start).outputs a.second_output_table.now.bits.now)
-    (lent_sums a.first.now.inputs a.first.now.nodes a.first.now.outputs a.first.now.node_table.indices.now a.first.now.node_table.bits.now a.first.now.output_table.indices.now a.first.now.output_table.bits.now a.second_node_table.now.indices.now a.second_node_table.now.bits.now a.second_output_table.now.indices.now a.second_output_table.now.bits.now w) a.moves.now
+    ∙ words_told (first (goal.at.returns c).Start) (seconds (goal.at.returns c).Start) (second-outs (goal.at.returns c).Start) w (apart (first (goal.at.returns c).Start).nodes a.second.now.node_table.bits.now) (apart (first (goal.at.returns c).Start).outputs a.second.now.output_table.bits.now)
+    (lent_sums a.first.now.inputs a.first.now.nodes a.first.now.outputs a.first.now.node_table.indices.now a.first.now.node_table.bits.now a.first.now.output_table.indices.now a.first.now.output_table.bits.now a.second.now.node_table.indices.now a.second.now.node_table.bits.now a.second.now.output_table.indices.now a.second.now.output_table.bits.now w) a.moves.now

@@ -8,7 +8,6 @@ use lib.ListN.{length, get_or}
 use Rattle.graph.specs.Admission.{Admitted}
 use Rattle.graph.specs.Finite.{if_less}
 use Rattle.graph.specs.Graph.{Graph, node}
-use Rattle.graph.specs.Literals.{literals, graph_in}
 use Rattle.graph.proofs.Cases.{lt_or_le}
 use Rattle.graph.proofs.Finite.{tab_same}
 use Rattle.graph.proofs.Tests.{no_less}
@@ -36,10 +35,10 @@ module _ (k : After-tell_nodes-k) where
   graph = lent_graph k.args.first.now
 
   abbrev words : ℕ → ℕ
-  words = apart table k.args.second_node_bits.now
+  words = apart table k.args.second.now.node_table.bits.now
 
   abbrev outs : ℕ → ℕ
-  outs = apart outputs k.args.second_output_bits.now
+  outs = apart outputs k.args.second.now.output_table.bits.now
 
   alone : Admitted (bare k.args.first.now.inputs k.args.first.now.nodes table)
   alone = bare_admitted k.args.first.now.inputs k.args.first.now.nodes k.args.first.now.outputs table outputs k.requires.0
@@ -64,15 +63,15 @@ out-fit-is : (c : After-tell_outputs-j) →
     let a = c.args in
     let ns = lent_table a.first.now.node_table in
     let os = lent_table a.first.now.output_table in
-    let ws = apart ns a.second_node_bits.now in
+    let ws = apart ns a.second.now.node_table.bits.now in
     let g = bare a.first.now.inputs a.first.now.nodes ns in
     Noted g (told g ws) c.tell_nodes-k.new.seen (a.first.now.inputs + 1 + a.first.now.nodes)
-    → c.tell_outputs-j.result ≡ out_fit (lent_graph a.first.now) ws (apart os a.second_output_bits.now) a.moves.now
+    → c.tell_outputs-j.result ≡ out_fit (lent_graph a.first.now) ws (apart os a.second.now.output_table.bits.now) a.moves.now
 out-fit-is c h =
     let a = c.args in
     let ns = lent_table a.first.now.node_table in
     c.tell_outputs-j.ensures
-    ∙ outs_are a.first.now.inputs a.first.now.nodes a.first.now.outputs ns (lent_table a.first.now.output_table) (apart ns a.second_node_bits.now) a.second_output_bits.now c.tell_nodes-k.new.seen c.requires.0 h
+    ∙ outs_are a.first.now.inputs a.first.now.nodes a.first.now.outputs ns (lent_table a.first.now.output_table) (apart ns a.second.now.node_table.bits.now) a.second.now.output_table.bits.now c.tell_nodes-k.new.seen c.requires.0 h
 
 -- the moves filled are those told
 
@@ -87,37 +86,37 @@ pub tell_nodes-k-requires : goal.tell_nodes-k-requires
 tell_nodes-k-requires c =
     (bare_admitted c.args.first.now.inputs c.args.first.now.nodes c.args.first.now.outputs _ _ c.requires.0, c.requires.1, λ d. noted_none (bare c.args.first.now.inputs c.args.first.now.nodes (lent_table c.args.first.now.node_table)) d)
 
-pub returns-then-k-end : goal.returns-then-k-end
-returns-then-k-end c =
-    let k = (goal.at.returns-then-k-end c).After-tell_nodes-k in
-    stops_at_node (graph k) (words k) (outs k) c.args.moves.now c.tell_nodes-k.result (fit_is k) c.if-k-end.true
+pub returns-then-k-first : goal.returns-then-k-first
+returns-then-k-first c =
+    let k = (goal.at.returns-then-k-first c).After-tell_nodes-k in
+    stops_at_node (graph k) (words k) (outs k) c.args.moves.now c.tell_nodes-k.result (fit_is k) c.if-k-first.true
 
 pub tell_outputs-j-requires : goal.tell_outputs-j-requires
 tell_outputs-j-requires c =
     let k = (goal.at.tell_outputs-j-requires c).After-tell_nodes-k in
     let d = c.requires.0 in
-    (d.held_outputs, λ j h. omega (arith, d.output_below j h, d.few_inputs, d.few_nodes), c.requires.2, (noted k c.if-k-end.false).room)
+    (d.held_outputs, λ j h. omega (arith, d.output_below j h, d.few_inputs, d.few_nodes), c.requires.2, (noted k c.if-k-first.false).room)
 
 pub returns-then-j-first : goal.returns-then-j-first
 returns-then-j-first c =
     let k = (goal.at.returns-then-j-first c).After-tell_nodes-k in
-    stops_at_output (graph k) (words k) (outs k) c.args.moves.now c.tell_outputs-j.result (all_fit k c.if-k-end.false) (out-fit-is (goal.at.returns-then-j-first c).After-tell_outputs-j (noted k c.if-k-end.false)) c.if-j-first.true
+    stops_at_output (graph k) (words k) (outs k) c.args.moves.now c.tell_outputs-j.result (all_fit k c.if-k-first.false) (out-fit-is (goal.at.returns-then-j-first c).After-tell_outputs-j (noted k c.if-k-first.false)) c.if-j-first.true
 
 pub fill_moves-requires : goal.fill_moves-requires
 fill_moves-requires c =
     let k = (goal.at.fill_moves-requires c).After-tell_nodes-k in
-    (alone k, c.requires.1, (noted k c.if-k-end.false).room, c.requires.3)
+    (alone k, c.requires.1, (noted k c.if-k-first.false).room, c.requires.3)
 
 pub returns : goal.returns
 returns c =
     let k = (goal.at.returns c).After-tell_nodes-k in
     let a = c.args in
     let sn = c.tell_nodes-k.new.seen in
-    all_told (graph k) (words k) (outs k) a.moves.now c.fill_moves.new.moves (all_fit k c.if-k-end.false) (omega (arith, c.if-j-first.false, out-fit-is (goal.at.returns c).After-tell_outputs-j (noted k c.if-k-end.false)))
+    all_told (graph k) (words k) (outs k) a.moves.now c.fill_moves.new.moves (all_fit k c.if-k-first.false) (omega (arith, c.if-j-first.false, out-fit-is (goal.at.returns c).After-tell_outputs-j (noted k c.if-k-first.false)))
     (c.fill_moves.ensures
     ∙ tab_same (length a.moves.now) _ _
     (λ v h.
     byte-told a.first.now.nodes v (get_or a.moves.now v 0) (λ u. told (graph k) (words k) (node (graph k) u)) _
     (λ q.
-    moves_are a.first.now.inputs a.first.now.nodes (table k) a.second_node_bits.now (alone k) sn (noted k c.if-k-end.false) v q
+    moves_are a.first.now.inputs a.first.now.nodes (table k) a.second.now.node_table.bits.now (alone k) sn (noted k c.if-k-first.false) v q
     ∙ ap (λ (d : Choice). d (a.first.now.inputs + 1 + v)) (bare_told a.first.now.inputs a.first.now.nodes a.first.now.outputs (table k) (outputs k) (words k)))))

@@ -1,16 +1,21 @@
 -- `size_apart` meets its contract. From the laws on tests.
-use mathlib.Core.Path.{refl}
+use Rattle.std.proofs.Common.{refl}
 use Rattle.graph.proofs.Tests.{equal, unequal}
+use Rattle.compare.specs.Compare.{size_apart}
 use Rattle.compare.proofs.indices.size_apart.Goals as goal
 
-pub returns-then-inputs-second_inputs : goal.returns-then-inputs-second_inputs
-returns-then-inputs-second_inputs c = unequal _ _ _ _ c.if-inputs-second_inputs.true refl
+pub returns-then-first-second : goal.returns-then-first-second
+unfolding size_apart
+returns-then-first-second c = unequal _ _ _ _ c.if-first-second.true refl
 
-pub returns-then-nodes-second_nodes : goal.returns-then-nodes-second_nodes
-returns-then-nodes-second_nodes c = equal _ _ _ _ c.if-inputs-second_inputs.false (unequal _ _ _ _ c.if-nodes-second_nodes.true refl)
+pub returns-then-first-second-2 : goal.returns-then-first-second-2
+unfolding size_apart
+returns-then-first-second-2 c = equal _ _ _ _ c.if-first-second.false (unequal _ _ _ _ c.if-first-second-2.true refl)
 
-pub returns-then-outputs-second_outputs : goal.returns-then-outputs-second_outputs
-returns-then-outputs-second_outputs c = equal _ _ _ _ c.if-inputs-second_inputs.false (equal _ _ _ _ c.if-nodes-second_nodes.false (unequal _ _ _ _ c.if-outputs-second_outputs.true refl))
+pub returns-then-first-second-3 : goal.returns-then-first-second-3
+unfolding size_apart
+returns-then-first-second-3 c = equal _ _ _ _ c.if-first-second.false (equal _ _ _ _ c.if-first-second-2.false (unequal _ _ _ _ c.if-first-second-3.true refl))
 
 pub returns : goal.returns
-returns c = equal _ _ _ _ c.if-inputs-second_inputs.false (equal _ _ _ _ c.if-nodes-second_nodes.false (equal _ _ _ _ c.if-outputs-second_outputs.false refl))
+unfolding size_apart
+returns c = equal _ _ _ _ c.if-first-second.false (equal _ _ _ _ c.if-first-second-2.false (equal _ _ _ _ c.if-first-second-3.false refl))

@@ -51,10 +51,10 @@ module _ (n : ℕ) (f : ℕ → ℕ) (bs₀ bs : List ℕ) (v : ℕ) (i : Filled
 -- the move told of a node
 
 abbrev table : Start → List ℕ
-table s = lent_table s.args.node_table.now
+table s = lent_table s.args.first.now.node_table
 
 abbrev graph : Start → Graph
-graph s = bare s.args.inputs s.args.nodes (table s)
+graph s = bare s.args.first.now.inputs s.args.first.now.nodes (table s)
 
 pub loop-v-init : goal.loop-v-init
 loop-v-init c = record { within = omega arith; same = refl; filled = λ j h. absurd (omega arith); kept = λ j h. refl }
@@ -65,7 +65,7 @@ overflow_mul-at c = omega (arith, c.loop-v-test.true, c.requires.0.few_nodes)
 pub own_turn-x-requires : goal.own_turn-x-requires
 own_turn-x-requires c =
     let a = c.args in
-    let f = first_asks a.inputs a.nodes (table (goal.at.own_turn-x-requires c).Start) c.loop-v.v c.requires.0 c.loop-v-test.true in
+    let f = first_asks a.first.now.inputs a.first.now.nodes (table (goal.at.own_turn-x-requires c).Start) c.loop-v.v c.requires.0 c.loop-v-test.true in
     (f.0, f.1, omega (arith, c.loop-v-test.true, c.requires.1), c.requires.2)
 
 pub overflow_add-at : goal.overflow_add-at
@@ -74,7 +74,7 @@ overflow_add-at c = omega (arith, c.loop-v-test.true, c.requires.0.few_nodes)
 pub own_turn-y-requires : goal.own_turn-y-requires
 own_turn-y-requires c =
     let a = c.args in
-    let f = second_asks a.inputs a.nodes (table (goal.at.own_turn-y-requires c).Start) c.loop-v.v c.requires.0 c.loop-v-test.true in
+    let f = second_asks a.first.now.inputs a.first.now.nodes (table (goal.at.own_turn-y-requires c).Start) c.loop-v.v c.requires.0 c.loop-v-test.true in
     (f.0, f.1, omega (arith, c.loop-v-test.true, c.requires.1), c.requires.2)
 
 pub is_xor-xor-requires : goal.is_xor-xor-requires
@@ -86,23 +86,17 @@ move_told-requires c = (c.own_turn-x.ensures.1, c.own_turn-y.ensures.1)
 pub bounds-moves-v : goal.bounds-moves-v
 bounds-moves-v c = omega (arith, c.loop-v.invariant.same, c.loop-v-test.true, c.requires.3)
 
-pub overflow_add-v : goal.overflow_add-v
-overflow_add-v c = omega (arith, c.loop-v-test.true, c.requires.0.few_nodes)
-
-pub loop-v-smaller : goal.loop-v-smaller
-loop-v-smaller c = omega (arith, c.loop-v-test.true)
-
 pub loop-v-preserved : goal.loop-v-preserved
 loop-v-preserved c =
     let l = c.loop-v in
     let a = c.args in
-    one_more a.nodes (move a.inputs a.nodes a.seen.now (table (goal.at.loop-v-preserved c).Start) a.second_node_bits.now) a.moves.now l.moves l.v l.invariant c.move_told.result c.loop-v-test.true c.requires.3
+    one_more a.first.now.nodes (move a.first.now.inputs a.first.now.nodes a.seen.now (table (goal.at.loop-v-preserved c).Start) a.second_bits.now) a.moves.now l.moves l.v l.invariant c.move_told.result c.loop-v-test.true c.requires.3
     (c.move_told.ensures
-    ∙ ap (λ (b : Bool). tells b c.own_turn-x.result c.own_turn-y.result) (c.is_xor-xor.ensures a.inputs a.nodes 0 [])
+    ∙ ap (λ (b : Bool). tells b c.own_turn-x.result c.own_turn-y.result) (c.is_xor-xor.ensures a.first.now.inputs a.first.now.nodes 0 [])
     ∙ ap₂ (tells (is_xor (graph (goal.at.loop-v-preserved c).Start) l.v)) c.own_turn-x.ensures.0 c.own_turn-y.ensures.0)
 
 pub shape_of-moves : goal.shape_of-moves
 shape_of-moves c = c.loop-v.invariant.same
 
 pub returns : goal.returns
-returns c = let a = c.args in all-filled a.nodes _ a.moves.now c.loop-v.moves c.loop-v.v c.loop-v.invariant (omega (arith, c.loop-v-test.false))
+returns c = let a = c.args in all-filled a.first.now.nodes _ a.moves.now c.loop-v.moves c.loop-v.v c.loop-v.invariant (omega (arith, c.loop-v-test.false))

@@ -1,10 +1,9 @@
 -- `fill_moves` meets its contract: the bytes of the nodes passed hold the moves told. From the laws on `set`.
 use mathlib.Core.Path.{◌≡◌}
 use mathlib.Core.List.{List}
-use Prim.Native.Nat.{ℕ, ◌+◌, ◌-◌, ◌*◌, ◌≤◌, ◌<◌}
+use Prim.Native.Nat.{ℕ, ◌+◌, ◌*◌, ◌≤◌, ◌<◌}
 use lib.ListN.{length, get_or}
 use Rattle.graph.specs.Graph.{is_xor}
-use Rattle.graph.specs.Literals.{literals}
 use Rattle.many.specs.Making.{bare}
 use Rattle.order.specs.Inner.{tells}
 use Rattle.compare.specs.Telling.{own_turn}
@@ -22,4 +21,4 @@ move i n sn l ds v = tells (is_xor (bare i n l) v) (own_turn sn l ds (3 * v)) (o
 
 abbrev pub invariant-loop-v : goal.invariant-loop-v
 invariant-loop-v l =
-    Filled l.nodes (move l.inputs l.nodes l.seen (lent_table l.node_table) l.second_node_bits) l.initial.moves l.moves l.v
+    Filled l.first.nodes (move l.first.inputs l.first.nodes l.seen (lent_table l.first.node_table) l.second_bits) l.initial.moves l.moves l.v

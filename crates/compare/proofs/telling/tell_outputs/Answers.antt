@@ -30,18 +30,18 @@ pub returns-then-own_turn-ne0 : goal.returns-then-own_turn-ne0
 returns-then-own_turn-ne0 c =
     let l = c.loop-j in
     let a = c.args in
-    passing_is a.outputs (λ j. eqb (own_turn a.seen.now (lent_table a.output_table.now) a.second_output_bits.now j) 0) l.j l.invariant.0 l.invariant.1
+    passing_is a.first.now.outputs (λ j. eqb (own_turn a.seen.now (lent_table a.first.now.output_table) a.second_bits.now j) 0) l.j l.invariant.0 l.invariant.1
     (λ h. ne_eqb _ _ (λ z. c.if-own_turn-ne0.true (c.own_turn.ensures.0 ∙ z)))
 
 pub loop-j-preserved : goal.loop-j-preserved
 loop-j-preserved c =
     let l = c.loop-j in
     let a = c.args in
-    (omega (arith, c.loop-j-test.true), none-next a.seen.now (lent_table a.output_table.now) a.second_output_bits.now l.j l.invariant.1 (sym c.own_turn.ensures.0 ∙ c.if-own_turn-ne0.false))
+    (omega (arith, c.loop-j-test.true), none-next a.seen.now (lent_table a.first.now.output_table) a.second_bits.now l.j l.invariant.1 (sym c.own_turn.ensures.0 ∙ c.if-own_turn-ne0.false))
 
 pub returns : goal.returns
 returns c =
     let l = c.loop-j in
     let a = c.args in
-    let e : l.j ≡ a.outputs = omega (arith, c.loop-j-test.false, l.invariant.0) in
-    passing_is a.outputs (λ j. eqb (own_turn a.seen.now (lent_table a.output_table.now) a.second_output_bits.now j) 0) a.outputs (omega arith) (rw e at l.invariant.1) (λ h. absurd (omega arith))
+    let e : l.j ≡ a.first.now.outputs = omega (arith, c.loop-j-test.false, l.invariant.0) in
+    passing_is a.first.now.outputs (λ j. eqb (own_turn a.seen.now (lent_table a.first.now.output_table) a.second_bits.now j) 0) a.first.now.outputs (omega arith) (rw e at l.invariant.1) (λ h. absurd (omega arith))
