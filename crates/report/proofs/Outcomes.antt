@@ -7,24 +7,23 @@ use native.Mathlib.Omega.{arith}
 use lib.IntN.{ℤ}
 use lib.ListN.{length, drop}
 use lib.Seq.{sets}
-use Rattle.graph.specs.Graph.{Graph, graph_of}
+use Rattle.graph.specs.Graph.{Graph}
 use Rattle.graph.specs.Admission.{Admitted}
 use Rattle.graph.specs.declared.Refusal.{Refusal}
 use Rattle.graph.specs.Literals.{held}
-use Rattle.graph.specs.Answer.{accepted, refused, gained, number_of, Outcome, outcome, guarded, LockedOutcome, locked_outcome}
+use Rattle.graph.specs.Answer.{Answer, accepted, refused, gained, number_of, Outcome, outcome, guarded, LockedOutcome, locked_outcome}
 use Rattle.graph.proofs.Tests.{equal, unequal}
 use Rattle.graph.proofs.Answers.{number_some, accepted_outcome}
 use Rattle.tagged_file.proofs.Stores.{front}
-use Rattle.tagged_file.specs.Load.{loaded_answer, loaded_graph, blank}
-use Rattle.tagged_file.specs.declared.Loaded.{Loaded}
-use Rattle.tagged_file.specs.declared.Loaded.TheVariants as loaded
 use Rattle.rounds.specs.Settle.{settle, settle_number, settle_call}
 use Rattle.rounds.proofs.Rounds.{settle_ended}
 use Rattle.settling.proofs.Answering.{passed}
-use Rattle.settling.specs.Settle.{settled_answer}
-use Rattle.settling.specs.declared.Settled.{Settled}
-use Rattle.settling.specs.declared.Settled.TheVariants as answer
-use Rattle.report.specs.Report.{settled_text, text_of, settled_with, then_settle, settled_file, report_number, ReportOutcome, report_outcome, printed, report_call, refused_text, line1}
+use Rattle.std.specs.Prelude.{Result}
+use Rattle.std.specs.Result.{IsErrAnd}
+use Rattle.std.proofs.lemmas.Result.{err_from_is_err_and}
+use Rattle.report.specs.declared.RoomFault.{RoomFault}
+use Rattle.report.specs.declared.RoomFault.TheVariants.{Scratch, Buffer}
+use Rattle.report.specs.Report.{settled_text, text_of, settled_with, then_settle, settled_file, room_number, reported_answer, report_number, ReportOutcome, report_outcome, printed, report_call, refused_text, line1}
 
 -- a text at the front of the buffer
 printed_is : (o : LockedOutcome) (b b' text : List ℕ) (r : ℕ) → text_of o ≡ text → r ≡ length text → r ≤ length b → b' ≡ sets b 0 text
@@ -79,30 +78,21 @@ settled_admitted g h ls s vs x y e =
     let q : (settle ls g).made.graph ≡ h = ap (λ (o : Outcome). o.graph) (accepted_outcome (settle_number g ls s) g _ z) ∙ sym (ap (λ (o : LockedOutcome). o.graph) e) in
     rw q at (settle_ended ls g p.0).keeps.stays.admitted
 
--- the answers of both calls, by their cases
-pub settled_rounds : (q : Settled) (n before after : ℕ) (x y : ℤ) (g : Graph) (ls : List ℕ) (o : Outcome) → q ≡ answer.Rounds n before after x y
-    → outcome (settled_answer q) g ≡ o → locked_outcome (gained (n ∷ before ∷ after ∷ []) x y) g ls ≡ locked_outcome o.answer o.graph ls
-settled_rounds q n before after x y g ls o e h =
-    ap (λ (z : Settled). locked_outcome (settled_answer z) g ls) (sym e) ∙ ap (λ (z : Outcome). locked_outcome z.answer z.graph ls) h
+-- what settling leaves, with the locks beside it
+pub with_locks : (a : Answer) (g : Graph) (ls : List ℕ) (o : Outcome) → outcome a g ≡ o → locked_outcome a g ls ≡ locked_outcome o.answer o.graph ls
+with_locks a g ls o h = ap (λ (z : Outcome). locked_outcome z.answer z.graph ls) h
 
-pub settled_refused : (q : Settled) (r : Refusal) (g : Graph) (ls : List ℕ) (o : Outcome) → q ≡ answer.Refused r → outcome (settled_answer q) g ≡ o
-    → locked_outcome (refused (number_of r)) g ls ≡ locked_outcome o.answer o.graph ls
-settled_refused q r g ls o e h =
-    ap (λ (z : Settled). locked_outcome (settled_answer z) g ls) (sym e) ∙ ap (λ (z : Outcome). locked_outcome z.answer z.graph ls) h
+-- a report that the lengths refuse, by a number that is not 0
+pub some_room : (x : RoomFault) → room_number x ≡ 0 → ⊥
+some_room Scratch e = omega arith
+some_room Buffer e = omega arith
 
-pub loaded_graph_lem : (q : Loaded) (i n m : ℕ) (ns os ls : List ℕ) (o : LockedOutcome) → q ≡ loaded.Graph i n m
-    → locked_outcome (loaded_answer q) (loaded_graph q ns os) ls ≡ o → locked_outcome (accepted (i ∷ n ∷ m ∷ [])) (graph_of i n m ns os) ls ≡ o
-loaded_graph_lem q i n m ns os ls o e h = ap (λ (x : Loaded). locked_outcome (loaded_answer x) (loaded_graph x ns os) ls) (sym e) ∙ h
-
-pub loaded_refused : (q : Loaded) (r : Refusal) (ns os ls : List ℕ) (o : LockedOutcome) → q ≡ loaded.Refused r
-    → locked_outcome (loaded_answer q) (loaded_graph q ns os) ls ≡ o → locked_outcome (refused (number_of r)) (blank ns os) ls ≡ o
-loaded_refused q r ns os ls o e h = ap (λ (x : Loaded). locked_outcome (loaded_answer x) (loaded_graph x ns os) ls) (sym e) ∙ h
-
--- what the report call answers, by its number
-pub report_refused : (k : ℕ) (file ns os ls : List ℕ) (s : ℕ) (b : List ℕ) → k ≡ report_number (held ns) (held os) s (length b) → (k ≡ 0 → ⊥)
-    → report_outcome (refused k) ns os ls b ≡ report_call file ns os ls s b
+pub ends_report : (q : Result ℕ RoomFault) (x : RoomFault) (file ns os ls : List ℕ) (s : ℕ) (b : List ℕ) → IsErrAnd q (λ y. y ≡ x)
+    → room_number x ≡ report_number (held ns) (held os) s (length b) → report_outcome (reported_answer q) ns os ls b ≡ report_call file ns os ls s b
 unfolding report_call
-report_refused k file ns os ls s b e n = unequal _ 0 _ _ (λ z. n (e ∙ z)) (ap (λ (i : ℕ). report_outcome (refused i) ns os ls b) e)
+ends_report q x file ns os ls s b e n =
+    let p = err_from_is_err_and q e in
+    rw (p.1, p.2) (unequal _ 0 _ _ (λ z. some_room x (n ∙ z)) (ap (λ (i : ℕ). report_outcome (refused i) ns os ls b) n))
 
 pub report_made : (r : ReportOutcome) (file ns os ls : List ℕ) (s : ℕ) (b : List ℕ) → report_number (held ns) (held os) s (length b) ≡ 0
     → r ≡ printed (settled_file file ns os ls s) b → r ≡ report_call file ns os ls s b

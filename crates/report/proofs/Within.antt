@@ -9,9 +9,7 @@ use Rattle.graph.specs.Literals.{held}
 use Rattle.graph.specs.Answer.{accepted, LockedOutcome}
 use Rattle.graph.proofs.Cases.{eq_or_ne}
 use Rattle.graph.proofs.Tests.{equal, unequal}
-use Rattle.report.specs.declared.Reported.{Reported}
-use Rattle.report.specs.declared.Reported.TheVariants as reported
-use Rattle.report.specs.Report.{text_of, settled_file, report_number, reported_answer, ReportOutcome, report_outcome, printed, report_call}
+use Rattle.report.specs.Report.{text_of, settled_file, report_number, ReportOutcome, report_outcome, printed, report_call}
 
 text_within : (n : ℕ) (ns os ls b b' : List ℕ) (o : LockedOutcome) → report_outcome (accepted (n ∷ [])) ns os ls b' ≡ printed o b → n ≤ length b'
 unfolding printed
@@ -20,12 +18,10 @@ text_within n ns os ls b b' o e =
     let l : length b' ≡ length (text_of o ++ drop (length (text_of o)) b) = ap (λ (r : ReportOutcome). length r.buffer) e in
     omega (arith, length-append (text_of o) (drop (length (text_of o)) b))
 
-pub within : (q : Reported) (n : ℕ) (file ns os ls b ns' os' ls' b' : List ℕ) (s : ℕ) → q ≡ reported.Text n
-    → report_outcome (reported_answer q) ns' os' ls' b' ≡ report_call file ns os ls s b → n ≤ length b'
+pub within : (n : ℕ) (file ns os ls b ns' os' ls' b' : List ℕ) (s : ℕ) → report_outcome (accepted (n ∷ [])) ns' os' ls' b' ≡ report_call file ns os ls s b → n ≤ length b'
 unfolding report_call
-within q n file ns os ls b ns' os' ls' b' s e h =
+within n file ns os ls b ns' os' ls' b' s t =
     let k : ℕ = report_number (held ns) (held os) s (length b) in
-    let t : report_outcome (accepted (n ∷ [])) ns' os' ls' b' ≡ report_call file ns os ls s b = ap (λ (x : Reported). report_outcome (reported_answer x) ns' os' ls' b') (sym e) ∙ h in
     ⊎_elim
     (λ (z : k ≡ 0). text_within n ns' os' ls' b b' (settled_file file ns os ls s) (t ∙ sym (equal k 0 _ _ z refl)))
     (λ (z : k ≢ 0). absurd (z (sym (ap (λ (r : ReportOutcome). r.answer.number) (t ∙ sym (unequal k 0 _ _ z refl))))))

@@ -1,11 +1,10 @@
 -- The report of document 01: its lines, and what the call that makes it answers and leaves.
-use Rattle.std.specs.Prelude.{◌+◌, ◌*◌, ◌/◌, ◌∷◌, ◌++◌}
+use Rattle.std.specs.Prelude.{◌+◌, ◌*◌, ◌/◌, ◌∷◌, ◌++◌, Result, Ok, Err}
 use Rattle.graph.specs.All.{ℕ, List, [], length, get_or, drop, if_less, if_equal, Graph, mark, held, Answer, accepted, refused, LockedOutcome, locked_outcome, decimal}
 use Rattle.tagged_file.specs.All.{in_order, load_call}
 use Rattle.rounds.specs.All.{settle_call}
-use Rattle.report.specs.{declared.RoomFault.RoomFault, declared.Reported.Reported}
+use Rattle.report.specs.declared.RoomFault.{RoomFault}
 use Rattle.report.specs.declared.RoomFault.TheVariants.{Scratch, Buffer}
-use Rattle.report.specs.declared.Reported.TheVariants as reported
 
 -- "inputs "
 unfoldable pub inputs_text : List ℕ
@@ -132,9 +131,14 @@ buffer_number node_room output_room room = if_less room (128 + 18 * (node_room +
 unfoldable pub report_number : ℕ → ℕ → ℕ → ℕ → ℕ
 report_number node_room output_room s room = if_less s (8 * (node_room / 3)) 103 (buffer_number node_room output_room room)
 
-abbrev pub reported_answer : Reported → Answer
-reported_answer (reported.Text n) = accepted (n ∷ [])
-reported_answer (reported.NoRoom f) = refused (room_number f)
+-- the number of what refuses a report, 0 where nothing does
+abbrev pub fault_number : {T : Type 0} → Result T RoomFault → ℕ
+fault_number (Ok x) = 0
+fault_number (Err f) = room_number f
+
+abbrev pub reported_answer : Result ℕ RoomFault → Answer
+reported_answer (Ok n) = accepted (n ∷ [])
+reported_answer (Err f) = refused (room_number f)
 
 -- an answer with the tables, the locks and the buffer as the call leaves them
 pub record ReportOutcome : Type 0 where

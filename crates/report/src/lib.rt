@@ -21,15 +21,9 @@ pub enum RoomFault {
     Buffer,
 }
 
-// What reporting answers: how many bytes the text has.
-#[derive(Clone, Copy)]
-pub enum Reported {
-    Text(usize),
-    NoRoom(RoomFault),
-}
-
 // Loads the file, settles its graph and puts the report into the buffer; a refused file's report is one line. The lengths
-// decide first, so that a report that is begun is ended.
+// decide first, so that a report that is begun is ended. Answers how many bytes the
+// text has.
 pub fn report(
     file: &[u8],
     node_table: &mut [u32],
@@ -39,7 +33,7 @@ pub fn report(
     locks: &mut [u8],
     scratch: &mut [u32],
     buffer: &mut [u8],
-) -> Reported
+) -> Result<usize, RoomFault>
     ensures buffer_value { let ns = literals node_table.old node_bits.old in
         let os = literals output_table.old output_bits.old in
         report_outcome (reported_answer result) (literals node_table.new node_bits.new) (literals output_table.new output_bits.new) locks.new buffer.new ≡ report_call file.now ns os locks.old (length scratch.old) buffer.old }
@@ -48,15 +42,13 @@ pub fn report(
         let os = literals output_table.old output_bits.old in
         ScratchKept (load_call file.now ns os locks.old).answer scratch.old scratch.new }
 {
-    let nodes = room_of(node_table, node_bits);
-    let outputs = room_of(output_table, output_bits);
-    if scratch.len() / 8 < nodes / 3 {
-        return Reported::NoRoom(RoomFault::Scratch);
-    }
-    if faults::buffer_number(nodes, outputs, buffer.len()) != 0 {
-        return Reported::NoRoom(RoomFault::Buffer);
-    }
-    Reported::Text(whole::put_report(
+    faults::check_room(
+        room_of(node_table, node_bits),
+        room_of(output_table, output_bits),
+        scratch.len(),
+        buffer.len(),
+    )?;
+    Ok(whole::put_report(
         file,
         node_table,
         node_bits,

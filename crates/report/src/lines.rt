@@ -13,6 +13,7 @@ use crate::text;
 use graph::literal::MARK;
 use graph::table::Table;
 use graph::{Lent, Refusal};
+use settling::Settled;
 
 pub fn put_node(buffer: &mut [u8], at: usize, index: u32, x: u32, y: u32, z: u32) -> usize
     requires { at + 54 ≤ length buffer.old }
@@ -84,56 +85,41 @@ pub fn put_outputs(buffer: &mut [u8], start: usize, outputs: u32, output_table: 
 }
 
 // The first two lines.
-pub fn put_head(
-    buffer: &mut [u8],
-    inputs: u32,
-    nodes: u32,
-    outputs: u32,
-    rounds: u32,
-    before: u32,
-    after: u32,
-) -> usize
+pub fn put_head(buffer: &mut [u8], lent: &Lent, settled: Settled) -> usize
     requires { 128 ≤ length buffer.old }
-    ensures { (result ≡ length (sizes_line inputs nodes outputs ++ counts_line before after rounds)) × (result ≤ 107) × (buffer.new ≡ sets buffer.old 0 (sizes_line inputs nodes outputs ++ counts_line before after rounds)) }
+    ensures { let head = sizes_line lent.now.inputs lent.now.nodes lent.now.outputs ++ counts_line settled.before settled.after settled.rounds in
+        (result ≡ length head) × (result ≤ 107) × (buffer.new ≡ sets buffer.old 0 head) }
 {
     let end = text::put_line3(
         buffer,
         0,
         b"inputs ",
-        inputs,
+        lent.inputs,
         b" nodes ",
-        nodes,
+        lent.nodes,
         b" outputs ",
-        outputs,
+        lent.outputs,
     );
     text::put_line3(
         buffer,
         end,
         b"before ",
-        before,
+        settled.before,
         b" after ",
-        after,
+        settled.after,
         b" rounds ",
-        rounds,
+        settled.rounds,
     )
 }
 
 // The whole text of a settled graph.
-pub fn put_settled(lent: &Lent, rounds: u32, before: u32, after: u32, buffer: &mut [u8]) -> usize
+pub fn put_settled(lent: &Lent, settled: Settled, buffer: &mut [u8]) -> usize
     requires admitted { Admitted (lent_graph lent.now) }
     requires output_bits_in_bounds { 128 + 18 * (held (lent_table lent.now.node_table) + held (lent_table lent.now.output_table)) ≤ length buffer.old }
-    ensures { let g = lent_graph lent.now in
-        (result ≡ length (settled_text rounds before after g)) × (result ≤ length buffer.old) × (buffer.new ≡ sets buffer.old 0 (settled_text rounds before after g)) }
+    ensures { let whole = settled_text settled.rounds settled.before settled.after (lent_graph lent.now) in
+        (result ≡ length whole) × (result ≤ length buffer.old) × (buffer.new ≡ sets buffer.old 0 whole) }
 {
-    let first = put_head(
-        buffer,
-        lent.inputs,
-        lent.nodes,
-        lent.outputs,
-        rounds,
-        before,
-        after,
-    );
+    let first = put_head(buffer, lent, settled);
     let middle = put_nodes(buffer, first, lent.inputs, lent.nodes, &lent.node_table);
     put_outputs(buffer, middle, lent.outputs, &lent.output_table)
 }
@@ -143,5 +129,5 @@ pub fn put_refused(buffer: &mut [u8], refusal: Refusal) -> usize
     requires { 128 ≤ length buffer.old }
     ensures { (result ≡ length (line1 refused_text (number_of refusal))) × (result ≤ length buffer.old) × (buffer.new ≡ sets buffer.old 0 (line1 refused_text (number_of refusal))) }
 {
-    text::put_line1(buffer, 0, b"refused ", graph::faults::number_of(refusal))
+    text::put_line1(buffer, 0, b"refused ", u32::from(refusal))
 }

@@ -37,12 +37,7 @@ pub fn put_settling<'x>(
         locks,
         scratch,
     ) {
-        settling::Settled::Rounds {
-            rounds,
-            before,
-            after,
-            ..
-        } => {
+        Ok(settled) => {
             let lent = Lent {
                 inputs,
                 nodes,
@@ -57,9 +52,9 @@ pub fn put_settling<'x>(
                 },
                 locks,
             };
-            lines::put_settled(&lent, rounds, before, after, buffer)
+            lines::put_settled(&lent, settled, buffer)
         }
-        settling::Settled::Refused(refusal) => lines::put_refused(buffer, refusal),
+        Err(refusal) => lines::put_refused(buffer, refusal),
     }
 }
 
@@ -90,14 +85,10 @@ pub fn put_report(
         output_bits,
         locks,
     ) {
-        tagged_file::Loaded::Graph {
-            inputs,
-            nodes,
-            outputs,
-        } => put_settling(
-            inputs,
-            nodes,
-            outputs,
+        Ok(sizes) => put_settling(
+            sizes.inputs,
+            sizes.nodes,
+            sizes.outputs,
             node_table,
             node_bits,
             output_table,
@@ -106,6 +97,6 @@ pub fn put_report(
             scratch,
             buffer,
         ),
-        tagged_file::Loaded::Refused(refusal) => lines::put_refused(buffer, refusal),
+        Err(refusal) => lines::put_refused(buffer, refusal),
     }
 }

@@ -32,7 +32,7 @@ fn print_report(rt: &impl Print, file: &[u8]) -> io::Result<()> {
     let mut locks = [0u8; 2000];
     let mut scratch = [0u32; 16000];
     let mut buffer = [0u8; 181856];
-    let reported = report::report(
+    let Ok(n) = report::report(
         file,
         &mut node_table,
         &mut node_bits,
@@ -41,8 +41,7 @@ fn print_report(rt: &impl Print, file: &[u8]) -> io::Result<()> {
         &mut locks,
         &mut scratch,
         &mut buffer,
-    );
-    let report::Reported::Text(n) = reported else {
+    ) else {
         return Ok(());
     };
     io::writer(rt).write_all(&buffer[..n])

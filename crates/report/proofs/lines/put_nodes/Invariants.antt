@@ -3,7 +3,6 @@ use mathlib.Core.Path.{◌≡◌}
 use Prim.Native.Nat.{◌+◌, ◌*◌, ◌≤◌}
 use Rattle.tagged_file.proofs.Emitted.{Left}
 use Rattle.report.specs.Report.{node_line_at}
-use Rattle.graph.specs.Literals.{literals}
 use Rattle.report.proofs.lines.put_nodes.Given as goal
 use Rattle.graph.specs.Tables.{lent_table}
 

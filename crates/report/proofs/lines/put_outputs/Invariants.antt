@@ -2,7 +2,6 @@
 use Prim.Native.Nat.{◌+◌, ◌*◌, ◌≤◌}
 use Rattle.tagged_file.proofs.Emitted.{Left}
 use Rattle.report.specs.Report.{output_line_at}
-use Rattle.graph.specs.Literals.{literals}
 use Rattle.report.proofs.lines.put_outputs.Given as goal
 use Rattle.graph.specs.Tables.{lent_table}
 

@@ -28,7 +28,7 @@ pub returns : goal.returns
 unfolding settled_text
 returns c =
     let a = c.args in
-    let h : List ℕ = sizes_line a.lent.now.inputs a.lent.now.nodes a.lent.now.outputs ++ counts_line a.before a.after a.rounds in
+    let h : List ℕ = sizes_line a.lent.now.inputs a.lent.now.nodes a.lent.now.outputs ++ counts_line a.settled.before a.settled.after a.settled.rounds in
     let ns : List ℕ = in_order (node_line_at a.lent.now.inputs (lent_table a.lent.now.node_table)) 0 a.lent.now.nodes in
     let os : List ℕ = in_order (output_line_at (lent_table a.lent.now.output_table)) 0 a.lent.now.outputs in
     let p = c.put_head-first.ensures in

@@ -2,7 +2,7 @@
 use mathlib.Core.Path.{refl, sym, ap, ◌∙◌}
 use Rattle.graph.specs.Answer.{LockedOutcome}
 use Rattle.report.specs.Report.{settled_file, printed}
-use Rattle.report.proofs.Outcomes.{loaded_graph_lem, loaded_refused, loaded_then, refused_then, refused_printed}
+use Rattle.report.proofs.Outcomes.{loaded_then, refused_then, refused_printed}
 use native.Mathlib.Omega.{arith}
 use Rattle.graph.proofs.Literals.{held_literals}
 use Rattle.report.proofs.whole.put_report.Goals as goal
@@ -24,19 +24,18 @@ put_settling-requires c =
       e.auto.output_bits,
     )
 
-pub returns-in-Graph : goal.returns-in-Graph
+pub returns-in-Ok : goal.returns-in-Ok
 unfolding settled_file
-returns-in-Graph c =
-    let a = c.args in
-    let l = loaded_graph_lem _ _ _ _ _ _ _ _ c.in-Graph.is c.load.ensures in record {
-      buffer_after = c.put_settling.ensures ∙ ap (λ (x : LockedOutcome). printed x a.buffer.now) (loaded_then _ _ _ _ _ l);
+returns-in-Ok c =
+    let l = c.in-Ok.ensures in record {
+      buffer_after = c.put_settling.ensures ∙ ap (λ (x : LockedOutcome). printed x c.args.buffer.now) (loaded_then _ _ _ _ _ l);
       fact = λ n. absurd (n (sym (ap (λ (o : LockedOutcome). o.answer.number) l)));
     }
 
-pub returns-in-Refused : goal.returns-in-Refused
+pub returns-in-Err : goal.returns-in-Err
 unfolding settled_file
-returns-in-Refused c =
+returns-in-Err c =
     record {
-      buffer_after = refused_printed _ _ _ _ _ _ c.in-Refused.refusal (refused_then _ c.in-Refused.refusal _ _ _ (loaded_refused _ _ _ _ _ _ c.in-Refused.is c.load.ensures)) c.put_refused.ensures;
+      buffer_after = refused_printed _ _ _ _ _ _ c.in-Err.refusal (refused_then _ c.in-Err.refusal _ _ _ c.in-Err.ensures) c.put_refused.ensures;
       fact = λ n. refl;
     }

@@ -1,7 +1,7 @@
--- `buffer_number` meets its contract: each way out by its tests. From the laws on rooms.
+-- `check_buffer` meets its contract: each way out by its tests. From the laws on rooms.
 use native.Mathlib.Omega.{arith}
 use Rattle.report.proofs.Room.{short, long}
-use Rattle.report.proofs.faults.buffer_number.Goals as goal
+use Rattle.report.proofs.faults.check_buffer.Goals as goal
 
 pub returns-then-room-lt128 : goal.returns-then-room-lt128
 returns-then-room-lt128 c = short _ _ _ (omega arith)
