@@ -4,6 +4,5 @@ use Rattle.class_figures.specs.Call.{figures_answer}
 use Rattle.answers.specs.Told.{told}
 use Rattle.answers.proofs.told.figures_told.Goals as goal
 
-pub returns-in-Told : goal.returns-in-Told
-returns-in-Told c =
-    sym (ap (λ a. told (figures_answer a) c.args.before) c.in-Told.is)
+pub returns-in-Ok : goal.returns-in-Ok
+returns-in-Ok c = sym (ap (λ a. told (figures_answer a) c.args.before) c.in-Ok.is)

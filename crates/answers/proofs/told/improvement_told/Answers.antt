@@ -7,6 +7,6 @@ use Rattle.answers.specs.Told.{told_signed}
 use Rattle.answers.proofs.Same.{two}
 use Rattle.answers.proofs.told.improvement_told.Goals as goal
 
-pub returns-in-Told : goal.returns-in-Told
-returns-in-Told c =
-    two (read_as_lem c.in-Told.fall (search rules)) (read_as_lem c.in-Told.total_before (search rules)) ∙ sym (ap (λ a. told_signed (figures_answer a) c.args.before) c.in-Told.is)
+pub returns-in-Ok : goal.returns-in-Ok
+returns-in-Ok c =
+    two (read_as_lem c.in-Ok.figures.fall (search rules)) (read_as_lem c.in-Ok.figures.total_before (search rules)) ∙ sym (ap (λ a. told_signed (figures_answer a) c.args.before) c.in-Ok.is)

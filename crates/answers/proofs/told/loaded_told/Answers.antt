@@ -4,6 +4,5 @@ use Rattle.tagged_file.specs.Load.{loaded_answer}
 use Rattle.answers.specs.Told.{told}
 use Rattle.answers.proofs.told.loaded_told.Goals as goal
 
-pub returns-in-Graph : goal.returns-in-Graph
-returns-in-Graph c =
-    sym (ap (λ a. told (loaded_answer a) c.args.before) c.in-Graph.is)
+pub returns-in-Ok : goal.returns-in-Ok
+returns-in-Ok c = sym (ap (λ a. told (loaded_answer a) c.args.before) c.in-Ok.is)

@@ -7,6 +7,6 @@ use Rattle.answers.specs.Told.{told_signed}
 use Rattle.answers.proofs.Same.{two}
 use Rattle.answers.proofs.told.saving_told.Goals as goal
 
-pub returns-in-Saved : goal.returns-in-Saved
-returns-in-Saved c =
-    two (read_as_lem c.in-Saved.own (search rules)) (read_as_lem c.in-Saved.others (search rules)) ∙ sym (ap (λ a. told_signed (saving_answer a) c.args.before) c.in-Saved.is)
+pub returns-in-Ok : goal.returns-in-Ok
+returns-in-Ok c =
+    two (read_as_lem c.in-Ok.saving.own (search rules)) (read_as_lem c.in-Ok.saving.others (search rules)) ∙ sym (ap (λ a. told_signed (saving_answer a) c.args.before) c.in-Ok.is)

@@ -7,6 +7,6 @@ use Rattle.answers.specs.Told.{told_signed}
 use Rattle.answers.proofs.Same.{two}
 use Rattle.answers.proofs.told.settled_sums.Goals as goal
 
-pub returns-in-Rounds : goal.returns-in-Rounds
-returns-in-Rounds c =
-    two (read_as_lem c.in-Rounds.own (search rules)) (read_as_lem c.in-Rounds.others (search rules)) ∙ sym (ap (λ a. told_signed (settled_answer a) c.args.before) c.in-Rounds.is)
+pub returns-in-Ok : goal.returns-in-Ok
+returns-in-Ok c =
+    two (read_as_lem c.in-Ok.settled.own (search rules)) (read_as_lem c.in-Ok.settled.others (search rules)) ∙ sym (ap (λ a. told_signed (settled_answer a) c.args.before) c.in-Ok.is)

@@ -4,6 +4,5 @@ use Rattle.settling.specs.Settle.{settled_answer}
 use Rattle.answers.specs.Told.{told}
 use Rattle.answers.proofs.told.settled_told.Goals as goal
 
-pub returns-in-Rounds : goal.returns-in-Rounds
-returns-in-Rounds c =
-    sym (ap (λ a. told (settled_answer a) c.args.before) c.in-Rounds.is)
+pub returns-in-Ok : goal.returns-in-Ok
+returns-in-Ok c = sym (ap (λ a. told (settled_answer a) c.args.before) c.in-Ok.is)

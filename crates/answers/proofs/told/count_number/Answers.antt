@@ -1,7 +1,0 @@
--- `count_number` meets its contract, case by case.
-use mathlib.Core.Path.{sym, ap, ◌∙◌}
-use Rattle.graph.specs.Answer.{count_answer}
-use Rattle.answers.proofs.told.count_number.Goals as goal
-
-pub returns-in-Refused : goal.returns-in-Refused
-returns-in-Refused c = c.number_of.ensures ∙ sym (ap (λ a. (count_answer a).number) c.in-Refused.is)

@@ -1,7 +1,0 @@
--- `evaluated_number` meets its contract, case by case.
-use mathlib.Core.Path.{sym, ap, ◌∙◌}
-use Rattle.evaluation.specs.Evaluation.{evaluated_answer}
-use Rattle.answers.proofs.told.evaluated_number.Goals as goal
-
-pub returns-in-Refused : goal.returns-in-Refused
-returns-in-Refused c = c.number_of.ensures ∙ sym (ap (λ a. (evaluated_answer a).number) c.in-Refused.is)

@@ -1,7 +1,0 @@
--- `found_number` meets its contract, case by case.
-use mathlib.Core.Path.{sym, ap, ◌∙◌}
-use Rattle.hidden.specs.Call.{found_answer}
-use Rattle.answers.proofs.told.found_number.Goals as goal
-
-pub returns-in-Refused : goal.returns-in-Refused
-returns-in-Refused c = c.number_of.ensures ∙ sym (ap (λ a. (found_answer a).number) c.in-Refused.is)

@@ -1,7 +1,0 @@
--- `gain_number` meets its contract, case by case.
-use mathlib.Core.Path.{sym, ap, ◌∙◌}
-use Rattle.moves.specs.Call.{gain_answer}
-use Rattle.answers.proofs.told.gain_number.Goals as goal
-
-pub returns-in-Refused : goal.returns-in-Refused
-returns-in-Refused c = c.number_of.ensures ∙ sym (ap (λ a. (gain_answer a).number) c.in-Refused.is)

@@ -1,7 +1,0 @@
--- `majority_number` meets its contract, case by case.
-use mathlib.Core.Path.{sym, ap, ◌∙◌}
-use Rattle.hidden.specs.Call.{majority_answer}
-use Rattle.answers.proofs.told.majority_number.Goals as goal
-
-pub returns-in-Refused : goal.returns-in-Refused
-returns-in-Refused c = c.number_of.ensures ∙ sym (ap (λ a. (majority_answer a).number) c.in-Refused.is)

@@ -1,7 +1,0 @@
--- `saving_number` meets its contract, case by case.
-use mathlib.Core.Path.{sym, ap, ◌∙◌}
-use Rattle.moves.specs.Call.{saving_answer}
-use Rattle.answers.proofs.told.saving_number.Goals as goal
-
-pub returns-in-Refused : goal.returns-in-Refused
-returns-in-Refused c = c.number_of.ensures ∙ sym (ap (λ a. (saving_answer a).number) c.in-Refused.is)

@@ -1,7 +1,0 @@
--- `settled_number` meets its contract, case by case.
-use mathlib.Core.Path.{sym, ap, ◌∙◌}
-use Rattle.settling.specs.Settle.{settled_answer}
-use Rattle.answers.proofs.told.settled_number.Goals as goal
-
-pub returns-in-Refused : goal.returns-in-Refused
-returns-in-Refused c = c.number_of.ensures ∙ sym (ap (λ a. (settled_answer a).number) c.in-Refused.is)

@@ -1,7 +1,0 @@
--- `written_number` meets its contract, case by case.
-use mathlib.Core.Path.{sym, ap, ◌∙◌}
-use Rattle.tagged_file.specs.Write.{written_answer}
-use Rattle.answers.proofs.told.written_number.Goals as goal
-
-pub returns-in-Refused : goal.returns-in-Refused
-returns-in-Refused c = c.number_of.ensures ∙ sym (ap (λ a. (written_answer a).number) c.in-Refused.is)
