@@ -30,7 +30,7 @@ unfolding settle_number scratch_fault
 passed g ls s e = let b = both _ _ e in (admitted g ls b.0, (off s (8 * g.N) 7 0 b.1).0, locks_admitted g ls b.0)
 
 pub settled_to : (ls : List ℕ) (g : Graph) (sc sc' : List ℕ) (h : Graph) (b : ℕ) (m : RoundsMade) → stands g sc ≡ g → AllRounds ls g sc sc' m
-    → h ≡ stands g sc' → b ≡ C g → SettledTo ls g h (record { rounds = m.rounds; before = b; after = m.count; odd = m.before; later = m.after })
+    → h ≡ stands g sc' → b ≡ C g → SettledTo ls g h (record { rounds = m.rounds; before = b; after = m.tally.count; odd = m.tally.before; later = m.tally.after })
 settled_to ls g sc sc' h b m q r w f =
     let x : (settle ls g).made ≡ (settle ls (stands g sc)).made = ap (λ (y : Graph). (settle ls y).made) (sym q) in
     record {

@@ -65,7 +65,7 @@ module _ (ls : List ℕ) (g : Graph) (sc₀ sc : List ℕ) (rounds c : ℕ) (t :
 
   -- a round that does not lower C is the last
   pub going_last : Ordered g sc₀ → Going ls g sc₀ sc rounds c t → c ≤ t.count
-      → AllRounds ls g sc₀ sc (record { rounds = rounds; count = t.count; before = t.before; after = t.after })
+      → AllRounds ls g sc₀ sc (record { rounds = rounds; tally = t })
   going_last o w l =
       let q = w.done l in
       let r = going_room o w in

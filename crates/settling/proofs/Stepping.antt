@@ -4,7 +4,8 @@ use mathlib.Core.Path.{◌≡◌, refl, sym, ap, ◌∙◌}
 use mathlib.Core.Bool.{Bool, true, false, cond, ◌&&◌}
 use mathlib.Core.List.{List, [], ◌∷◌}
 use mathlib.Core.Logic.{⊎_elim}
-use Prim.Native.Nat.{ℕ, zero, suc, ◌+◌, ◌-◌, ◌≤◌, ◌<◌}
+use Prim.Native.Nat.{ℕ, zero, suc, ◌+◌, ◌-◌, ◌*◌, ◌≤◌, ◌<◌}
+use native.Mathlib.Nat.{mul-le-mul, mul-suc}
 use native.Mathlib.Omega.{arith}
 use native.Mathlib.Numerals.{add-one}
 use lib.Dec.{leb}
@@ -27,7 +28,7 @@ use Rattle.trees.specs.Stepping.{TreeMade, tree_moved}
 use Rattle.state.proofs.Alike.{alike_xor, alike_is_root}
 use Rattle.state.proofs.Stands.{stands_alike}
 use Rattle.rounds.specs.Round.{Progress, each, tree_at, node_at, pair_at, pairs_at}
-use Rattle.settling.specs.Phase.{Added, Phase}
+use Rattle.settling.specs.Phase.{Room, Ready, Added, Phase}
 use Rattle.settling.specs.declared.phases.Tally.{Tally}
 use Rattle.rounds.proofs.Turns.{Goes, node_at_goes, tree_at_root, tree_at_inner, pair_at_word, pair_at_none}
 
@@ -65,6 +66,29 @@ module _ (step : ℕ → Progress → Progress) (g : Graph) (sc : List ℕ) wher
       → Phase (each step (n + 1)) (a + b) g sc t sc₂ t₂
   unfolding each
   each_more n a b sc₁ sc₂ t t₁ t₂ x y = rw (add-one n) (phase_then (each step n) (step n) a b g sc sc₁ sc₂ t t₁ t₂ x y)
+
+  -- one more node's calls, where each node has at most m
+  pub calls_more : (n m : ℕ) (sc₁ sc₂ : List ℕ) (t t₁ t₂ : Tally) → Phase (each step n) (m * n) g sc t sc₁ t₁ → Phase (step n) m g sc₁ t₁ sc₂ t₂
+      → Phase (each step (n + 1)) (m * (n + 1)) g sc t sc₂ t₂
+  calls_more n m sc₁ sc₂ t t₁ t₂ x y =
+      let e : m * (n + 1) ≡ m * n + m = rw (add-one n) (mul-suc m n) in
+      rw e (each_more n (m * n) m sc₁ sc₂ t t₁ t₂ x y)
+
+-- scratch and tally after the calls at v nodes
+pub phase_ready : (made : Progress → Progress) (m v : ℕ) (g : Graph) (sc sc₁ : List ℕ) (t t₁ : Tally) → Phase made (m * v) g sc t sc₁ t₁ → Ordered g sc → Room t 200000000000000000 → m ≤ 3 → v ≤ g.N → Ready g t₁ sc₁
+phase_ready made m v g sc sc₁ t t₁ x o r h l =
+    let b : m * v ≤ 3 * 100000 = mul-le-mul {n₁ = m} {m₁ = v} {n₂ = 3} {m₂ = 100000} h (omega (arith, o.admitted.few_nodes)) in
+    record {
+      ordered = x.ordered;
+      count = x.count;
+      room = record { low = omega (arith, x.few, r.low); low_after = omega (arith, x.few_after, r.low_after) };
+    }
+
+pub first_ready : (g : Graph) (sc : List ℕ) (t : Tally) → Ordered g sc → t.count ≡ C (stands g sc) → Room t 200000000000000000 → Ready g t sc
+first_ready g sc t o e r = record { ordered = o; count = e; room = record { low = omega (arith, r.low); low_after = omega (arith, r.low_after) } }
+
+pub ready_room : (g : Graph) (t : Tally) (sc : List ℕ) → Ready g t sc → Room t 300000000000000000
+ready_room g t sc r = let m = r.room in record { low = omega (arith, m.low); low_after = omega (arith, m.low_after) }
 
 -- a step that makes no call
 idle_phase : (made : Progress → Progress) (g : Graph) (sc : List ℕ) (t : Tally) → Ordered g sc → t.count ≡ C (stands g sc)

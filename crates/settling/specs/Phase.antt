@@ -38,15 +38,26 @@ pub record Phase (made : Progress → Progress) (k : ℕ) (g : Graph) (sc : List
   pub few : t'.before ≤ t.before + k * 608195
   pub few_after : t'.after ≤ t.after + k * 608195
 
+-- scratch and tally of which a call of a phase may be made
+pub record Ready (g : Graph) (t : Tally) (sc : List ℕ) : Type 0 where
+  pub ordered : Ordered g sc
+  pub count : t.count ≡ C (stands g sc)
+  pub room : Room t 250000000000000000
+
+-- the calls of a phase: what those at each node make of a progress, and how many they are at most
+pub record Calls : Type 0 where
+  pub made : ℕ → Progress → Progress
+  pub most : ℕ
+
 -- scratch became what all rounds make of it, with the locks ls
 pub record AllRounds (ls : List ℕ) (g : Graph) (sc sc' : List ℕ) (r : RoundsMade) : Type 0 where
   pub ordered : Ordered g sc'
   pub long : length sc' ≡ length sc
-  pub carried : Carried (settle ls (stands g sc)).made g sc' r.before r.after
+  pub carried : Carried (settle ls (stands g sc)).made g sc' r.tally.before r.tally.after
   pub rounds : (settle ls (stands g sc)).rounds ≡ r.rounds
-  pub count : r.count ≡ C (stands g sc')
-  pub few : r.before ≤ 100000000000000000
-  pub few_after : r.after ≤ 100000000000000000
+  pub count : r.tally.count ≡ C (stands g sc')
+  pub few : r.tally.before ≤ 100000000000000000
+  pub few_after : r.tally.after ≤ 100000000000000000
 
 -- figures from which both sums can be made
 pub record Fair (r : Figures) : Type 0 where

@@ -17,9 +17,7 @@ use graph::table::Table;
 #[derive(Clone, Copy)]
 pub struct RoundsMade {
     pub rounds: u32,
-    pub count: u32,
-    pub before: u64,
-    pub after: u64,
+    pub tally: Tally,
 }
 
 // The rounds made, with C before and after, and the sums of the odd edges outside before and after each call.
@@ -64,12 +62,7 @@ pub fn all_rounds(lent: &Lent, count: u32, scratch: &mut [u32]) -> RoundsMade
         after = tally.count;
         rounds += 1;
     }
-    RoundsMade {
-        rounds,
-        count: tally.count,
-        before: tally.before,
-        after: tally.after,
-    }
+    RoundsMade { rounds, tally }
 }
 
 // Settling an admitted graph: scratch is filled, all rounds are made, and the turns that are still pending are written out.
@@ -120,8 +113,8 @@ pub fn settle_admitted<'x>(
     Figures {
         rounds: made.rounds,
         before,
-        after: made.count,
-        odd: made.before,
-        later: made.after,
+        after: made.tally.count,
+        odd: made.tally.before,
+        later: made.tally.after,
     }
 }

@@ -1,11 +1,12 @@
 // The three phases of a round, over the state that crate state keeps in scratch.
-ghost use Rattle.std.specs.Prelude.{◌≡◌, ◌+◌, ◌*◌, ◌<◌, length};
+ghost use Rattle.std.specs.Prelude.{◌≡◌, ℕ, ◌+◌, ◌*◌, ◌<◌, ◌≤◌, length};
 ghost use Rattle.graph.specs.Admission.{LockBytes};
 ghost use Rattle.graph.specs.Count.{C};
 ghost use Rattle.moves.specs.Call.{word_fault};
 ghost use Rattle.state.specs.State.{stands, Ordered};
 ghost use Rattle.rounds.specs.Round.{each, tree_at, node_at, pair_at, pairs_at};
-ghost use Rattle.settling.specs.Phase.{Room, Added, Phase};
+ghost use Rattle.settling.specs.declared.phases.Tally.{Tally};
+ghost use Rattle.settling.specs.Phase.{Room, Ready, Calls, Added, Phase};
 ghost use Rattle.graph.specs.Tables.{lent_graph};
 
 use graph::Lent;
@@ -34,6 +35,28 @@ pub fn with_step(tally: Tally, step: Step) -> Tally
     }
 }
 
+// The calls at each node by rising index.
+fn at_each<F: Fn(usize, Tally, &mut [u32]) -> Tally>(
+    lent: &Lent,
+    tally: Tally,
+    scratch: &mut [u32],
+    call: F,
+) -> Tally
+    ghost calls: { Calls }
+    requires ready { let g = lent_graph lent.now in
+        Ordered g scratch.old × (tally.count ≡ C (stands g scratch.old)) × Room tally 200000000000000000 × (calls.most ≤ 3) }
+    requires callable { (v : ℕ) (t : Tally) (s : _) → v < lent.now.nodes → Ready (lent_graph lent.now) t s.now → F.pre call v t s }
+    requires makes { (v : ℕ) (t : Tally) (s : _) (u : Tally) (z : _) → v < lent.now.nodes → Ready (lent_graph lent.now) t s.now → F.post call v t s u z → Phase (calls.made v) calls.most (lent_graph lent.now) s.now t z.now u }
+    ensures { Phase (each calls.made lent.now.nodes) (calls.most * lent.now.nodes) (lent_graph lent.now) scratch.old tally scratch.new result }
+{
+    let end = lent.nodes as usize;
+    let mut t = tally;
+    for v in 0..end {
+        t = call(v, t, scratch);
+    }
+    t
+}
+
 // The tree call at node v, where it is a root.
 pub fn tree_call_at(lent: &Lent, v: usize, tally: Tally, scratch: &mut [u32]) -> Tally
     requires { let g = lent_graph lent.now in
@@ -49,21 +72,14 @@ pub fn tree_call_at(lent: &Lent, v: usize, tally: Tally, scratch: &mut [u32]) ->
     with_step(tally, step)
 }
 
-// The tree call at each root by rising index.
+// The tree call at each root.
 pub fn tree_calls(lent: &Lent, tally: Tally, scratch: &mut [u32]) -> Tally
     requires { let g = lent_graph lent.now in
         Ordered g scratch.old × (tally.count ≡ C (stands g scratch.old)) × Room tally 200000000000000000 × LockBytes lent.now.nodes lent.now.locks.now }
     ensures { let g = lent_graph lent.now in
         Phase (each (tree_at lent.now.locks.now) lent.now.nodes) lent.now.nodes g scratch.old tally scratch.new result }
 {
-    let end = lent.nodes as usize;
-    let mut t = tally;
-    let mut left = end;
-    while 0 < left {
-        t = tree_call_at(lent, end - left, t, scratch);
-        left -= 1;
-    }
-    t
+    at_each(lent, tally, scratch, |v, t, s| tree_call_at(lent, v, t, s))
 }
 
 // The node call at node v.
@@ -77,19 +93,14 @@ pub fn node_call_at(lent: &Lent, v: usize, tally: Tally, scratch: &mut [u32]) ->
     with_step(tally, single)
 }
 
-// The node call at each node by rising index.
+// The node call at each node.
 pub fn single_calls(lent: &Lent, tally: Tally, scratch: &mut [u32]) -> Tally
     requires { let g = lent_graph lent.now in
         Ordered g scratch.old × (tally.count ≡ C (stands g scratch.old)) × Room tally 200000000000000000 × LockBytes lent.now.nodes lent.now.locks.now }
     ensures { let g = lent_graph lent.now in
         Phase (each (node_at lent.now.locks.now) lent.now.nodes) lent.now.nodes g scratch.old tally scratch.new result }
 {
-    let end = lent.nodes as usize;
-    let mut t = tally;
-    for v in 0..end {
-        t = node_call_at(lent, v, t, scratch);
-    }
-    t
+    at_each(lent, tally, scratch, |v, t, s| node_call_at(lent, v, t, s))
 }
 
 // The pair call at word k of node v, which has one.
@@ -118,17 +129,12 @@ pub fn pair_calls_at(lent: &Lent, v: usize, tally: Tally, scratch: &mut [u32]) -
     pair_call_at(lent, v, 3, b, scratch)
 }
 
-// At each node by rising index.
+// At each node.
 pub fn pair_calls(lent: &Lent, tally: Tally, scratch: &mut [u32]) -> Tally
     requires { let g = lent_graph lent.now in
         Ordered g scratch.old × (tally.count ≡ C (stands g scratch.old)) × Room tally 200000000000000000 × LockBytes lent.now.nodes lent.now.locks.now }
     ensures { let g = lent_graph lent.now in
         Phase (each (pairs_at lent.now.locks.now) lent.now.nodes) (3 * lent.now.nodes) g scratch.old tally scratch.new result }
 {
-    let end = lent.nodes as usize;
-    let mut t = tally;
-    for v in 0..end {
-        t = pair_calls_at(lent, v, t, scratch);
-    }
-    t
+    at_each(lent, tally, scratch, |v, t, s| pair_calls_at(lent, v, t, s))
 }

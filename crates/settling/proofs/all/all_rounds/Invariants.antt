@@ -1,6 +1,5 @@
 -- `all_rounds` makes rounds until one does not lower C: what is left after each is the rest of settling.
 use mathlib.Core.Path.{◌≡◌}
-use Rattle.graph.specs.Literals.{graph_in}
 use Rattle.settling.proofs.Repeating.{Going}
 use Rattle.settling.proofs.all.all_rounds.Given as goal
 use Rattle.graph.specs.Tables.{lent_graph}

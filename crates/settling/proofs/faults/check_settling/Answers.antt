@@ -1,6 +1,5 @@
 -- `check_settling` meets its contract: the first fault of a settling is that of the admission check, or short scratch.
 use Rattle.std.proofs.Common.{sym, refl, arith}
-use Rattle.graph.proofs.Admit.{admitted}
 use Rattle.graph.proofs.Answers.{ends_row}
 use Rattle.graph.proofs.Tests.{none, less, no_less}
 use Rattle.moves.specs.Call.{scratch_fault}

@@ -1,12 +1,6 @@
--- `single_calls` makes the node call at each node: its loop has made those at the nodes below v.
-use mathlib.Core.Path.{◌≡◌}
-use Prim.Native.Nat.{◌-◌, ◌≤◌}
-use Rattle.graph.specs.Literals.{graph_in}
-use Rattle.rounds.specs.Round.{each, node_at}
-use Rattle.settling.specs.Phase.{Phase}
+-- `single_calls` makes the node call at each node.
+use Rattle.rounds.specs.Round.{node_at}
 use Rattle.settling.proofs.phases.single_calls.Given as goal
-use Rattle.graph.specs.Tables.{lent_graph}
 
-abbrev pub invariant-loop-v : goal.invariant-loop-v
-invariant-loop-v l =
-    (l.v ≤ l.lent.nodes) × (l.end ≡ l.lent.nodes) × Phase (each (node_at l.lent.locks.now) l.v) (l.v) (lent_graph l.lent) l.initial.scratch l.initial.t l.scratch l.t
+abbrev pub ghost-at_each : goal.ghost-at_each
+ghost-at_each a = record { made = node_at a.lent.now.locks.now; most = 1 }
