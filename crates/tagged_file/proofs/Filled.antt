@@ -21,62 +21,72 @@ pub length_single_words : (n : ℕ) (s : List ℕ) → length (single_words n s)
 length_single_words zero s = refl
 length_single_words (suc n) s = omega (arith, length_single_words n (drop 7 s))
 
--- the words of the nodes that are left, put where they go, come to the whole
-pub record NodesLeft (n : ℕ) (bytes t₀ t s : List ℕ) (at left : ℕ) : Type 0 where
-  pub room : Nodes left s
-  pub counted : at + 3 * left ≡ 3 * n
-  pub words : words_put at (node_words left s) t ≡ words_put 0 (node_words n bytes) t₀
-  pub after : after_nodes left s ≡ after_nodes n bytes
+-- the words of the nodes that are left, of n from number v on, put where they go, come to the whole
+pub record NodesLeft (n : ℕ) (bytes t₀ t s : List ℕ) (v : ℕ) : Type 0 where
+  pub room : Nodes (n - v) s
+  pub words : words_put (3 * v) (node_words (n - v) s) t ≡ words_put 0 (node_words n bytes) t₀
+  pub after : after_nodes (n - v) s ≡ after_nodes n bytes
 
-module _ (n : ℕ) (bytes t₀ t s : List ℕ) (at : ℕ) where
-  pub nodes_left_there : (left : ℕ) → 0 < left → NodesLeft n bytes t₀ t s at left → NodeThere s
-  nodes_left_there zero h i = absurd (omega arith)
-  nodes_left_there (suc left) h i = i.room.0
+pub nodes_left_start : (n : ℕ) (bytes t₀ : List ℕ) → Nodes n bytes → NodesLeft n bytes t₀ t₀ bytes 0
+nodes_left_start n bytes t₀ r = let e : n - 0 ≡ n = omega arith in record { room = rw e r; words = rw e; after = rw e }
 
-  pub nodes_left_more : (left : ℕ) → 0 < left → NodesLeft n bytes t₀ t s at left → (s' t' : List ℕ) → s' ≡ drop (node_size s) s
-      → t' ≡ words_put at (be4 s 3 ∷ be4 s 7 ∷ third s ∷ []) t → NodesLeft n bytes t₀ t' s' (at + 3) (left - 1)
-  nodes_left_more zero h i s' t' es et = absurd (omega arith)
-  nodes_left_more (suc left) h i s' t' es et =
-      let e : suc left - 1 ≡ left = omega arith in
-      let q : at + 3 ≡ suc (suc (suc at)) = omega arith in
-      record {
-        room = rw (e, es) i.room.1;
-        counted = omega (arith, i.counted);
-        words = rw (e, es, et, q) i.words;
-        after = rw (e, es) i.after;
-      }
+module _ (n : ℕ) (bytes t₀ t s : List ℕ) (v : ℕ) (i : NodesLeft n bytes t₀ t s v) where
+  module _ (h : v < n) where
+    one_left : n - v ≡ suc (n - (v + 1))
+    one_left = omega arith
 
-  pub nodes_left_none : (left : ℕ) → left ≤ 0 → 3 * n ≤ length t₀ → NodesLeft n bytes t₀ t s at left → (s ≡ after_nodes n bytes) × (t ≡ filled (node_words n bytes) t₀)
-  nodes_left_none zero h f i = (i.after, i.words ∙ all_filled (node_words n bytes) t₀ (rw (length_node_words n bytes) f))
-  nodes_left_none (suc left) h f i = absurd (omega arith)
+    nodes_room : NodeThere s × Nodes (n - (v + 1)) (drop (node_size s) s)
+    nodes_room = rw one_left at i.room
 
-pub record OutputsLeft (n : ℕ) (bytes t₀ t s : List ℕ) (at left : ℕ) : Type 0 where
-  pub room : Outputs left s
-  pub counted : at + left ≡ n
-  pub words : words_put at (single_words left s) t ≡ words_put 0 (single_words n bytes) t₀
-  pub after : after_singles left s ≡ after_singles n bytes
+    pub nodes_left_there : NodeThere s
+    nodes_left_there = nodes_room.0
 
-module _ (n : ℕ) (bytes t₀ t s : List ℕ) (at : ℕ) where
-  pub outputs_left_there : (left : ℕ) → 0 < left → OutputsLeft n bytes t₀ t s at left → OutputThere s
-  outputs_left_there zero h i = absurd (omega arith)
-  outputs_left_there (suc left) h i = i.room.0
+    pub nodes_left_more : (s' t' : List ℕ) → s' ≡ drop (node_size s) s → t' ≡ words_put (3 * v) (be4 s 3 ∷ be4 s 7 ∷ third s ∷ []) t → NodesLeft n bytes t₀ t' s' (v + 1)
+    nodes_left_more s' t' es et =
+        let q : 3 * (v + 1) ≡ suc (suc (suc (3 * v))) = omega arith in
+        record {
+          room = rw es nodes_room.1;
+          words = rw (es, et, q) (rw one_left at i.words);
+          after = rw es (rw one_left at i.after);
+        }
 
-  pub outputs_left_more : (left : ℕ) → 0 < left → OutputsLeft n bytes t₀ t s at left → (s' t' : List ℕ) → s' ≡ drop 7 s → t' ≡ word_put at (be4 s 3) t
-      → OutputsLeft n bytes t₀ t' s' (at + 1) (left - 1)
-  outputs_left_more zero h i s' t' es et = absurd (omega arith)
-  outputs_left_more (suc left) h i s' t' es et =
-      let e : suc left - 1 ≡ left = omega arith in
-      let q : at + 1 ≡ suc at = omega arith in
-      record {
-        room = rw (e, es) i.room.1;
-        counted = omega (arith, i.counted);
-        words = rw (e, es, et, q) i.words;
-        after = rw (e, es) i.after;
-      }
+  pub nodes_left_none : n ≤ v → 3 * n ≤ length t₀ → (s ≡ after_nodes n bytes) × (t ≡ filled (node_words n bytes) t₀)
+  nodes_left_none h f =
+      let z : n - v ≡ 0 = omega arith in
+      (rw z at i.after, rw z at i.words ∙ all_filled (node_words n bytes) t₀ (rw (length_node_words n bytes) f))
 
-  pub outputs_left_none : (left : ℕ) → left ≤ 0 → n ≤ length t₀ → OutputsLeft n bytes t₀ t s at left → (s ≡ after_singles n bytes) × (t ≡ filled (single_words n bytes) t₀)
-  outputs_left_none zero h f i = (i.after, i.words ∙ all_filled (single_words n bytes) t₀ (rw (length_single_words n bytes) f))
-  outputs_left_none (suc left) h f i = absurd (omega arith)
+pub record OutputsLeft (n : ℕ) (bytes t₀ t s : List ℕ) (v : ℕ) : Type 0 where
+  pub room : Outputs (n - v) s
+  pub words : words_put v (single_words (n - v) s) t ≡ words_put 0 (single_words n bytes) t₀
+  pub after : after_singles (n - v) s ≡ after_singles n bytes
+
+pub outputs_left_start : (n : ℕ) (bytes t₀ : List ℕ) → Outputs n bytes → OutputsLeft n bytes t₀ t₀ bytes 0
+outputs_left_start n bytes t₀ r = let e : n - 0 ≡ n = omega arith in record { room = rw e r; words = rw e; after = rw e }
+
+module _ (n : ℕ) (bytes t₀ t s : List ℕ) (v : ℕ) (i : OutputsLeft n bytes t₀ t s v) where
+  module _ (h : v < n) where
+    one_output_left : n - v ≡ suc (n - (v + 1))
+    one_output_left = omega arith
+
+    outputs_room : OutputThere s × Outputs (n - (v + 1)) (drop 7 s)
+    outputs_room = rw one_output_left at i.room
+
+    pub outputs_left_there : OutputThere s
+    outputs_left_there = outputs_room.0
+
+    pub outputs_left_more : (s' t' : List ℕ) → s' ≡ drop 7 s → t' ≡ word_put v (be4 s 3) t → OutputsLeft n bytes t₀ t' s' (v + 1)
+    outputs_left_more s' t' es et =
+        let q : v + 1 ≡ suc v = omega arith in
+        record {
+          room = rw es outputs_room.1;
+          words = rw (es, et, q) (rw q at (rw one_output_left at i.words));
+          after = rw es (rw one_output_left at i.after);
+        }
+
+  pub outputs_left_none : n ≤ v → n ≤ length t₀ → (s ≡ after_singles n bytes) × (t ≡ filled (single_words n bytes) t₀)
+  outputs_left_none h f =
+      let z : n - v ≡ 0 = omega arith in
+      (rw z at i.after, rw z at i.words ∙ all_filled (single_words n bytes) t₀ (rw (length_single_words n bytes) f))
 
 -- the locks that are left are set in t
 pub record LocksLeft (low : ℕ) (bytes t₀ t s : List ℕ) : Type 0 where

@@ -4,8 +4,14 @@ use mathlib.Core.Path.{◌≡◌, refl, ap, ◌∙◌}
 use mathlib.Core.List.{List, [], ◌∷◌, ◌++◌, append_assoc}
 use native.Mathlib.Nat.{mul-suc}
 use native.Mathlib.Omega.{arith}
-use lib.ListN.{length, length-append}
+use mathlib.Core.Logic.{⊎_elim, ◌≢◌}
+use borrow.Author.Tests.{eq-eqb, ne_eqb}
+use Rattle.std.proofs.Common.{◌==◌, count_by}
+use lib.ListN.{length, get_or, take, length-append}
 use lib.Seq.{sets}
+use native.Mathlib.Numerals.{add-one}
+use Rattle.std.proofs.lemmas.List.Sums.{count_by_more_yes, count_by_more_no}
+use Rattle.graph.proofs.Cases.{eq_or_ne}
 use Rattle.graph.specs.Graph.{Graph}
 use Rattle.std.proofs.Common.{Result}
 use Rattle.std.specs.Result.{IsErrAnd}
@@ -17,8 +23,8 @@ use Rattle.graph.proofs.Tests.{both, off}
 use Rattle.graph.proofs.Answers.{number_some}
 use Rattle.tagged_file.specs.Write.{big, field_of, head_field, end_field, node_field_at, output_field_at, lock_field_at, in_order, file_of, write_number, written_answer, write_outcome, write_by, write_call}
 use Rattle.tagged_file.proofs.Stores.{front, in_a_row}
-use Rattle.tagged_file.proofs.FieldBytes.{length_node_most, length_output_at, length_lock_at, end_is}
-use Rattle.tagged_file.proofs.Emitted.{in_order_step}
+use Rattle.tagged_file.proofs.FieldBytes.{length_node_most, length_output_at, length_lock_at, length_locked, length_free, end_is}
+use Rattle.tagged_file.proofs.Emitted.{in_order_next, in_order_none, in_order_last}
 
 pub length_outputs : (os : List ℕ) (v n : ℕ) → length (in_order (output_field_at os) v n) ≡ 7 * n
 length_outputs os v zero = refl
@@ -66,14 +72,34 @@ file_most g ls =
       length_most (lock_field_at (g.I + 1) ls) 7 0 g.N (λ v h. length_lock_at (g.I + 1) ls v),
     )
 
--- one node further on
-pub size_more : (f : ℕ → List ℕ) (n size size' v left : ℕ) → 0 < left → size + length (in_order f v left) ≡ n → size' ≡ size + length (f v)
-    → size' + length (in_order f (v + 1) (left - 1)) ≡ n
-size_more f n size size' v left h e q = omega (arith, ap length (in_order_step f v left h), length-append (f v) (in_order f (v + 1) (left - 1)))
+-- lengths added up: one part further on, of n, and at the end
+pub size_start : (f : ℕ → List ℕ) (n : ℕ) → 0 + length (in_order f 0 (n - 0)) ≡ length (in_order f 0 n)
+size_start f n = let e : n - 0 ≡ n = omega arith in omega (arith, ap (λ (k : ℕ). length (in_order f 0 k)) e)
 
-pub size_none : (f : ℕ → List ℕ) (n size v left : ℕ) → left ≤ 0 → size + length (in_order f v left) ≡ n → size ≡ n
-size_none f n size v zero h e = omega arith
-size_none f n size v (suc left) h e = absurd (omega arith)
+pub size_more : (f : ℕ → List ℕ) (m size size' v n : ℕ) → v < n → size + length (in_order f v (n - v)) ≡ m → size' ≡ size + length (f v)
+    → size' + length (in_order f (v + 1) (n - (v + 1))) ≡ m
+size_more f m size size' v n h e q = omega (arith, ap length (in_order_next f v n h), length-append (f v) (in_order f (v + 1) (n - (v + 1))))
+
+pub size_none : (f : ℕ → List ℕ) (m size v n : ℕ) → n ≤ v → size + length (in_order f v (n - v)) ≡ m → size ≡ m
+size_none f m size v n h e = omega (arith, ap length (in_order_none f v n h))
+
+-- of the locks, by how many nodes are locked
+pub length_locks : (i : ℕ) (ls : List ℕ) (n : ℕ) → n ≤ length ls → length (in_order (lock_field_at i ls) 0 n) ≡ 7 * count_by (λ b. b == 1) (take n ls)
+unfolding lock_field_at
+length_locks i ls zero h = refl
+length_locks i ls (suc n) h =
+    let z : 0 + n ≡ n = omega arith in
+    let a = rw z at (ap length (in_order_last (lock_field_at i ls) 0 n)) in
+    let b = length-append (in_order (lock_field_at i ls) 0 n) (lock_field_at i ls n) in
+    let r = length_locks i ls n (omega arith) in
+    ⊎_elim
+    (λ (p : get_or ls n 0 ≡ 1).
+    let m = rw (add-one n) at (count_by_more_yes (λ b. b == 1) ls n 0 h (eq-eqb (get_or ls n 0) 1 p)) in
+    omega (arith, length_locked (get_or ls n 0) (i + n) p))
+    (λ (q : get_or ls n 0 ≢ 1).
+    let m = rw (add-one n) at (count_by_more_no (λ b. b == 1) ls n 0 h (ne_eqb (get_or ls n 0) 1 q)) in
+    omega (arith, length_free (get_or ls n 0) (i + n) q))
+    (eq_or_ne (get_or ls n 0) 1)
 
 -- the parts of the file, stored one after another
 head_is : (i n o : ℕ) → head_field i n o ≡ field_of 1 (big 4 i ++ (big 4 n ++ big 4 o))

@@ -110,12 +110,8 @@ pub fn put_nodes(buffer: &mut [u8], start: usize, nodes: u32, node_table: &Table
         (result ≡ start + length fields) × (buffer.new ≡ sets buffer.old start fields) }
 {
     let mut at = start;
-    let mut v: usize = 0;
-    let mut left = nodes;
-    while 0 < left {
+    for v in 0..nodes as usize {
         at = put_node(buffer, at, node_table, v);
-        v += 1;
-        left -= 1;
     }
     at
 }
@@ -127,13 +123,9 @@ pub fn put_outputs(buffer: &mut [u8], start: usize, outputs: u32, output_table: 
         (result ≡ start + length fields) × (buffer.new ≡ sets buffer.old start fields) }
 {
     let mut at = start;
-    let mut v = 0;
-    let mut left = outputs;
-    while 0 < left {
-        put_single(buffer, at, 4, output_table.edge_at(v));
+    for j in 0..outputs as usize {
+        put_single(buffer, at, 4, output_table.edge_at(j));
         at += 7;
-        v += 1;
-        left -= 1;
     }
     at
 }
@@ -159,12 +151,8 @@ pub fn put_locks(buffer: &mut [u8], start: usize, index: u32, nodes: u32, locks:
     ensures buffer_after { buffer.new ≡ sets buffer.old start (in_order (lock_field_at index locks.now) 0 nodes) }
 {
     let mut at = start;
-    let mut v: u32 = 0;
-    let mut left = nodes;
-    while 0 < left {
+    for v in 0..nodes {
         at = put_lock(buffer, at, locks[v as usize], index + v);
-        v += 1;
-        left -= 1;
     }
     at
 }

@@ -1,10 +1,10 @@
 // How many bytes a file takes, and what refuses to write it.
-ghost use Rattle.std.specs.Prelude.{◌≡◌, List, ℕ, ◌+◌, ◌*◌, ◌≤◌, ◌<◌, length, get_or};
+ghost use Rattle.std.specs.Prelude.{◌≡◌, ◌==◌, count_by, List, ℕ, ◌+◌, ◌*◌, ◌≤◌, ◌<◌, length, get_or};
 ghost use Rattle.graph.specs.Answer.{refusal_number};
 ghost use Rattle.graph.specs.Graph.{graph_of};
 ghost use Rattle.graph.specs.Inner.{IsWord, AllReadable};
 ghost use Rattle.graph.specs.Literals.{held};
-ghost use Rattle.tagged_file.specs.Write.{node_field, node_field_at, lock_field, lock_field_at, in_order, file_of, write_number};
+ghost use Rattle.tagged_file.specs.Write.{node_field, node_field_at, lock_field_at, in_order, file_of, write_number};
 ghost use Rattle.graph.specs.Tables.{lent_graph, lent_table};
 
 use graph::faults::check_admission;
@@ -27,40 +27,23 @@ pub fn nodes_bytes(nodes: u32, node_table: &Table) -> usize
     ensures { (result ≡ length (in_order (node_field_at (lent_table node_table.now)) 0 nodes)) × (result ≤ 15 * nodes) }
 {
     let mut size = 0;
-    let mut v = 0;
-    let mut left = nodes;
-    while 0 < left {
-        let third = 3 * v + 2;
-        size += node_bytes(node_table, third);
-        v += 1;
-        left -= 1;
+    for v in 0..nodes as usize {
+        size += node_bytes(node_table, 3 * v + 2);
     }
     size
 }
 
-// The field of a node that has this lock byte.
-pub fn lock_bytes(lock: u8) -> usize
-    ensures { ((u : ℕ) → result ≡ length (lock_field lock u)) × (result ≤ 7) }
+fn locked_in(locks: &[u8]) -> usize
+    ensures { result ≡ count_by (λ b. b == 1) locks.now }
 {
-    if lock == 1 {
-        return 7;
-    }
-    0
+    locks.iter().filter(|lock| **lock == 1).count()
 }
 
 pub fn locks_bytes(nodes: u32, locks: &[u8]) -> usize
     requires { nodes ≤ length locks.now }
     ensures { ((i : ℕ) → result ≡ length (in_order (lock_field_at i locks.now) 0 nodes)) × (result ≤ 7 * nodes) }
 {
-    let mut size = 0;
-    let mut v = 0;
-    let mut left = nodes;
-    while 0 < left {
-        size += lock_bytes(locks[v]);
-        v += 1;
-        left -= 1;
-    }
-    size
+    7 * locked_in(&locks[..nodes as usize])
 }
 
 pub fn file_bytes(nodes: u32, outputs: u32, node_table: &Table, locks: &[u8]) -> usize

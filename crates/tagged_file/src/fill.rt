@@ -45,18 +45,14 @@ pub fn fill_nodes<'a>(
     ensures node_bits_after { let ns = literals node_table.old node_bits.old in
         literals node_table.new node_bits.new ≡ filled (node_words nodes rest.now) ns }
 {
+    let end = nodes as usize;
     let mut s = rest;
     let mut got: u64 = 0;
-    let mut at: usize = 0;
-    let mut left = nodes;
-    while 0 < left {
-        got = fill_node(s, at, got, node_table, node_bits);
-        let size = fields::node_size(s);
-        s = &s[size..];
-        at += 3;
-        left -= 1;
+    for v in 0..end {
+        got = fill_node(s, 3 * v, got, node_table, node_bits);
+        s = &s[fields::node_size(s)..];
     }
-    table::put_last(node_bits, at, got);
+    table::put_last(node_bits, 3 * end, got);
     s
 }
 
@@ -73,17 +69,14 @@ pub fn fill_outputs<'a>(
     ensures output_bits_after { let os = literals output_table.old output_bits.old in
         literals output_table.new output_bits.new ≡ filled (single_words outputs rest.now) os }
 {
+    let end = outputs as usize;
     let mut s = rest;
     let mut got: u64 = 0;
-    let mut at: usize = 0;
-    let mut left = outputs;
-    while 0 < left {
-        got = table::put_word(output_table, output_bits, at, got, bytes::four(s, 3));
+    for j in 0..end {
+        got = table::put_word(output_table, output_bits, j, got, bytes::four(s, 3));
         s = &s[7..];
-        at += 1;
-        left -= 1;
     }
-    table::put_last(output_bits, at, got);
+    table::put_last(output_bits, end, got);
     s
 }
 

@@ -7,8 +7,5 @@ pub fn free(locks: &mut [u8], nodes: u32)
     requires { nodes ≤ length locks.old }
     ensures { locks.new ≡ free_locks nodes locks.old }
 {
-    let end = nodes as usize;
-    for v in 0..end {
-        locks[v] = 0;
-    }
+    locks[..nodes as usize].fill(0);
 }

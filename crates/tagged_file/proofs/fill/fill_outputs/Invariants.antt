@@ -6,9 +6,6 @@ use Rattle.graph.specs.Literals.{literals}
 use Rattle.tagged_file.proofs.Filled.{OutputsLeft}
 use Rattle.tagged_file.proofs.fill.fill_outputs.Given as goal
 
-abbrev pub invariant-loop-left : goal.invariant-loop-left
-invariant-loop-left l =
-    OutputsLeft l.outputs l.rest (literals l.initial.output_table l.initial.output_bits) (literals l.output_table (begun l.at l.got l.output_bits)) l.s l.at l.left × (length l.output_table ≡ length l.initial.output_table) × (length l.output_bits ≡ length l.initial.output_bits)
-
-abbrev pub decreases-loop-left : goal.decreases-loop-left
-decreases-loop-left l = l.left
+abbrev pub invariant-loop-j : goal.invariant-loop-j
+invariant-loop-j l =
+    OutputsLeft l.outputs l.rest (literals l.initial.output_table l.initial.output_bits) (literals l.output_table (begun l.j l.got l.output_bits)) l.s l.j × (length l.output_table ≡ length l.initial.output_table) × (length l.output_bits ≡ length l.initial.output_bits)
