@@ -2,7 +2,7 @@
 -- the definitions alone.
 use Prim.Native.Nat.{ℕ, zero, suc, ◌+◌, ◌*◌}
 use mathlib.Core.Path.{◌≡◌, refl, sym, ap, ◌∙◌}
-use mathlib.Core.List.{List, [], ◌∷◌, ◌++◌, append_assoc, append-nil}
+use mathlib.Core.List.{List, [], ◌∷◌, ◌++◌, append_assoc}
 use native.Mathlib.Nat.{zero-add}
 use native.Mathlib.Omega.{arith}
 use lib.ListN.{length}
@@ -10,6 +10,7 @@ use Rattle.graph.specs.Finite.{tab}
 use Rattle.graph.specs.Graph.{Graph, turn}
 use Rattle.graph.proofs.Finite.{tab_same}
 use Rattle.tagged_file.specs.Write.{in_order}
+use Rattle.tagged_file.proofs.Emitted.{in_order_last}
 use Rattle.aiger.specs.Export.{gates_before, xor_gates, majority_gates, node_gates, gates, ended, ones, threes, header, inputs, outputs, export_text}
 use Rattle.aiger.proofs.Gates.{length_gates}
 use Rattle.aiger_export.specs.Inner.{three_line, input_line, output_line, node_lines}
@@ -64,12 +65,6 @@ threes_append zero (x ∷ y ∷ z ∷ l) m e = absurd (omega arith)
 threes_append (suc k) (x ∷ y ∷ z ∷ l) m e =
     rw (threes_append k l m (omega arith), three_rest x y z (threes l ++ threes m), three_rest x y z (threes l)) (simp append_assoc)
 
-row_last : (F : ℕ → List ℕ) (v n : ℕ) → in_order F v (suc n) ≡ in_order F v n ++ F (v + n)
-row_last F v zero = let z : v + 0 ≡ v = omega arith in rw z (append-nil _)
-row_last F v (suc n) =
-    let s : v + 1 + n ≡ v + suc n = omega arith in
-    rw (row_last F (v + 1) n, s) (simp append_assoc)
-
 -- the ANDs of a node, line by line
 pub xor_lines : (b x y x' y' : ℕ) → x' ≡ turn 1 x → y' ≡ turn 1 y
     → threes (xor_gates b x y) ≡ three_line (2 * b) x y' ++ (three_line (2 * b + 2) x' y ++ three_line (2 * b + 4) (2 * b + 1) (2 * b + 3))
@@ -97,7 +92,7 @@ module _ (g : Graph) where
   gates_row zero = refl
   gates_row (suc n) =
       let z : 0 + n ≡ n = omega arith in
-      rw (row_last (node_lines g) 0 n, z, ← gates_row n) (threes_append (gates_before g n) (gates g n) (node_gates g n) (length_gates g n))
+      rw (in_order_last (node_lines g) 0 n, z, ← gates_row n) (threes_append (gates_before g n) (gates g n) (node_gates g n) (length_gates g n))
 
   -- the whole
   pub text_is : (n : ℕ) → n ≡ gates_before g g.N

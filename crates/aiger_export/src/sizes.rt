@@ -56,13 +56,9 @@ pub fn nodes_size(lent: &Lent, steps: Steps) -> usize
 {
     let mut size: usize = 0;
     let mut b = lent.inputs + 1;
-    let mut v: usize = 0;
-    let mut left = lent.nodes;
-    while 0 < left {
+    for v in 0..lent.nodes as usize {
         size += node_size(lent, steps, b, v);
         b += gates::gates_at(&lent.node_table, v);
-        v += 1;
-        left -= 1;
     }
     size
 }
@@ -72,12 +68,8 @@ pub fn inputs_size(inputs: u32) -> usize
     ensures { (result ≡ length (in_order input_line 0 inputs)) × (result ≤ 84 * inputs) }
 {
     let mut size: usize = 0;
-    let mut k: u32 = 0;
-    let mut left = inputs;
-    while 0 < left {
+    for k in 0..inputs {
         size += text_wide(k + 1);
-        k += 1;
-        left -= 1;
     }
     size
 }
@@ -89,12 +81,8 @@ pub fn outputs_size(lent: &Lent, steps: Steps) -> usize
         (result ≡ length (in_order (output_line g) 0 lent.now.outputs)) × (result ≤ 84 * lent.now.outputs) }
 {
     let mut size: usize = 0;
-    let mut j: usize = 0;
-    let mut left = lent.outputs;
-    while 0 < left {
+    for j in 0..lent.outputs as usize {
         size += wide_by(steps, lent.output_table.index_at(j));
-        j += 1;
-        left -= 1;
     }
     size
 }

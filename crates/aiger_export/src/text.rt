@@ -16,12 +16,8 @@ pub fn put_inputs(buffer: &mut [u8], start: usize, inputs: u32) -> usize
     ensures { (result ≡ start + length (in_order input_line 0 inputs)) × (buffer.new ≡ sets buffer.old start (in_order input_line 0 inputs)) }
 {
     let mut at = start;
-    let mut k: u32 = 0;
-    let mut left = inputs;
-    while 0 < left {
+    for k in 0..inputs {
         at = lines::put_ended(buffer, at, 2 * (1 + k), b'\n');
-        k += 1;
-        left -= 1;
     }
     at
 }
@@ -44,12 +40,8 @@ pub fn put_outputs(lent: &Lent, scratch: &[u32], buffer: &mut [u8], start: usize
         (result ≡ start + length (in_order (output_line g) 0 lent.now.outputs)) × (buffer.new ≡ sets buffer.old start (in_order (output_line g) 0 lent.now.outputs)) }
 {
     let mut at = start;
-    let mut j: usize = 0;
-    let mut left = lent.outputs;
-    while 0 < left {
+    for j in 0..lent.outputs as usize {
         at = put_output(lent, scratch, buffer, at, j);
-        j += 1;
-        left -= 1;
     }
     at
 }
@@ -82,12 +74,8 @@ pub fn put_nodes(lent: &Lent, scratch: &[u32], buffer: &mut [u8], start: usize) 
         (result ≡ start + length (in_order (node_lines g) 0 lent.now.nodes)) × (buffer.new ≡ sets buffer.old start (in_order (node_lines g) 0 lent.now.nodes)) }
 {
     let mut at = start;
-    let mut v: usize = 0;
-    let mut left = lent.nodes;
-    while 0 < left {
+    for v in 0..lent.nodes as usize {
         at = put_node(lent, scratch, buffer, at, v);
-        v += 1;
-        left -= 1;
     }
     at
 }

@@ -3,8 +3,5 @@ use Rattle.aiger_export.specs.Inner.{input_line}
 use Rattle.aiger_export.proofs.Summed.{Summed}
 use Rattle.aiger_export.proofs.sizes.inputs_size.Given as goal
 
-abbrev pub invariant-loop-left : goal.invariant-loop-left
-invariant-loop-left l = Summed input_line l.inputs l.size l.k l.left
-
-abbrev pub decreases-loop-left : goal.decreases-loop-left
-decreases-loop-left l = l.left
+abbrev pub invariant-loop-k : goal.invariant-loop-k
+invariant-loop-k l = Summed input_line l.inputs l.size l.k

@@ -7,10 +7,7 @@ use Rattle.aiger_export.proofs.Summed.{Summed}
 use Rattle.aiger_export.proofs.sizes.nodes_size.Given as goal
 use Rattle.graph.specs.Tables.{lent_graph}
 
-abbrev pub invariant-loop-left : goal.invariant-loop-left
-invariant-loop-left l =
-    Summed (node_lines (lent_graph l.lent)) l.lent.nodes l.size l.v l.left
+abbrev pub invariant-loop-v : goal.invariant-loop-v
+invariant-loop-v l =
+    Summed (node_lines (lent_graph l.lent)) l.lent.nodes l.size l.v
     × Counted (lent_graph l.lent) (l.lent.inputs + 1) l.v l.b
-
-abbrev pub decreases-loop-left : goal.decreases-loop-left
-decreases-loop-left l = l.left

@@ -8,16 +8,16 @@ use Rattle.aiger_export.proofs.Widths.{output_wide}
 use native.Mathlib.Omega.{arith}
 use Rattle.aiger_export.proofs.sizes.outputs_size.Goals as goal
 
-pub loop-left-init : goal.loop-left-init
-loop-left-init c = summed_start _ _
+pub loop-j-init : goal.loop-j-init
+loop-j-init c = summed_start _ _
 
-pub loop-left-preserved : goal.loop-left-preserved
-loop-left-preserved c =
+pub loop-j-preserved : goal.loop-j-preserved
+loop-j-preserved c =
     let w = c.wide_by-size.ensures in
-    let i = c.loop-left in
-    summed_more _ _ i.size i.j i.left i.invariant (omega arith) _
+    let i = c.loop-j in
+    summed_more _ _ i.size i.j i.invariant (omega arith) _
     (w.0 ∙ ap (wide_by c.args.steps) (names_index c.index_at.ensures (out_low _ c.requires.0 i.j (omega arith))) ∙ sym (output_wide _ c.requires.0 c.args.steps c.requires.1 i.j (omega arith)))
     (omega arith)
 
 pub returns : goal.returns
-returns c = summed_end _ _ _ _ _ c.loop-left.invariant c.loop-left-test.false
+returns c = summed_end _ _ _ _ c.loop-j.invariant (omega arith)

@@ -4,8 +4,5 @@ use Rattle.aiger_export.proofs.Summed.{Summed}
 use Rattle.aiger_export.proofs.sizes.outputs_size.Given as goal
 use Rattle.graph.specs.Tables.{lent_graph}
 
-abbrev pub invariant-loop-left : goal.invariant-loop-left
-invariant-loop-left l = Summed (output_line (lent_graph l.lent)) l.lent.outputs l.size l.j l.left
-
-abbrev pub decreases-loop-left : goal.decreases-loop-left
-decreases-loop-left l = l.left
+abbrev pub invariant-loop-j : goal.invariant-loop-j
+invariant-loop-j l = Summed (output_line (lent_graph l.lent)) l.lent.outputs l.size l.j

@@ -1,12 +1,10 @@
 -- `put_outputs` meets its contract: the lines that are left come to the whole. From the laws on parts in a row.
+use Prim.Native.Nat.{◌-◌}
 use Rattle.tagged_file.proofs.Emitted.{Left}
 use Rattle.aiger_export.specs.Inner.{output_line}
 use Rattle.aiger_export.proofs.text.put_outputs.Given as goal
 use Rattle.graph.specs.Tables.{lent_graph}
 
-abbrev pub invariant-loop-left : goal.invariant-loop-left
-invariant-loop-left l =
-    Left (output_line (lent_graph l.lent)) l.lent.outputs l.start l.initial.buffer l.buffer l.at l.j l.left
-
-abbrev pub decreases-loop-left : goal.decreases-loop-left
-decreases-loop-left l = l.left
+abbrev pub invariant-loop-j : goal.invariant-loop-j
+invariant-loop-j l =
+    Left (output_line (lent_graph l.lent)) l.lent.outputs l.start l.initial.buffer l.buffer l.at l.j (l.lent.outputs - l.j)
