@@ -7,6 +7,7 @@ use Rattle.moves.specs.Cost.{shown}
 use Rattle.moves.specs.Rows.{arity, flag, moves_at}
 use Rattle.choice.specs.Inner.{FirstBelow}
 use Rattle.moves.specs.declared.decide.NodeNumbers.{NodeNumbers}
+use Rattle.moves.specs.declared.decide.Pair.{Pair}
 
 -- what the move m of a node of kind x leaves: z has at place 2 k what word k + 1 adds as it stands, and at 2 k + 1 what it
 -- adds turned; its readers add s, or t once all are turned
@@ -81,6 +82,12 @@ cost_of n m = cost_with n.xor n.costs n.readers n.odd m
 pub record Counted (n : NodeNumbers) : Type 0 where
   pub numbers : Numbers n.costs n.readers n.odd
   pub has : MovesOf n.xor n.moves
+
+-- the same of a pair's: which words name the one node is told by 0 and 1
+pub record CountedPair (p : Pair) : Type 0 where
+  pub named : Counted p.named
+  pub node : Counted p.node
+  pub which : (i : ℕ) → slice_index p.which i ≤ 1
 
 -- the move k of a node once move a has been made at the node p that its words w name
 unfoldable pub cost_given : NodeNumbers → NodeNumbers → List ℕ → ℕ → ℕ → ℕ

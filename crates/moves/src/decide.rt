@@ -3,7 +3,7 @@ ghost use Rattle.std.specs.Prelude.{◌≡◌, ℕ, ◌+◌, ◌*◌, ◌<◌, �
 ghost use Rattle.choice.specs.Inner.{FirstBelow};
 ghost use Rattle.graph.specs.Finite.{if_equal};
 ghost use Rattle.moves.specs.Rows.{arity};
-ghost use Rattle.moves.specs.Decide.{cost_by, cost_with, Weighed, Numbers, MovesOf, LeastBelow, given, Counted, pair_cost, FirstPair, Answered};
+ghost use Rattle.moves.specs.Decide.{cost_by, cost_with, Weighed, Numbers, MovesOf, LeastBelow, given, Counted, CountedPair, pair_cost, FirstPair, Answered};
 ghost use Rattle.moves.specs.Pair.{pair_saving, saving_numbered, GreatestBelow, Won};
 
 use crate::rows;
@@ -19,15 +19,24 @@ pub fn either(f: u32, x: u32, y: u32) -> u32
     y
 }
 
-// What move m of a node leaves of its words and readers, where the readers add `still`, or `turned` once all are turned.
-pub fn cost_by(xor: bool, z: [u32; 6], still: u32, turned: u32, m: u32) -> u32
-    requires { Weighed z still turned × (m < arity xor) }
-    ensures { (result ≡ cost_by xor z still turned m) × (result ≤ 3 + (still + turned)) }
+// What is weighed of a node's moves: what its words add as they stand and turned, and its readers, which add `still`, or `turned` once all are turned.
+#[derive(Clone, Copy)]
+pub struct Weights {
+    pub costs: [u32; 6],
+    pub still: u32,
+    pub turned: u32,
+}
+
+// What move m of a node leaves of its words and readers.
+pub fn cost_by(xor: bool, w: Weights, m: u32) -> u32
+    requires { Weighed w.costs w.still w.turned × (m < arity xor) }
+    ensures { (result ≡ cost_by xor w.costs w.still w.turned m) × (result ≤ 3 + (w.still + w.turned)) }
 {
+    let z = w.costs;
     let a = rows::flag_of(xor, m, 0) as usize;
     let b = 2 + rows::flag_of(xor, m, 1) as usize;
     let c = 4 + rows::flag_of(xor, m, 2) as usize;
-    let shown = either(rows::flag_of(xor, m, 3), still, turned);
+    let shown = either(rows::flag_of(xor, m, 3), w.still, w.turned);
     z[a] + z[b] + z[c] + shown
 }
 
@@ -36,7 +45,12 @@ pub fn move_cost(xor: bool, z: [u32; 6], readers: u32, odd: u32, m: u32) -> u32
     requires { Numbers z readers odd × (m < arity xor) }
     ensures { (result ≡ cost_with xor z readers odd m) × (result ≤ 3 + readers) }
 {
-    cost_by(xor, z, odd, readers - odd, m)
+    let w = Weights {
+        costs: z,
+        still: odd,
+        turned: readers - odd,
+    };
+    cost_by(xor, w, m)
 }
 
 // The first of some least moves, and what it leaves.
@@ -46,65 +60,56 @@ pub struct LeastMove {
     pub cost: u32,
 }
 
-// No move.
-pub fn no_move(xor: bool, z: [u32; 6], still: u32, turned: u32) -> LeastMove
-    requires { Weighed z still turned }
-    ensures { LeastBelow (cost_by xor z still turned) 1 result.number result.cost }
-{
-    let cost = cost_by(xor, z, still, turned, 0);
-    LeastMove { number: 0, cost }
-}
-
-// Move m where it leaves less than the least move below it.
-pub fn if_less(
-    xor: bool,
-    z: [u32; 6],
-    still: u32,
-    turned: u32,
-    least: LeastMove,
-    m: u32,
-) -> LeastMove
-    requires { Weighed z still turned × (m < arity xor) × LeastBelow (cost_by xor z still turned) m least.number least.cost }
-    ensures { LeastBelow (cost_by xor z still turned) (m + 1) result.number result.cost }
-{
-    let cost = cost_by(xor, z, still, turned, m);
-    if cost < least.cost {
-        return LeastMove { number: m, cost };
+impl LeastMove {
+    // No move, which leaves that much.
+    pub fn no_move(cost: u32) -> LeastMove
+        ensures { (f : ℕ → ℕ) → cost ≡ f 0 → LeastBelow f 1 result.number result.cost }
+    {
+        LeastMove { number: 0, cost }
     }
-    least
+
+    // Move m in its place where that leaves less.
+    pub fn or_move(self, m: u32, cost: u32) -> LeastMove
+        ensures { (f : ℕ → ℕ) → LeastBelow f m self.number self.cost → cost ≡ f m → LeastBelow f (m + 1) result.number result.cost }
+    {
+        if cost < self.cost {
+            return LeastMove { number: m, cost };
+        }
+        self
+    }
 }
 
 // The kind and the moves are written out, so that the compiler reads the table of rows and the code has no jumps.
-pub fn least_of_majority(z: [u32; 6], still: u32, turned: u32) -> LeastMove
-    requires { Weighed z still turned }
-    ensures { LeastBelow (cost_by false z still turned) 2 result.number result.cost }
+pub fn least_of_majority(w: Weights) -> LeastMove
+    requires { Weighed w.costs w.still w.turned }
+    ensures { LeastBelow (cost_by false w.costs w.still w.turned) 2 result.number result.cost }
 {
-    let least = no_move(false, z, still, turned);
-    if_less(false, z, still, turned, least, 1)
+    let least = LeastMove::no_move(cost_by(false, w, 0));
+    least.or_move(1, cost_by(false, w, 1))
 }
 
-pub fn least_of_xor(z: [u32; 6], still: u32, turned: u32) -> LeastMove
-    requires { Weighed z still turned }
-    ensures { LeastBelow (cost_by true z still turned) 4 result.number result.cost }
+pub fn least_of_xor(w: Weights) -> LeastMove
+    requires { Weighed w.costs w.still w.turned }
+    ensures { LeastBelow (cost_by true w.costs w.still w.turned) 4 result.number result.cost }
 {
-    let least = no_move(true, z, still, turned);
-    let least = if_less(true, z, still, turned, least, 1);
-    let least = if_less(true, z, still, turned, least, 2);
-    if_less(true, z, still, turned, least, 3)
+    let least = LeastMove::no_move(cost_by(true, w, 0));
+    let least = least.or_move(1, cost_by(true, w, 1));
+    let least = least.or_move(2, cost_by(true, w, 2));
+    least.or_move(3, cost_by(true, w, 3))
 }
 
 // The first of the least moves of a node of either kind that has so many: of one, where it is locked.
-pub fn least_of(xor: bool, moves: u32, z: [u32; 6], still: u32, turned: u32) -> LeastMove
-    requires { Weighed z still turned × MovesOf xor moves }
-    ensures { LeastBelow (cost_by xor z still turned) moves result.number result.cost }
+pub fn least_of(xor: bool, moves: u32, w: Weights) -> LeastMove
+    requires { Weighed w.costs w.still w.turned × MovesOf xor moves }
+    ensures { LeastBelow (cost_by xor w.costs w.still w.turned) moves result.number result.cost }
 {
     if moves == 1 {
-        return no_move(xor, z, still, turned);
+        return LeastMove::no_move(cost_by(xor, w, 0));
     }
     if xor {
-        return least_of_xor(z, still, turned);
+        return least_of_xor(w);
     }
-    least_of_majority(z, still, turned)
+    least_of_majority(w)
 }
 
 // The first of a node's least moves.
@@ -112,7 +117,12 @@ pub fn least_move(xor: bool, moves: u32, z: [u32; 6], readers: u32, odd: u32) ->
     requires { Numbers z readers odd × MovesOf xor moves }
     ensures { LeastBelow (cost_with xor z readers odd) moves result.number result.cost }
 {
-    least_of(xor, moves, z, odd, readers - odd)
+    let w = Weights {
+        costs: z,
+        still: odd,
+        turned: readers - odd,
+    };
+    least_of(xor, moves, w)
 }
 
 // Its number alone.
@@ -132,6 +142,14 @@ pub struct NodeNumbers {
     pub costs: [u32; 6],
     pub readers: u32,
     pub odd: u32,
+}
+
+// The numbers of a named node and of the node that names it, and which words of that one do.
+#[derive(Clone, Copy)]
+pub struct Pair {
+    pub named: NodeNumbers,
+    pub node: NodeNumbers,
+    pub which: [u32; 3],
 }
 
 // A move at the named node, and one at the node that names it.
@@ -175,15 +193,17 @@ pub fn answer_given(node: NodeNumbers, which: [u32; 3], f: u32) -> LeastMove
 }
 
 // What move a at the named node and move k at the node leave.
-pub fn pair_cost(named: NodeNumbers, node: NodeNumbers, which: [u32; 3], a: u32, k: u32) -> u32
-    requires { Counted named × Counted node × ((i : ℕ) → slice_index which i ≤ 1) × (a < named.moves) × (k < node.moves) }
-    ensures { result ≡ pair_cost named node which a k }
+pub fn pair_cost(pair: Pair, a: u32, k: u32) -> u32
+    requires { CountedPair pair × (a < pair.named.moves) × (k < pair.node.moves) }
+    ensures { result ≡ pair_cost pair.named pair.node pair.which a k }
 {
+    let named = pair.named;
+    let node = pair.node;
     let x = named.costs;
     let first = move_cost(named.xor, x, named.readers, named.odd, a);
     let f = rows::flag_of(named.xor, a, 3);
     let y = node.costs;
-    let turned = given_costs(y, which, f);
+    let turned = given_costs(y, pair.which, f);
     let second = move_cost(node.xor, turned, node.readers, node.odd, k);
     first + second + (turned[1] + turned[3] + turned[5])
 }
@@ -197,14 +217,12 @@ pub fn first_pair(named: NodeNumbers, node: NodeNumbers, which: [u32; 3]) -> Pai
     let still = answer_given(node, which, 0);
     let turned = answer_given(node, which, 1);
     let x = named.costs;
-    let others = named.readers - named.odd;
-    let first = least_of(
-        named.xor,
-        named.moves,
-        x,
-        named.odd + still.cost,
-        others + turned.cost,
-    );
+    let w = Weights {
+        costs: x,
+        still: named.odd + still.cost,
+        turned: named.readers - named.odd + turned.cost,
+    };
+    let first = least_of(named.xor, named.moves, w);
     let f = rows::flag_of(named.xor, first.number, 3);
     PairMoves {
         named: first.number,
@@ -213,12 +231,12 @@ pub fn first_pair(named: NodeNumbers, node: NodeNumbers, which: [u32; 3]) -> Pai
 }
 
 // What move a at the named node and move k at the node save: what no moves leave, less what these leave.
-pub fn pair_saving(named: NodeNumbers, node: NodeNumbers, which: [u32; 3], a: u32, k: u32) -> i64
-    requires { Counted named × Counted node × ((i : ℕ) → slice_index which i ≤ 1) × (a < named.moves) × (k < node.moves) }
-    ensures { result ≡ pair_saving named node which a k }
+pub fn pair_saving(pair: Pair, a: u32, k: u32) -> i64
+    requires { CountedPair pair × (a < pair.named.moves) × (k < pair.node.moves) }
+    ensures { result ≡ pair_saving pair.named pair.node pair.which a k }
 {
-    let before = pair_cost(named, node, which, 0, 0);
-    let after = pair_cost(named, node, which, a, k);
+    let before = pair_cost(pair, 0, 0);
+    let after = pair_cost(pair, a, k);
     signed::less(before as u64, after as u64)
 }
 
@@ -230,26 +248,20 @@ pub struct Combination {
 }
 
 // What combination c saves.
-pub fn saving_numbered(named: NodeNumbers, node: NodeNumbers, which: [u32; 3], c: u32) -> i64
-    requires { Counted named × Counted node × ((i : ℕ) → slice_index which i ≤ 1) × (c < named.moves * node.moves) }
-    ensures { result ≡ saving_numbered named node which c }
+pub fn saving_numbered(pair: Pair, c: u32) -> i64
+    requires { CountedPair pair × (c < pair.named.moves * pair.node.moves) }
+    ensures { result ≡ saving_numbered pair.named pair.node pair.which c }
 {
-    let moves = node.moves;
-    pair_saving(named, node, which, c / moves, c % moves)
+    let moves = pair.node.moves;
+    pair_saving(pair, c / moves, c % moves)
 }
 
 // Combination c where it saves more than the best below it.
-pub fn if_more(
-    named: NodeNumbers,
-    node: NodeNumbers,
-    which: [u32; 3],
-    best: Combination,
-    c: u32,
-) -> Combination
-    requires { Counted named × Counted node × ((i : ℕ) → slice_index which i ≤ 1) × (c < named.moves * node.moves) × GreatestBelow named node which c best }
-    ensures { GreatestBelow named node which (c + 1) result }
+pub fn if_more(pair: Pair, best: Combination, c: u32) -> Combination
+    requires { CountedPair pair × (c < pair.named.moves * pair.node.moves) × GreatestBelow pair.named pair.node pair.which c best }
+    ensures { GreatestBelow pair.named pair.node pair.which (c + 1) result }
 {
-    let saving = saving_numbered(named, node, which, c);
+    let saving = saving_numbered(pair, c);
     let most = best.saving;
     if most < saving {
         return Combination { number: c, saving };
@@ -258,15 +270,15 @@ pub fn if_more(
 }
 
 // The first combination that saves most.
-pub fn best_numbered(named: NodeNumbers, node: NodeNumbers, which: [u32; 3]) -> Combination
-    requires { Counted named × Counted node × ((i : ℕ) → slice_index which i ≤ 1) }
-    ensures { GreatestBelow named node which (named.moves * node.moves) result }
+pub fn best_numbered(pair: Pair) -> Combination
+    requires { CountedPair pair }
+    ensures { GreatestBelow pair.named pair.node pair.which (pair.named.moves * pair.node.moves) result }
 {
-    let all = named.moves * node.moves;
-    let saving = saving_numbered(named, node, which, 0);
+    let all = pair.named.moves * pair.node.moves;
+    let saving = saving_numbered(pair, 0);
     let mut best = Combination { number: 0, saving };
     for c in 1..all {
-        best = if_more(named, node, which, best, c);
+        best = if_more(pair, best, c);
     }
     best
 }
@@ -280,12 +292,12 @@ pub struct BestPair {
 }
 
 // The first pair of moves that saves most, each worked out from the numbers as they stand.
-pub fn best_pair(named: NodeNumbers, node: NodeNumbers, which: [u32; 3]) -> BestPair
-    requires { Counted named × Counted node × ((i : ℕ) → slice_index which i ≤ 1) }
-    ensures { Won named node which result }
+pub fn best_pair(pair: Pair) -> BestPair
+    requires { CountedPair pair }
+    ensures { Won pair.named pair.node pair.which result }
 {
-    let best = best_numbered(named, node, which);
-    let moves = node.moves;
+    let best = best_numbered(pair);
+    let moves = pair.node.moves;
     let saving = best.saving;
     BestPair {
         named: best.number / moves,

@@ -10,6 +10,7 @@ ghost use Rattle.graph.specs.Tables.{lent_table};
 use crate::write;
 use graph::table::Table;
 use graph::{Lent, table};
+use moves::decide::Pair;
 use moves::{Saving, decide, gains, reading, words};
 
 // The best move of node v, counted from 0; what it saves.
@@ -107,7 +108,8 @@ pub fn rewrite_pair<'x>(
         v as usize,
         inputs + 1 + p,
     );
-    let best = decide::best_pair(named, node, which);
+    let pair = Pair { named, node, which };
+    let best = decide::best_pair(pair);
     let k = best.named;
     let m = best.node;
     let odds = gains::pair_odds(named, node, which, k, m);

@@ -9,6 +9,7 @@ ghost use Rattle.graph.specs.Tables.{lent_graph};
 
 use crate::rewrite;
 use graph::Lent;
+use moves::decide::Pair;
 use moves::{decide, reading, words};
 
 // Move a at node p and move k at node v above it, both counted from 0.
@@ -21,7 +22,8 @@ pub fn pair_saving(lent: &Lent, p: u32, v: u32, a: u32, k: u32) -> i64
     let named = reading::numbers_of(lent, p);
     let node = reading::numbers_of(lent, v);
     let which = words::which_name(&lent.node_table, v as usize, lent.inputs + 1 + p);
-    decide::pair_saving(named, node, which, a, k)
+    let pair = Pair { named, node, which };
+    decide::pair_saving(pair, a, k)
 }
 
 // Move a at the node that a word of a node names, if it names one, and move k at the node.

@@ -5,6 +5,7 @@ use Rattle.graph.specs.Finite.{if_equal, if_less}
 use Rattle.graph.specs.Graph.{Graph, mark, node, word, is_edge, is_xor}
 use Rattle.moves.specs.Rows.{arity, flag, moves_at}
 use Rattle.moves.specs.Tree.{root_of, tree}
+use Rattle.moves.specs.declared.decide.Weights.{Weights}
 use Rattle.resistive.specs.Family.{weight, family_by, stored, packed, key_stored}
 use Rattle.resistive.specs.Resistive.{still_moves, best_still}
 use Rattle.state.specs.State.{field}
@@ -35,6 +36,12 @@ word_keys h sc v s w =
 -- what such numbers can be
 abbrev pub Low : List ℕ → Type 0
 Low z = (i : ℕ) → get_or z i 0 ≤ 304100
+
+-- what is weighed of a node's moves, its reader's families beside
+pub record LowWeights (w : Weights) : Type 0 where
+  pub costs : Low w.costs
+  pub still : w.still ≤ 1216400
+  pub turned : w.turned ≤ 1216400
 
 -- the third of a node's words, which ends with the bit 0 at the cost e or 1 at f, once m of the others are complemented; the second and
 -- the third; all

@@ -14,6 +14,7 @@ ghost use Rattle.graph.specs.Tables.{lent_graph};
 use crate::{family, keys, numbers};
 use graph::Lent;
 use graph::literal::MARK;
+use moves::decide::Weights;
 use moves::rows;
 use trees::fields::{read, store};
 
@@ -57,10 +58,20 @@ pub fn decide_key(lent: &Lent, v: usize, scratch: &[u32]) -> u32
     let moves = rows::moves_at(&lent.node_table, lent.locks, v);
     let place = read(scratch, v, 3);
     if place == MARK {
-        return family::first_score(xor, still_moves(xor, moves), z, 0, 0);
+        let w = Weights {
+            costs: z,
+            still: 0,
+            turned: 0,
+        };
+        return family::first_score(xor, still_moves(xor, moves), w);
     }
     let beside = reader_keys(lent, v, place as usize / 3, scratch);
-    family::first_score(xor, moves, z, beside[0], beside[1])
+    let w = Weights {
+        costs: z,
+        still: beside[0],
+        turned: beside[1],
+    };
+    family::first_score(xor, moves, w)
 }
 
 // The moves of the tree of node `root`, whose costs are stored, by falling index: each in the place of the node's costs.

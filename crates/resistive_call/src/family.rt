@@ -2,11 +2,10 @@
 ghost use Rattle.std.specs.Prelude.{◌≡◌, true, false, ◌⊎◌, ◌+◌, ◌*◌, ◌≤◌, ◌<◌, min};
 ghost use Rattle.choice.specs.Inner.{FirstBelow};
 ghost use Rattle.moves.specs.Rows.{arity, flag};
-ghost use Rattle.moves.specs.Decide.{LeastBelow};
 ghost use Rattle.resistive.specs.Family.{weight, family_by, packed};
-ghost use Rattle.resistive_call.specs.Keys.{third_by, chain_by, Weighed, Low, score_by, turn_by, key_by};
+ghost use Rattle.resistive_call.specs.Keys.{third_by, chain_by, Weighed, Low, LowWeights, score_by, turn_by, key_by};
 
-use moves::decide::{LeastMove, either};
+use moves::decide::{LeastMove, Weights, either};
 use moves::rows;
 
 // What a node of the tree with n complemented inputs adds to the key.
@@ -86,72 +85,52 @@ pub fn family_under(xor: bool, z: [u32; 6], k: u32) -> u32
 }
 
 // Move m with what the node's reader adds: `still`, or `turned` once its readers are turned.
-pub fn score(xor: bool, z: [u32; 6], still: u32, turned: u32, m: u32) -> u32
-    requires { Low z × (still ≤ 1216400) × (turned ≤ 1216400) × (m < arity xor) }
-    ensures { result ≡ score_by xor z still turned m }
+pub fn score(xor: bool, w: Weights, m: u32) -> u32
+    requires { LowWeights w × (m < arity xor) }
+    ensures { result ≡ score_by xor w.costs w.still w.turned m }
 {
-    let shown = either(rows::flag_of(xor, m, 3), still, turned);
+    let shown = either(rows::flag_of(xor, m, 3), w.still, w.turned);
+    let z = w.costs;
     family_of(xor, z, m) + shown
 }
 
-// Move m where it scores less than the least move below it.
-pub fn if_less(
-    xor: bool,
-    z: [u32; 6],
-    still: u32,
-    turned: u32,
-    least: LeastMove,
-    m: u32,
-) -> LeastMove
-    requires { Low z × (still ≤ 1216400) × (turned ≤ 1216400) × (m < arity xor) × LeastBelow (score_by xor z still turned) m least.number least.cost }
-    ensures { LeastBelow (score_by xor z still turned) (m + 1) result.number result.cost }
-{
-    let cost = score(xor, z, still, turned, m);
-    if cost < least.cost {
-        return LeastMove { number: m, cost };
-    }
-    least
-}
-
 // Kinds and moves are written out, so that the compiler reads the table of rows.
-pub fn first_of_majority(z: [u32; 6], still: u32, turned: u32) -> u32
-    requires { Low z × (still ≤ 1216400) × (turned ≤ 1216400) }
-    ensures { FirstBelow (score_by false z still turned) 2 result }
+pub fn first_of_majority(w: Weights) -> u32
+    requires { LowWeights w }
+    ensures { FirstBelow (score_by false w.costs w.still w.turned) 2 result }
 {
-    let cost = score(false, z, still, turned, 0);
-    let least = LeastMove { number: 0, cost };
-    let least = if_less(false, z, still, turned, least, 1);
+    let least = LeastMove::no_move(score(false, w, 0));
+    let least = least.or_move(1, score(false, w, 1));
     least.number
 }
 
 // Of an XOR's first two moves, or of all.
-pub fn first_of_xor(moves: u32, z: [u32; 6], still: u32, turned: u32) -> u32
-    requires { Low z × (still ≤ 1216400) × (turned ≤ 1216400) × ((moves ≡ 2) ⊎ (moves ≡ 4)) }
-    ensures { FirstBelow (score_by true z still turned) moves result }
+pub fn first_of_xor(moves: u32, w: Weights) -> u32
+    requires { LowWeights w × ((moves ≡ 2) ⊎ (moves ≡ 4)) }
+    ensures { FirstBelow (score_by true w.costs w.still w.turned) moves result }
 {
-    let cost = score(true, z, still, turned, 0);
-    let least = LeastMove { number: 0, cost };
-    let least = if_less(true, z, still, turned, least, 1);
+    let least = LeastMove::no_move(score(true, w, 0));
+    let least = least.or_move(1, score(true, w, 1));
     if moves == 2 {
         return least.number;
     }
-    let least = if_less(true, z, still, turned, least, 2);
-    let least = if_less(true, z, still, turned, least, 3);
+    let least = least.or_move(2, score(true, w, 2));
+    let least = least.or_move(3, score(true, w, 3));
     least.number
 }
 
 // The first of the least of so many moves.
-pub fn first_score(xor: bool, moves: u32, z: [u32; 6], still: u32, turned: u32) -> u32
-    requires { Low z × (still ≤ 1216400) × (turned ≤ 1216400) × Weighed xor moves }
-    ensures { FirstBelow (score_by xor z still turned) moves result }
+pub fn first_score(xor: bool, moves: u32, w: Weights) -> u32
+    requires { LowWeights w × Weighed xor moves }
+    ensures { FirstBelow (score_by xor w.costs w.still w.turned) moves result }
 {
     if moves == 1 {
         return 0;
     }
     if xor {
-        return first_of_xor(moves, z, still, turned);
+        return first_of_xor(moves, w);
     }
-    first_of_majority(z, still, turned)
+    first_of_majority(w)
 }
 
 // The least family of the moves that turn the readers t times.

@@ -4,21 +4,21 @@ use Rattle.moves.proofs.decide.best_pair.Goals as goal
 
 pub nonzero_div-result : goal.nonzero_div-result
 nonzero_div-result c =
-    some_moves c.args.named c.args.node c.args.which c.requires.0 c.requires.1
+    some_moves c.args.pair.named c.args.pair.node c.args.pair.which c.requires.named c.requires.node
 
 pub nonzero_rem-result : goal.nonzero_rem-result
 nonzero_rem-result c =
-    some_moves c.args.named c.args.node c.args.which c.requires.0 c.requires.1
+    some_moves c.args.pair.named c.args.pair.node c.args.pair.which c.requires.named c.requires.node
 
 pub count_of-requires : goal.count_of-requires
 count_of-requires c =
-    not_negative c.args.named c.args.node c.args.which c.requires.0 c.requires.1 c.best_numbered-best.result c.best_numbered-best.ensures
+    not_negative c.args.pair.named c.args.pair.node c.args.pair.which c.requires.named c.requires.node c.best_numbered-best.result c.best_numbered-best.ensures
 
 pub returns : goal.returns
 returns c =
     let a = c.args in
     let r = c.best_numbered-best in
     record {
-      greatest = won a.named a.node a.which c.requires.0 c.requires.1 r.result r.ensures;
-      saving = won_saving a.named a.node a.which c.requires.0 c.requires.1 r.result r.ensures _ c.count_of.ensures;
+      greatest = won a.pair.named a.pair.node a.pair.which c.requires.named c.requires.node r.result r.ensures;
+      saving = won_saving a.pair.named a.pair.node a.pair.which c.requires.named c.requires.node r.result r.ensures _ c.count_of.ensures;
     }

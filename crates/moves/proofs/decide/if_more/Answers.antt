@@ -6,10 +6,10 @@ pub returns-then-most-saving : goal.returns-then-most-saving
 returns-then-most-saving c =
     let a = c.args in
     let r = c.saving_numbered-saving in
-    taken a.named a.node a.which c.requires.0 c.requires.1 a.c a.best c.requires.4 r.result r.ensures c.if-most-saving.true
+    taken a.pair.named a.pair.node a.pair.which c.requires.0.named c.requires.0.node a.c a.best c.requires.2 r.result r.ensures c.if-most-saving.true
 
 pub returns : goal.returns
 returns c =
     let a = c.args in
     let r = c.saving_numbered-saving in
-    kept a.named a.node a.which c.requires.0 c.requires.1 a.c a.best c.requires.4 r.result r.ensures c.if-most-saving.false
+    kept a.pair.named a.pair.node a.pair.which c.requires.0.named c.requires.0.node a.c a.best c.requires.2 r.result r.ensures c.if-most-saving.false

@@ -3,14 +3,21 @@ use Rattle.std.proofs.Common.{arith}
 use Rattle.moves.specs.Rows.{arity}
 use Rattle.moves.proofs.decide.least_of_xor.Goals as goal
 
-pub if_less-least-requires : goal.if_less-least-requires
+pub cost_by-requires : goal.cost_by-requires
 unfolding arity
-if_less-least-requires c = (c.requires, omega arith, c.no_move-least.ensures)
+cost_by-requires c = (c.requires, omega arith)
 
-pub if_less-least-requires-2 : goal.if_less-least-requires-2
+pub cost_by-requires-2 : goal.cost_by-requires-2
 unfolding arity
-if_less-least-requires-2 c = (c.requires, omega arith, c.if_less-least.ensures)
+cost_by-requires-2 c = (c.requires, omega arith)
 
-pub if_less-requires : goal.if_less-requires
+pub cost_by-requires-3 : goal.cost_by-requires-3
 unfolding arity
-if_less-requires c = (c.requires, omega arith, c.if_less-least-2.ensures)
+cost_by-requires-3 c = (c.requires, omega arith)
+
+pub cost_by-requires-4 : goal.cost_by-requires-4
+unfolding arity
+cost_by-requires-4 c = (c.requires, omega arith)
+
+pub returns : goal.returns
+returns c = c.or_move.ensures _ (c.or_move-least-2.ensures _ (c.or_move-least.ensures _ (c.no_move-least.ensures _ c.cost_by.ensures.0) c.cost_by-2.ensures.0) c.cost_by-3.ensures.0) c.cost_by-4.ensures.0

@@ -6,13 +6,13 @@ use Rattle.moves.proofs.Pair.{some_moves, numbered_fits}
 use Rattle.moves.proofs.decide.saving_numbered.Goals as goal
 
 pub nonzero_div-c : goal.nonzero_div-c
-nonzero_div-c c = some_moves c.args.named c.args.node c.args.which c.requires.0 c.requires.1
+nonzero_div-c c = some_moves c.args.pair.named c.args.pair.node c.args.pair.which c.requires.0.named c.requires.0.node
 
 pub pair_saving-requires : goal.pair_saving-requires
 pair_saving-requires c =
     let a = c.args in
-    let f = numbered_fits a.named a.node a.which c.requires.0 c.requires.1 a.c c.requires.3 in
-    (c.requires.0, c.requires.1, c.requires.2, f.0, f.1)
+    let f = numbered_fits a.pair.named a.pair.node a.pair.which c.requires.0.named c.requires.0.node a.c c.requires.1 in
+    (c.requires.0, f.0, f.1)
 
 pub returns : goal.returns
 unfolding saving_numbered

@@ -20,7 +20,7 @@ best_pair-best-requires c =
     let n = c.numbers_of-node in
     let w = c.which_name-which in
     let wn = w.ensures a.inputs a.nodes a.outputs (literals a.output_table.now a.output_bits.now) in
-    (counted g a.locks.now a.p p.result c.requires.0 p.ensures, counted g a.locks.now a.v n.result c.requires.0 n.ensures, naming_bits g a.v _ w.result wn)
+    record { named = counted g a.locks.now a.p p.result c.requires.0 p.ensures; node = counted g a.locks.now a.v n.result c.requires.0 n.ensures; which = naming_bits g a.v _ w.result wn }
 
 pub pair_odds-odds-requires : goal.pair_odds-odds-requires
 pair_odds-odds-requires c =

@@ -22,7 +22,7 @@ pair_saving-requires c =
     let w = c.which_name-which in
     let wn = w.ensures a.lent.now.inputs a.lent.now.nodes a.lent.now.outputs (lent_table a.lent.now.output_table) in
     let f = tried_fit g a.lent.now.locks.now c.requires.0 a.p a.v c.requires.1 c.requires.2 p.result n.result w.result p.ensures n.ensures wn a.a a.k c.requires.4 c.requires.5 in
-    (counted g a.lent.now.locks.now a.p p.result c.requires.0 p.ensures, counted g a.lent.now.locks.now a.v n.result c.requires.0 n.ensures, naming_bits g a.v _ w.result wn, f.0, f.1)
+    (record { named = counted g a.lent.now.locks.now a.p p.result c.requires.0 p.ensures; node = counted g a.lent.now.locks.now a.v n.result c.requires.0 n.ensures; which = naming_bits g a.v _ w.result wn }, f.0, f.1)
 
 pub returns : goal.returns
 returns c =

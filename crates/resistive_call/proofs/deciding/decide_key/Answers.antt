@@ -21,7 +21,7 @@ moves_at-moves-requires c = (readable (graph-of (goal.at.moves_at-moves-requires
 pub first_score-requires : goal.first_score-requires
 first_score-requires c =
     let n = weighed_still _ _ _ (moves_some (graph-of (goal.at.first_score-requires c).Start) c.args.lent.now.locks.now c.args.scratch.now c.args.v _ _ (c.is_xor-xor.ensures _ _ _ _) (c.moves_at-moves.ensures _ _ _ _ c.requires.1)) c.still_moves.ensures in
-    (low_as _ _ _ _ _ _ c.numbers_at-z.ensures c.requires.4.own, omega arith, omega arith, n)
+    (record { costs = low_as _ _ _ _ _ _ c.numbers_at-z.ensures c.requires.4.own; still = omega arith; turned = omega arith }, n)
 
 pub returns-then-place : goal.returns-then-place
 returns-then-place c =
@@ -36,7 +36,7 @@ pub first_score-requires-2 : goal.first_score-requires-2
 first_score-requires-2 c =
     let n = weighed_all _ _ (moves_some (graph-of (goal.at.first_score-requires-2 c).Start) c.args.lent.now.locks.now c.args.scratch.now c.args.v _ _ (c.is_xor-xor.ensures _ _ _ _) (c.moves_at-moves.ensures _ _ _ _ c.requires.1)) in
     let l = c.reader_keys-beside.ensures.1 in
-    (low_as _ _ _ _ _ _ c.numbers_at-z.ensures c.requires.4.own, l 0, l 1, n)
+    (record { costs = low_as _ _ _ _ _ _ c.numbers_at-z.ensures c.requires.4.own; still = l 0; turned = l 1 }, n)
 
 pub returns : goal.returns
 returns c =

@@ -8,10 +8,10 @@ pub returns-then-moves-eq1 : goal.returns-then-moves-eq1
 returns-then-moves-eq1 c = first_ends (scan_one _) (sym c.if-moves-eq1.true)
 
 pub first_of_xor-requires : goal.first_of_xor-requires
-first_of_xor-requires c = let p = c.requires in (p.0, p.1, p.2, weighed_xor _ _ c.if-xor.true c.if-moves-eq1.false p.3)
+first_of_xor-requires c = let p = c.requires in (p.0, weighed_xor _ _ c.if-xor.true c.if-moves-eq1.false p.1)
 
 pub returns-then-xor : goal.returns-then-xor
 returns-then-xor c = as_xor _ _ _ _ _ _ c.if-xor.true c.first_of_xor.ensures
 
 pub returns : goal.returns
-returns c = as_majority _ _ _ _ _ _ c.if-xor.false c.if-moves-eq1.false c.requires.3 c.first_of_majority.ensures
+returns c = as_majority _ _ _ _ _ _ c.if-xor.false c.if-moves-eq1.false c.requires.1 c.first_of_majority.ensures
