@@ -1,9 +1,9 @@
 #![tactic(auto)]
 
-ghost use Rattle.std.specs.Prelude.{◌≡◌, [], ◌∷◌};
+ghost use Rattle.std.specs.Prelude.{◌≡◌, [], ◌∷◌, IfOk};
 ghost use Rattle.graph.specs.Count.{C};
-ghost use Rattle.graph.specs.Admission.{admission_number};
-ghost use Rattle.graph.specs.Answer.{accepted, unless, admission_answer, count_answer, number_of};
+ghost use Rattle.graph.specs.Admission.{Admitted, admission_number};
+ghost use Rattle.graph.specs.Answer.{accepted, unless, admission_answer, count_answer, number_of, refusal_number};
 ghost use Rattle.graph.specs.Tables.{lent_graph};
 
 pub mod decimal;
@@ -50,6 +50,13 @@ pub struct Lent<'a> {
     pub locks: &'a [u8],
 }
 
+// A graph that is admitted: so made where a call has been through its checks, and lent on to what relies on them.
+#[derive(Clone, Copy)]
+pub struct Circuit<'a> {
+    pub lent: Lent<'a>,
+    pub ghost admitted: { Admitted (lent_graph lent) },
+}
+
 impl From<Refusal> for u32 {
     ghost from_gives = { λ r n. n ≡ number_of r };
 
@@ -84,6 +91,15 @@ pub fn admit_graph(lent: &Lent) -> Result<(), Refusal>
     ensures { admission_answer result ≡ unless (admission_number (lent_graph lent.now) lent.now.locks.now) (accepted []) }
 {
     faults::check_admission(lent)
+}
+
+// The circuit that a graph is with its locks, where they are admitted.
+pub fn admitted<'a>(lent: &Lent<'a>) -> Result<Circuit<'a>, Refusal>
+    ensures number { refusal_number result ≡ admission_number (lent_graph lent.now) lent.now.locks.now }
+    ensures same { IfOk result (λ c. c.lent ≡ lent.now) }
+{
+    faults::check_admission(lent)?;
+    Ok(Circuit { lent: *lent })
 }
 
 // How many edges are complemented: document 01's C.
