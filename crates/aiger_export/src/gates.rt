@@ -9,7 +9,7 @@ ghost use Rattle.aiger_export.specs.Inner.{Filled};
 ghost use Rattle.graph.specs.Tables.{lent_graph, lent_table};
 
 use graph::table::Table;
-use graph::{Lent, table};
+use graph::{Circuit, table};
 
 // The ANDs of node v.
 pub fn gates_at(node_table: &Table, v: usize) -> u32
@@ -24,45 +24,42 @@ pub fn gates_at(node_table: &Table, v: usize) -> u32
 }
 
 // The ANDs of all nodes.
-pub fn gate_count(lent: &Lent) -> u32
-    requires { let g = lent_graph lent.now in
-        Admitted g }
-    ensures { let g = lent_graph lent.now in
-        result ≡ gates_before g lent.now.nodes }
+pub fn gate_count(circuit: &Circuit) -> u32
+    ensures { let g = lent_graph circuit.now.lent in
+        result ≡ gates_before g circuit.now.lent.nodes }
 {
     let mut count: u32 = 0;
-    for v in 0..lent.nodes {
-        count += gates_at(&lent.node_table, v as usize);
+    for v in 0..circuit.lent.nodes {
+        count += gates_at(&circuit.lent.node_table, v as usize);
     }
     count
 }
 
 // Puts the even literal that each node has in the text into scratch.
-pub fn fill_literals(lent: &Lent, scratch: &mut [u32])
-    requires { let g = lent_graph lent.now in
-        Admitted g × (lent.now.nodes ≤ length scratch.old) }
-    ensures { let g = lent_graph lent.now in
+pub fn fill_literals(circuit: &Circuit, scratch: &mut [u32])
+    requires { circuit.now.lent.nodes ≤ length scratch.old }
+    ensures { let g = lent_graph circuit.now.lent in
         Filled g scratch.new }
 {
-    let end = lent.nodes as usize;
-    let mut last = lent.inputs;
+    let end = circuit.lent.nodes as usize;
+    let mut last = circuit.lent.inputs;
     for v in 0..end {
-        last += gates_at(&lent.node_table, v);
+        last += gates_at(&circuit.lent.node_table, v);
         scratch[v] = 2 * last;
     }
 }
 
 // A literal of the graph in the text.
-pub fn literal(lent: &Lent, scratch: &[u32], x: u32) -> u32
-    requires { let g = lent_graph lent.now in
-        Admitted g × (lent.now.nodes ≤ length scratch.now) × Filled g scratch.now × (index x < node g lent.now.nodes) }
-    ensures { let g = lent_graph lent.now in
+pub fn literal(circuit: &Circuit, scratch: &[u32], x: u32) -> u32
+    requires { let g = lent_graph circuit.now.lent in
+        (circuit.now.lent.nodes ≤ length scratch.now) × Filled g scratch.now × (index x < node g circuit.now.lent.nodes) }
+    ensures { let g = lent_graph circuit.now.lent in
         result ≡ exported g x }
 {
     let index = x / 2;
-    if index <= lent.inputs {
+    if index <= circuit.lent.inputs {
         return x;
     }
-    let v = (index - lent.inputs - 1) as usize;
+    let v = (index - circuit.lent.inputs - 1) as usize;
     scratch[v] + (x + 1) % 2
 }

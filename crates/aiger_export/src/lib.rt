@@ -23,7 +23,7 @@ pub fn export(lent: &Lent, scratch: &mut [u32], buffer: &mut [u8]) -> Result<usi
         write_outcome (written_answer result) buffer.new ≡ export_call g lent.now.locks.now scratch.old buffer.old }
     ensures scratch { ScratchKept (written_answer result) scratch.old scratch.new }
 {
-    faults::check_export(lent, scratch.len(), buffer.len())?;
-    gates::fill_literals(lent, scratch);
-    Ok(text::put_text(lent, scratch, buffer))
+    let circuit = faults::check_export(lent, scratch.len(), buffer.len())?;
+    gates::fill_literals(&circuit, scratch);
+    Ok(text::put_text(&circuit, scratch, buffer))
 }

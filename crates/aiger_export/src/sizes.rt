@@ -9,7 +9,7 @@ ghost use Rattle.graph.specs.Tables.{lent_graph};
 use crate::gates;
 use crate::steps::{Steps, graph_steps, text_wide, wide_by};
 use graph::decimal::length_of;
-use graph::{Lent, table};
+use graph::{Circuit, table};
 
 // The ANDs of an XOR, the first with index b, whose words are that wide.
 pub fn xor_size(b: u32, x: usize, y: usize) -> usize
@@ -33,32 +33,37 @@ pub fn majority_size(b: u32, x: usize, y: usize, z: usize) -> usize
 }
 
 // The lines of node v, whose first AND has index b.
-pub fn node_size(lent: &Lent, steps: Steps, b: u32, v: usize) -> usize
-    requires { let g = lent_graph lent.now in
-        Admitted g × Fit g steps × (v < lent.now.nodes) × (b ≡ lent.now.inputs + 1 + gates_before g v) }
-    ensures { let g = lent_graph lent.now in
+pub fn node_size(circuit: &Circuit, steps: Steps, b: u32, v: usize) -> usize
+    requires { let g = lent_graph circuit.now.lent in
+        Fit g steps × (v < circuit.now.lent.nodes) × (b ≡ circuit.now.lent.inputs + 1 + gates_before g v) }
+    ensures { let g = lent_graph circuit.now.lent in
         (result ≡ length (node_lines g v)) × (result ≤ 84) }
 {
     let at = 3 * v;
-    let x = wide_by(steps, lent.node_table.index_at(at));
-    let y = wide_by(steps, lent.node_table.index_at(at + 1));
-    if lent.node_table.is_mark_at(at + 2) {
+    let x = wide_by(steps, circuit.lent.node_table.index_at(at));
+    let y = wide_by(steps, circuit.lent.node_table.index_at(at + 1));
+    if circuit.lent.node_table.is_mark_at(at + 2) {
         return xor_size(b, x, y);
     }
-    majority_size(b, x, y, wide_by(steps, lent.node_table.index_at(at + 2)))
+    majority_size(
+        b,
+        x,
+        y,
+        wide_by(steps, circuit.lent.node_table.index_at(at + 2)),
+    )
 }
 
-pub fn nodes_size(lent: &Lent, steps: Steps) -> usize
-    requires { let g = lent_graph lent.now in
-        Admitted g × Fit g steps }
-    ensures { let g = lent_graph lent.now in
-        (result ≡ length (in_order (node_lines g) 0 lent.now.nodes)) × (result ≤ 84 * lent.now.nodes) }
+pub fn nodes_size(circuit: &Circuit, steps: Steps) -> usize
+    requires { let g = lent_graph circuit.now.lent in
+        Fit g steps }
+    ensures { let g = lent_graph circuit.now.lent in
+        (result ≡ length (in_order (node_lines g) 0 circuit.now.lent.nodes)) × (result ≤ 84 * circuit.now.lent.nodes) }
 {
     let mut size: usize = 0;
-    let mut b = lent.inputs + 1;
-    for v in 0..lent.nodes as usize {
-        size += node_size(lent, steps, b, v);
-        b += gates::gates_at(&lent.node_table, v);
+    let mut b = circuit.lent.inputs + 1;
+    for v in 0..circuit.lent.nodes as usize {
+        size += node_size(circuit, steps, b, v);
+        b += gates::gates_at(&circuit.lent.node_table, v);
     }
     size
 }
@@ -74,15 +79,15 @@ pub fn inputs_size(inputs: u32) -> usize
     size
 }
 
-pub fn outputs_size(lent: &Lent, steps: Steps) -> usize
-    requires { let g = lent_graph lent.now in
-        Admitted g × Fit g steps }
-    ensures { let g = lent_graph lent.now in
-        (result ≡ length (in_order (output_line g) 0 lent.now.outputs)) × (result ≤ 84 * lent.now.outputs) }
+pub fn outputs_size(circuit: &Circuit, steps: Steps) -> usize
+    requires { let g = lent_graph circuit.now.lent in
+        Fit g steps }
+    ensures { let g = lent_graph circuit.now.lent in
+        (result ≡ length (in_order (output_line g) 0 circuit.now.lent.outputs)) × (result ≤ 84 * circuit.now.lent.outputs) }
 {
     let mut size: usize = 0;
-    for j in 0..lent.outputs as usize {
-        size += wide_by(steps, lent.output_table.index_at(j));
+    for j in 0..circuit.lent.outputs as usize {
+        size += wide_by(steps, circuit.lent.output_table.index_at(j));
     }
     size
 }
@@ -103,16 +108,14 @@ pub fn most_bytes(inputs: u32, nodes: u32, outputs: u32) -> usize
 }
 
 // The whole text.
-pub fn text_size(lent: &Lent) -> usize
-    requires { let g = lent_graph lent.now in
-        Admitted g }
-    ensures { let g = lent_graph lent.now in
+pub fn text_size(circuit: &Circuit) -> usize
+    ensures { let g = lent_graph circuit.now.lent in
         result ≡ length (export_text g) }
 {
-    let count = gates::gate_count(lent);
-    let steps = graph_steps(lent);
-    header_size(lent.inputs, count, lent.outputs)
-        + inputs_size(lent.inputs)
-        + outputs_size(lent, steps)
-        + nodes_size(lent, steps)
+    let count = gates::gate_count(circuit);
+    let steps = graph_steps(circuit);
+    header_size(circuit.lent.inputs, count, circuit.lent.outputs)
+        + inputs_size(circuit.lent.inputs)
+        + outputs_size(circuit, steps)
+        + nodes_size(circuit, steps)
 }

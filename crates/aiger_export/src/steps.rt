@@ -6,7 +6,7 @@ ghost use Rattle.aiger_export.specs.Inner.{wide_by, halves, Step, Fit};
 ghost use Rattle.graph.specs.Tables.{lent_graph};
 
 use crate::gates;
-use graph::Lent;
+use graph::Circuit;
 
 // The least index whose literal has two digits, three, and so on.
 #[derive(Clone, Copy)]
@@ -54,37 +54,33 @@ pub fn text_wide(index: u32) -> usize
 }
 
 // The least index of the graph whose literals have at least the index `half` in the text; past the last where none have.
-pub fn step_at(lent: &Lent, half: u32) -> u32
-    requires { let g = lent_graph lent.now in
-        Admitted g }
-    ensures { let g = lent_graph lent.now in
+pub fn step_at(circuit: &Circuit, half: u32) -> u32
+    ensures { let g = lent_graph circuit.now.lent in
         Step g half result }
 {
-    if half <= lent.inputs {
+    if half <= circuit.lent.inputs {
         return half;
     }
-    let mut last = lent.inputs;
-    for v in 0..lent.nodes {
-        last += gates::gates_at(&lent.node_table, v as usize);
+    let mut last = circuit.lent.inputs;
+    for v in 0..circuit.lent.nodes {
+        last += gates::gates_at(&circuit.lent.node_table, v as usize);
         if half <= last {
-            return lent.inputs + 1 + v;
+            return circuit.lent.inputs + 1 + v;
         }
     }
-    lent.inputs + 1 + lent.nodes
+    circuit.lent.inputs + 1 + circuit.lent.nodes
 }
 
 // The steps of the graph's indices.
-pub fn graph_steps(lent: &Lent) -> Steps
-    requires { let g = lent_graph lent.now in
-        Admitted g }
-    ensures { let g = lent_graph lent.now in
+pub fn graph_steps(circuit: &Circuit) -> Steps
+    ensures { let g = lent_graph circuit.now.lent in
         Fit g result }
 {
     Steps {
-        two: step_at(lent, 5),
-        three: step_at(lent, 50),
-        four: step_at(lent, 500),
-        five: step_at(lent, 5000),
-        six: step_at(lent, 50000),
+        two: step_at(circuit, 5),
+        three: step_at(circuit, 50),
+        four: step_at(circuit, 500),
+        five: step_at(circuit, 5000),
+        six: step_at(circuit, 50000),
     }
 }

@@ -10,13 +10,13 @@ use Rattle.aiger_export.proofs.gates.fill_literals.Goals as goal
 use Rattle.aiger_export.proofs.gates.fill_literals.Goals.{After-gates_at-last}
 
 few : (c : After-gates_at-last) → c.loop-v.last + c.gates_at-last.result ≤ 500000
-few c = omega (arith, c.gates_at-last.ensures.1, counted_most _ _ _ _ c.loop-v.invariant.0, c.requires.0.few_nodes)
+few c = omega (arith, c.gates_at-last.ensures.1, counted_most _ _ _ _ c.loop-v.invariant.0, c.args.circuit.now.admitted.few_nodes)
 
 pub loop-v-init : goal.loop-v-init
 loop-v-init c = (counted_zero _ _, swept_zero _ _, refl)
 
 pub gates_at-last-requires : goal.gates_at-last-requires
-gates_at-last-requires c = readable _ c.requires.0 c.loop-v.v (omega arith)
+gates_at-last-requires c = readable _ c.args.circuit.now.admitted c.loop-v.v (omega arith)
 
 pub overflow_add-last : goal.overflow_add-last
 overflow_add-last c = omega (arith, few (goal.at.overflow_add-last c).After-gates_at-last)
@@ -36,4 +36,4 @@ pub shape_of-scratch : goal.shape_of-scratch
 shape_of-scratch c = c.loop-v.invariant.2
 
 pub returns : goal.returns
-returns c = rw c.loop-v.invariant.1 (held_all _ _ _ c.requires.1 c.loop-v-test.false)
+returns c = rw c.loop-v.invariant.1 (held_all _ _ _ c.requires c.loop-v-test.false)

@@ -9,6 +9,6 @@ use Rattle.graph.specs.Tables.{lent_graph}
 
 abbrev pub invariant-loop-v : goal.invariant-loop-v
 invariant-loop-v l =
-    Counted (lent_graph l.lent) l.lent.inputs l.v l.last
-    × (l.scratch ≡ swept (node_literal (lent_graph l.lent)) l.initial.scratch l.v)
+    Counted (lent_graph l.circuit.lent) l.circuit.lent.inputs l.v l.last
+    × (l.scratch ≡ swept (node_literal (lent_graph l.circuit.lent)) l.initial.scratch l.v)
     × (length l.scratch ≡ length l.initial.scratch)

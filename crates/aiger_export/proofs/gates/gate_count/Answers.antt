@@ -10,10 +10,10 @@ pub loop-v-init : goal.loop-v-init
 loop-v-init c = counted_zero _ _
 
 pub gates_at-count-requires : goal.gates_at-count-requires
-gates_at-count-requires c = readable _ c.requires c.loop-v.v (omega arith)
+gates_at-count-requires c = readable _ c.args.circuit.now.admitted c.loop-v.v (omega arith)
 
 pub overflow_add-count : goal.overflow_add-count
-overflow_add-count c = omega (arith, c.gates_at-count.ensures.1, counted_most _ _ _ _ c.loop-v.invariant, c.requires.few_nodes)
+overflow_add-count c = omega (arith, c.gates_at-count.ensures.1, counted_most _ _ _ _ c.loop-v.invariant, c.args.circuit.now.admitted.few_nodes)
 
 pub loop-v-preserved : goal.loop-v-preserved
 loop-v-preserved c =

@@ -4,4 +4,4 @@ use Rattle.aiger_export.proofs.gates.gate_count.Given as goal
 use Rattle.graph.specs.Tables.{lent_graph}
 
 abbrev pub invariant-loop-v : goal.invariant-loop-v
-invariant-loop-v l = Counted (lent_graph l.lent) 0 l.v l.count
+invariant-loop-v l = Counted (lent_graph l.circuit.lent) 0 l.v l.count

@@ -10,13 +10,13 @@ pub loop-v-init : goal.loop-v-init
 loop-v-init c = (summed_start _ _, counted_zero _ _)
 
 pub node_size-size-requires : goal.node_size-size-requires
-node_size-size-requires c = (c.requires.0, c.requires.1, omega arith, c.loop-v.invariant.1.sum)
+node_size-size-requires c = (c.requires, omega arith, c.loop-v.invariant.1.sum)
 
 pub gates_at-b-requires : goal.gates_at-b-requires
-gates_at-b-requires c = readable _ c.requires.0 c.loop-v.v (omega arith)
+gates_at-b-requires c = readable _ c.args.circuit.now.admitted c.loop-v.v (omega arith)
 
 pub overflow_add-b-in-loop-v : goal.overflow_add-b-in-loop-v
-overflow_add-b-in-loop-v c = omega (arith, c.gates_at-b.ensures.1, counted_most _ _ _ _ c.loop-v.invariant.1, c.requires.0)
+overflow_add-b-in-loop-v c = omega (arith, c.gates_at-b.ensures.1, counted_most _ _ _ _ c.loop-v.invariant.1, c.args.circuit.now.admitted)
 
 pub loop-v-preserved : goal.loop-v-preserved
 loop-v-preserved c =

@@ -9,5 +9,5 @@ use Rattle.graph.specs.Tables.{lent_graph}
 
 abbrev pub invariant-loop-v : goal.invariant-loop-v
 invariant-loop-v l =
-    Summed (node_lines (lent_graph l.lent)) l.lent.nodes l.size l.v
-    × Counted (lent_graph l.lent) (l.lent.inputs + 1) l.v l.b
+    Summed (node_lines (lent_graph l.circuit.lent)) l.circuit.lent.nodes l.size l.v
+    × Counted (lent_graph l.circuit.lent) (l.circuit.lent.inputs + 1) l.v l.b

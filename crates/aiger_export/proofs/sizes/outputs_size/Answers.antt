@@ -16,7 +16,7 @@ loop-j-preserved c =
     let w = c.wide_by-size.ensures in
     let i = c.loop-j in
     summed_more _ _ i.size i.j i.invariant (omega arith) _
-    (w.0 ∙ ap (wide_by c.args.steps) (names_index c.index_at.ensures (out_low _ c.requires.0 i.j (omega arith))) ∙ sym (output_wide _ c.requires.0 c.args.steps c.requires.1 i.j (omega arith)))
+    (w.0 ∙ ap (wide_by c.args.steps) (names_index c.index_at.ensures (out_low _ c.args.circuit.now.admitted i.j (omega arith))) ∙ sym (output_wide _ c.args.circuit.now.admitted c.args.steps c.requires i.j (omega arith)))
     (omega arith)
 
 pub returns : goal.returns

@@ -5,4 +5,4 @@ use Rattle.aiger_export.proofs.sizes.outputs_size.Given as goal
 use Rattle.graph.specs.Tables.{lent_graph}
 
 abbrev pub invariant-loop-j : goal.invariant-loop-j
-invariant-loop-j l = Summed (output_line (lent_graph l.lent)) l.lent.outputs l.size l.j
+invariant-loop-j l = Summed (output_line (lent_graph l.circuit.lent)) l.circuit.lent.outputs l.size l.j

@@ -8,10 +8,10 @@ use Rattle.graph.specs.Tables.{lent_graph}
 
 pub header_size-requires : goal.header_size-requires
 header_size-requires c =
-    omega (arith, c.requires, c.gate_count-count.ensures, few_gates _ c.requires)
+    omega (arith, c.args.circuit.now.admitted, c.gate_count-count.ensures, few_gates _ c.args.circuit.now.admitted)
 
 pub returns : goal.returns
 returns c =
     let a = c.args in
-    let g : Graph = lent_graph a.lent.now in
+    let g : Graph = lent_graph a.circuit.now.lent in
     omega (arith, text_long g _ c.gate_count-count.ensures, c.header_size.ensures.0, c.inputs_size.ensures.0, c.outputs_size.ensures.0, c.nodes_size.ensures.0)

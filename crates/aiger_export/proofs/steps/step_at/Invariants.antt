@@ -5,4 +5,4 @@ use Rattle.aiger_export.proofs.steps.step_at.Given as goal
 use Rattle.graph.specs.Tables.{lent_graph}
 
 abbrev pub invariant-loop-v : goal.invariant-loop-v
-invariant-loop-v l = Counted (lent_graph l.lent) l.lent.inputs l.v l.last × (l.last < l.half)
+invariant-loop-v l = Counted (lent_graph l.circuit.lent) l.circuit.lent.inputs l.v l.last × (l.last < l.half)

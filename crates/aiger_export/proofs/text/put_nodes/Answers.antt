@@ -8,7 +8,7 @@ loop-v-init c = left_start _ _ _ _
 
 pub put_node-at-requires : goal.put_node-at-requires
 put_node-at-requires c =
-    (c.requires.0, c.requires.1, c.requires.2, omega arith, left_room _ _ _ _ _ _ _ _ c.loop-v.invariant (omega arith) c.requires.3)
+    (c.requires.0, c.requires.1, omega arith, left_room _ _ _ _ _ _ _ _ c.loop-v.invariant (omega arith) c.requires.2)
 
 pub loop-v-preserved : goal.loop-v-preserved
 loop-v-preserved c =

@@ -7,4 +7,4 @@ use Rattle.graph.specs.Tables.{lent_graph}
 
 abbrev pub invariant-loop-v : goal.invariant-loop-v
 invariant-loop-v l =
-    Left (node_lines (lent_graph l.lent)) l.lent.nodes l.start l.initial.buffer l.buffer l.at l.v (l.lent.nodes - l.v)
+    Left (node_lines (lent_graph l.circuit.lent)) l.circuit.lent.nodes l.start l.initial.buffer l.buffer l.at l.v (l.circuit.lent.nodes - l.v)

@@ -8,7 +8,7 @@ loop-j-init c = left_start _ _ _ _
 
 pub put_output-at-requires : goal.put_output-at-requires
 put_output-at-requires c =
-    (c.requires.0, c.requires.1, c.requires.2, omega arith, left_room _ _ _ _ _ _ _ _ c.loop-j.invariant (omega arith) c.requires.3)
+    (c.requires.0, c.requires.1, omega arith, left_room _ _ _ _ _ _ _ _ c.loop-j.invariant (omega arith) c.requires.2)
 
 pub loop-j-preserved : goal.loop-j-preserved
 loop-j-preserved c =

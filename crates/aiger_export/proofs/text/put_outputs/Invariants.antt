@@ -7,4 +7,4 @@ use Rattle.graph.specs.Tables.{lent_graph}
 
 abbrev pub invariant-loop-j : goal.invariant-loop-j
 invariant-loop-j l =
-    Left (output_line (lent_graph l.lent)) l.lent.outputs l.start l.initial.buffer l.buffer l.at l.j (l.lent.outputs - l.j)
+    Left (output_line (lent_graph l.circuit.lent)) l.circuit.lent.outputs l.start l.initial.buffer l.buffer l.at l.j (l.circuit.lent.outputs - l.j)

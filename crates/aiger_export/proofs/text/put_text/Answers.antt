@@ -15,11 +15,11 @@ use Rattle.aiger_export.proofs.text.put_text.Goals.{Start}
 use Rattle.graph.specs.Tables.{lent_graph}
 
 abbrev graph : Start → Graph
-graph s = let a = s.args in lent_graph a.lent.now
+graph s = let a = s.args in lent_graph a.circuit.now.lent
 
 pub put_header-first-requires : goal.put_header-first-requires
 put_header-first-requires c =
-    omega (arith, few_gates _ c.requires.0, text_long (graph (goal.at.put_header-first-requires c).Start) _ c.gate_count-count.ensures)
+    omega (arith, few_gates _ c.args.circuit.now.admitted, text_long (graph (goal.at.put_header-first-requires c).Start) _ c.gate_count-count.ensures)
 
 pub put_inputs-second-requires : goal.put_inputs-second-requires
 put_inputs-second-requires c =
@@ -28,12 +28,12 @@ put_inputs-second-requires c =
 pub put_outputs-third-requires : goal.put_outputs-third-requires
 put_outputs-third-requires c =
     let h = c.requires in
-    (h.0, h.1, h.2, omega (arith, h, text_long (graph (goal.at.put_outputs-third-requires c).Start) _ c.gate_count-count.ensures, c.put_header-first, c.put_inputs-second))
+    (h.0, h.1, omega (arith, h, text_long (graph (goal.at.put_outputs-third-requires c).Start) _ c.gate_count-count.ensures, c.put_header-first, c.put_inputs-second))
 
 pub put_nodes-requires : goal.put_nodes-requires
 put_nodes-requires c =
     let h = c.requires in
-    (h.0, h.1, h.2, omega (arith, h, text_long (graph (goal.at.put_nodes-requires c).Start) _ c.gate_count-count.ensures, c.put_header-first, c.put_inputs-second))
+    (h.0, h.1, omega (arith, h, text_long (graph (goal.at.put_nodes-requires c).Start) _ c.gate_count-count.ensures, c.put_header-first, c.put_inputs-second))
 
 pub returns : goal.returns
 returns c =
