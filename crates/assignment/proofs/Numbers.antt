@@ -1,12 +1,11 @@
 -- The bits of a number in its block, and the inputs' words. From the laws on bits.
 use mathlib.Core.Path.{◌≡◌, refl, sym, ap, ◌∙◌}
 use mathlib.Core.List.{List}
-use mathlib.Core.Logic.{⊎_elim, ◌≢◌}
+use mathlib.Core.Logic.{⊎_elim}
 use Prim.Native.Nat.{ℕ, zero, suc, ◌+◌, ◌-◌, ◌*◌, ◌/◌, ◌%◌, ◌^◌, ◌≤◌, ◌<◌}
-use native.Mathlib.Nat.{eq-or-lt_of_le, not-suc-le-zero, div-eq_of_lt, lt_of_lt_of_le}
 use native.Mathlib.Omega.{arith}
 use lib.ListN.{length, get_or}
-use lib.Pow.{shr-shr, pow_mono}
+use lib.Pow.{shr-shr}
 use Rattle.graph.specs.Finite.{tab, if_equal, first, first_of}
 use Rattle.graph.proofs.Cases.{lt_or_le}
 use Rattle.graph.proofs.Finite.{length_tab, get_d_tab}
@@ -14,7 +13,7 @@ use Rattle.graph.proofs.Tests.{less, no_less, each_none, is}
 use Rattle.graph.specs.Literals.{bit}
 use Rattle.evaluation.proofs.Bits.{bit_ones, bit_zero}
 use Rattle.evaluation.proofs.Gather.{bit_low}
-use Rattle.assignment.specs.Inner.{masks, input_word, FirstPlace}
+use Rattle.assignment.specs.Inner.{masks, input_word}
 
 module _ (b j : ℕ) (h : j < 64) where
   low_bit : (k : ℕ) → k < 6 → bit k (64 * b + j) ≡ bit k j
@@ -57,41 +56,6 @@ input_bit b k j h =
 
 pub words_bit : (words : List ℕ) (b k j : ℕ) → words ≡ tab 16 (input_word b) → k < 16 → j < 64 → bit j (get_or words k 0) ≡ bit k (64 * b + j)
 words_bit words b k j e h l = rw (e, get_d_tab 16 (input_word b) k h) (input_bit b k j l)
-
--- what is left of a word after j places, which had no 1
-pub record Passed (word w j : ℕ) : Type 0 where
-  pub left : w ≡ word / 2 ^ j
-  pub some : w ≢ 0
-  pub before : (i : ℕ) → i < j → bit i word ≡ 0
-
-pub passed_none : (word : ℕ) → word ≢ 0 → Passed word word 0
-passed_none word d = record { left = omega arith; some = d; before = λ i h. absurd (not-suc-le-zero h) }
-
-pub passed_more : (word w j : ℕ) → Passed word w j → w % 2 ≡ 0 → Passed word (w / 2) (j + 1)
-unfolding bit
-passed_more word w j p e =
-    record {
-      left = ap (λ (x : ℕ). x / 2) p.left ∙ shr-shr word j 1;
-      some = λ z. p.some (omega arith);
-      before = λ i h.
-          ⊎_elim
-          (λ (q : i ≡ j). rw q (ap (λ (x : ℕ). x % 2) (sym p.left) ∙ e))
-          (λ (l : i < j). p.before i l)
-          (eq-or-lt_of_le (omega arith));
-    }
-
-pub passed_low : (word w j : ℕ) → word < 2 ^ 64 → Passed word w j → j < 64
-passed_low word w j h p =
-    ⊎_elim
-    (λ (l : j < 64). l)
-    (λ (l : 64 ≤ j). absurd (p.some (p.left ∙ div-eq_of_lt (lt_of_lt_of_le h (pow_mono l)))))
-    (lt_or_le j 64)
-
-pub passed_first : (word w j : ℕ) → word < 2 ^ 64 → Passed word w j → w % 2 ≢ 0 → FirstPlace word j
-unfolding bit
-passed_first word w j h p d =
-    let e : w % 2 ≡ 1 = omega arith in
-    record { low = passed_low word w j h p; here = ap (λ (x : ℕ). x % 2) (sym p.left) ∙ e; before = p.before }
 
 pub words_long : (words : List ℕ) (b : ℕ) → words ≡ tab 16 (input_word b) → length words ≡ 16
 words_long words b e = ap length e ∙ length_tab 16 (input_word b)

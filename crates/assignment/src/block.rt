@@ -1,24 +1,16 @@
 // A block: 64 assignments tried together.
-ghost use Rattle.std.specs.Prelude.{◌≡◌, ℕ, ◌+◌, ◌≤◌, min, length, take};
+ghost use Rattle.std.specs.Prelude.{◌≡◌, ℕ, ◌+◌, ◌≤◌, length, take};
 ghost use Rattle.evaluation.specs.Inner.{nodes_of, NodeWords};
 ghost use Rattle.assignment.specs.Inner.{Top, Searchable, Left, Places};
 ghost use Rattle.graph.specs.Tables.{lent_graph};
 
 use crate::outputs::left_from;
 use crate::words;
+use evaluation::values::Apart;
 use evaluation::{front, values};
 use graph::Lent;
 
 const ONES: u64 = 18446744073709551615;
-
-fn lesser(a: usize, b: usize) -> usize
-    ensures { result ≡ min a b }
-{
-    if a < b {
-        return a;
-    }
-    b
-}
 
 // How many of the first `top` nodes have room in scratch behind the words of the constant and the inputs.
 fn front_count(inputs: u32, nodes: u32, top: usize) -> usize
@@ -27,18 +19,18 @@ fn front_count(inputs: u32, nodes: u32, top: usize) -> usize
     if nodes <= inputs {
         return 0;
     }
-    lesser(top, (nodes - inputs - 1) as usize)
+    top.min((nodes - inputs - 1) as usize)
 }
 
 // What is left of `left` by the outputs that name one of the first `many` nodes. These are evaluated in eight stretches, each word at the place of its index;
 // after each the outputs that name them are looked at, and where no place is left the block is done. Else their words end at the front.
-fn front_places(
+fn front_places<'x>(
     lent: &Lent,
     wanted: &[u8],
     many: usize,
-    input_words: &[u64],
+    input_words: &'x [u64],
     left: u64,
-    scratch: &mut [u64],
+    scratch: &'x mut [u64],
 ) -> u64
     requires { let g = lent_graph lent.now in
         Searchable g wanted.now (length scratch.old) × (lent.now.inputs ≤ length input_words.now) × (lent.now.inputs + 1 + many ≤ lent.now.nodes) × Left g wanted.now input_words.now (lent.now.inputs + 1 + 0) left }
@@ -55,18 +47,14 @@ fn front_places(
         if rest == 0 {
             return 0;
         }
-        let next = lesser(known + step, many);
-        front::front_nodes(lent.inputs, known, next, &lent.node_table, scratch);
-        rest = left_from(
-            lent.inputs,
-            lent.outputs,
-            &lent.output_table,
-            wanted,
-            input_words,
-            &scratch[first..first + next],
-            first + known,
-            rest,
-        );
+        let next = many.min(known + step);
+        front::front_nodes(lent, known, next, scratch);
+        let words = Apart {
+            inputs: lent.inputs,
+            of_inputs: input_words,
+            of_nodes: &scratch[first..first + next],
+        };
+        rest = left_from(lent, wanted, &words, first + known, rest);
         known = next;
     }
     front::shift(first, many, scratch);
@@ -74,12 +62,12 @@ fn front_places(
 }
 
 // The places left by the outputs that name the constant, an input or one of the first `many` nodes.
-fn first_places(
+fn first_places<'x>(
     lent: &Lent,
     wanted: &[u8],
     many: usize,
-    input_words: &[u64],
-    scratch: &mut [u64],
+    input_words: &'x [u64],
+    scratch: &'x mut [u64],
 ) -> u64
     requires { let g = lent_graph lent.now in
         Searchable g wanted.now (length scratch.old) × (lent.now.inputs ≤ length input_words.now) × ((many ≡ 0 → ⊥) → lent.now.inputs + 1 + many ≤ lent.now.nodes) }
@@ -87,16 +75,12 @@ fn first_places(
         let ws = input_words.now in
         Left g wanted.now ws (lent.now.inputs + 1 + many) result × ((result ≡ 0 → ⊥) → NodeWords (nodes_of lent.now.inputs lent.now.nodes g.nodes) ws (take many scratch.new) many) }
 {
-    let left = left_from(
-        lent.inputs,
-        lent.outputs,
-        &lent.output_table,
-        wanted,
-        input_words,
-        &scratch[..0],
-        0,
-        ONES,
-    );
+    let words = Apart {
+        inputs: lent.inputs,
+        of_inputs: input_words,
+        of_nodes: &scratch[..0],
+    };
+    let left = left_from(lent, wanted, &words, 0, ONES);
     if many == 0 {
         return left;
     }
@@ -104,14 +88,14 @@ fn first_places(
 }
 
 // What is left of `left` by the outputs that name a node from `many` on, the words of the nodes before it being in the front of `scratch`.
-fn last_places(
+fn last_places<'x>(
     lent: &Lent,
     wanted: &[u8],
     many: usize,
     top: usize,
-    input_words: &[u64],
+    input_words: &'x [u64],
     left: u64,
-    scratch: &mut [u64],
+    scratch: &'x mut [u64],
 ) -> u64
     requires { let g = lent_graph lent.now in
         let ws = input_words.now in
@@ -120,25 +104,14 @@ fn last_places(
     ensures { let g = lent_graph lent.now in
         Left g wanted.now input_words.now (lent.now.inputs + 1 + top) result }
 {
-    values::fill_rest(
-        lent.inputs,
-        top as u32,
-        many,
-        &lent.node_table,
-        input_words,
-        scratch,
-    );
+    values::fill_rest(lent, many, top, input_words, scratch);
     let low = lent.inputs as usize + 1 + many;
-    left_from(
-        lent.inputs,
-        lent.outputs,
-        &lent.output_table,
-        wanted,
-        input_words,
-        &scratch[..top],
-        low,
-        left,
-    )
+    let words = Apart {
+        inputs: lent.inputs,
+        of_inputs: input_words,
+        of_nodes: &scratch[..top],
+    };
+    left_from(lent, wanted, &words, low, left)
 }
 
 // The places of block b that give the pattern, `top` nodes being asked for.

@@ -13,9 +13,8 @@ fn check_pattern(outputs: u32, wanted: &[u8]) -> Result<(), Refusal>
     requires { outputs ≤ length wanted.now }
     ensures { refusal_number result ≡ pattern_number outputs wanted.now }
 {
-    let end = outputs as usize;
-    for o in 0..end {
-        if 2 < wanted[o] {
+    for want in &wanted[..outputs as usize] {
+        if 2 < *want {
             return Err(Refusal::BadWanted);
         }
     }

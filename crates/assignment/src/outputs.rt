@@ -7,10 +7,9 @@ ghost use Rattle.evaluation.specs.Inner.{by_index, literal_word};
 ghost use Rattle.assignment.specs.Inner.{fits, clean, want_in, lacks, Reached, Top, Pattern, Searchable};
 ghost use Rattle.graph.specs.Tables.{lent_graph, lent_table};
 
-use crate::words;
-use evaluation::values;
-use graph::table::Table;
-use graph::{Lent, table};
+use crate::words::narrowed;
+use evaluation::values::{Apart, Words, turned};
+use graph::Lent;
 
 // How many nodes' words the literal x asks for, where those of the first `known` are asked for already.
 fn reached(inputs: u32, known: usize, x: u32, want: u8) -> usize
@@ -35,9 +34,8 @@ pub fn top_of(lent: &Lent, wanted: &[u8], words: usize) -> usize
     ensures { let g = lent_graph lent.now in
         Top g wanted.now lent.now.outputs result }
 {
-    let end = lent.outputs as usize;
     let mut top: usize = 0;
-    for o in 0..end {
+    for o in 0..lent.outputs as usize {
         top = reached(lent.inputs, top, lent.output_table.edge_at(o), wanted[o]);
     }
     top
@@ -58,43 +56,35 @@ fn want_in(x: u32, want: u8, low: usize, high: usize) -> u8
 }
 
 // The places that are left where an output is as wanted; one that may be either is not looked at.
-fn left_by(inputs: u32, input_words: &[u64], node_words: &[u64], left: u64, x: u32, want: u8) -> u64
-    requires { (want ≤ 2) × (inputs ≤ length input_words.now) × ((want ≡ 2 → ⊥) → index x < inputs + 1 + length node_words.now) }
-    ensures { let ws = by_index inputs input_words.now node_words.now in
+fn left_by(words: &Apart, left: u64, x: u32, want: u8) -> u64
+    requires { let w = words.now in
+        (want ≤ 2) × (w.inputs ≤ length w.of_inputs.now) × ((want ≡ 2 → ⊥) → index x < w.inputs + 1 + length w.of_nodes.now) }
+    ensures { let ws = by_index words.now.inputs words.now.of_inputs.now words.now.of_nodes.now in
         ((j : ℕ) → j < 64 → bit j result ≡ min (bit j left) (fits (bit j (literal_word ws x)) want)) }
 {
     if want == 2 {
         return left;
     }
-    let w = values::index_word(inputs, input_words, node_words, x / 2);
-    words::narrowed(left, values::turned(w, x % 2), want)
+    narrowed(left, turned(words.word(x / 2), x % 2), want)
 }
 
 // The places that are left by the outputs that name an index from `low` on, of which the words are there.
-pub fn left_from(
-    inputs: u32,
-    outputs: u32,
-    output_table: &Table,
-    wanted: &[u8],
-    input_words: &[u64],
-    node_words: &[u64],
-    low: usize,
-    left: u64,
-) -> u64
-    requires { let l = lent_table output_table.now in
-        (inputs ≤ 16) × (inputs ≤ length input_words.now) × (length node_words.now ≤ 100000) × Pattern outputs l wanted.now }
-    ensures { let l = lent_table output_table.now in
-        let ws = by_index inputs input_words.now node_words.now in
-        let high = inputs + 1 + length node_words.now in
-        ((j : ℕ) → j < 64 → bit j result ≡ min (bit j left) (clean (first_of outputs (lacks ws l wanted.now low high j)))) }
+pub fn left_from(lent: &Lent, wanted: &[u8], words: &Apart, low: usize, left: u64) -> u64
+    requires { let l = lent_table lent.now.output_table in
+        let w = words.now in
+        (w.inputs ≤ 16) × (w.inputs ≤ length w.of_inputs.now) × (length w.of_nodes.now ≤ 100000) × Pattern lent.now.outputs l wanted.now }
+    ensures { let l = lent_table lent.now.output_table in
+        let w = words.now in
+        let ws = by_index w.inputs w.of_inputs.now w.of_nodes.now in
+        let high = w.inputs + 1 + length w.of_nodes.now in
+        ((j : ℕ) → j < 64 → bit j result ≡ min (bit j left) (clean (first_of lent.now.outputs (lacks ws l wanted.now low high j)))) }
 {
-    let high = inputs as usize + 1 + node_words.len();
-    let end = outputs as usize;
+    let high = words.inputs as usize + 1 + words.of_nodes.len();
     let mut rest = left;
-    for o in 0..end {
-        let x = output_table.edge_at(o);
+    for o in 0..lent.outputs as usize {
+        let x = lent.output_table.edge_at(o);
         let want = want_in(x, wanted[o], low, high);
-        rest = left_by(inputs, input_words, node_words, rest, x, want);
+        rest = left_by(words, rest, x, want);
     }
     rest
 }

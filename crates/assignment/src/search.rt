@@ -13,11 +13,7 @@ fn block_count(inputs: u32) -> u32
     requires { inputs ≤ 16 }
     ensures { (2 ^ inputs ≤ 64 * result) × (result ≤ 1024) }
 {
-    let mut blocks: u32 = 1;
-    for i in 6..inputs {
-        blocks *= 2;
-    }
-    blocks
+    u32::pow(2, inputs.saturating_sub(6))
 }
 
 // The number of the least assignment that gives the pattern.

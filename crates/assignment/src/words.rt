@@ -65,11 +65,5 @@ pub fn first_place(word: u64) -> u32
     requires { word ≡ 0 → ⊥ }
     ensures { FirstPlace word result }
 {
-    let mut w = word;
-    let mut j: u32 = 0;
-    while w % 2 == 0 {
-        w /= 2;
-        j += 1;
-    }
-    j
+    word.trailing_zeros()
 }

@@ -12,7 +12,7 @@ use Rattle.graph.specs.Literals.{bit}
 use Rattle.graph.specs.Value.{majority, exclusive, literal_value, node_value}
 use Rattle.graph.proofs.Values.{literal_bit}
 use Rattle.evaluation.specs.Word.{gather}
-use Rattle.evaluation.specs.Inner.{by_index, column, literal_word, NodeBelow}
+use Rattle.evaluation.specs.Inner.{by_index, column, literal_word, NodeBelow, NodeNamed}
 use Rattle.evaluation.proofs.Bits.{bit_zero}
 use Rattle.evaluation.proofs.Gather.{gather_same, bit_gather}
 
@@ -76,17 +76,21 @@ module _ (g : Graph) (v : ℕ) (ws : List ℕ) (x y r : ℕ) (p : x ≡ literal_
       simp (o, ← e) (cc)
 
 -- one of two indices, the second of which is looked up at a majority alone
-pub either_below : (k : Bool) (u v end : ℕ) → u < end → (k ≡ false → v < end) → cond k u v < end
-either_below true u v end h f = h
-either_below false u v end h f = f refl
+pub either_can : (can : ℕ → Type 0) (k : Bool) (u v : ℕ) → can u → (k ≡ false → can v) → can (cond k u v)
+either_can can true u v h f = h
+either_can can false u v h f = f refl
 
--- a node whose words name indices below its own can be read
-pub readable_of : (i : ℕ) (l : List ℕ) (v : ℕ) → NodeBelow i l v → v ≤ 100000 → Readable l v
-readable_of i l v b h =
+-- what of a node's words can be read, of which each names an index that there is a word of
+pub readable_named : (can : ℕ → Type 0) (l : List ℕ) (v : ℕ) → NodeNamed can l v → Readable l v
+readable_named can l v b = record { there = b.there; few = b.few; first = b.first.0; second = b.second.0; third = λ n. (b.third n).0 }
+
+-- there is one of each index below the node's own
+pub named_below : (can : ℕ → Type 0) (i : ℕ) (l : List ℕ) (v : ℕ) → NodeBelow i l v → v ≤ 100000 → ((k : ℕ) → k < i + 1 + v → can k) → NodeNamed can l v
+named_below can i l v b h f =
     record {
       there = b.there;
       few = h;
-      first = omega (arith, b.few, b.first);
-      second = omega (arith, b.few, b.second);
-      third = λ n. omega (arith, b.few, b.third n);
+      first = (omega (arith, b.few, b.first), f _ b.first);
+      second = (omega (arith, b.few, b.second), f _ b.second);
+      third = λ n. (omega (arith, b.few, b.third n), f _ (b.third n));
     }

@@ -6,4 +6,3 @@ pub mod Outputs
 pub mod Call
 pub mod Worked
 pub mod Promises
-pub mod Shift

@@ -1,6 +1,6 @@
 -- What the inner functions say, and no promise to a caller: words by index, of which bit place j has the values under the
 -- assignment of place j.
-use Rattle.std.specs.Prelude.{◌≡◌, List, [], ◌∷◌, ◌++◌, map, ℕ, ◌+◌, ◌*◌, ◌<◌, get_or, take}
+use Rattle.std.specs.Prelude.{◌≡◌, List, [], ◌∷◌, ◌++◌, map, ℕ, ◌+◌, ◌*◌, ◌<◌, ◌≤◌, get_or, take}
 use Rattle.graph.specs.Graph.{Graph, graph_of, mark, index}
 use Rattle.graph.specs.Literals.{bit, held}
 use Rattle.graph.specs.Value.{literal_value, values}
@@ -34,6 +34,18 @@ pub record NodeBelow (i : ℕ) (table : List ℕ) (v : ℕ) : Type 0 where
   pub first : index (get_or table (3 * v) 0) < i + 1 + v
   pub second : index (get_or table (3 * v + 1) 0) < i + 1 + v
   pub third : (get_or table (3 * v + 2) 0 ≡ mark → ⊥) → index (get_or table (3 * v + 2) 0) < i + 1 + v
+
+-- a literal that is no mark, of whose index there is a word
+abbrev pub Named : (ℕ → Type 0) → ℕ → Type 0
+Named can x = (index x < 2147483647) × can (index x)
+
+-- the words of node v are there, and of each index that they name there is a word
+pub record NodeNamed (can : ℕ → Type 0) (table : List ℕ) (v : ℕ) : Type 0 where
+  pub there : 3 * v + 2 < held table
+  pub few : v ≤ 100000
+  pub first : Named can (get_or table (3 * v) 0)
+  pub second : Named can (get_or table (3 * v + 1) 0)
+  pub third : (get_or table (3 * v + 2) 0 ≡ mark → ⊥) → Named can (get_or table (3 * v + 2) 0)
 
 -- node_words are the words of the first n nodes: bit place j has the values under the assignment of place j
 abbrev pub NodeWords : Graph → List ℕ → List ℕ → ℕ → Type 0

@@ -1,14 +1,13 @@
-ghost use Rattle.std.specs.Prelude.{◌≡◌, false, cond, ℕ, ◌+◌, ◌*◌, ◌/◌, ◌%◌, ◌≤◌, ◌<◌, length, take, get_or};
+ghost use Rattle.std.specs.Prelude.{◌≡◌, false, cond, List, ℕ, ◌+◌, ◌*◌, ◌/◌, ◌%◌, ◌≤◌, ◌<◌, length, take, get_or};
 ghost use Rattle.graph.specs.Value.{majority, exclusive, node_value};
 ghost use Rattle.graph.specs.Graph.{index};
-ghost use Rattle.graph.specs.Inner.{three_bits};
-ghost use Rattle.graph.specs.Literals.{bit, bit_of, held, literals};
+ghost use Rattle.graph.specs.Literals.{bit, bit_of, held};
 ghost use Rattle.evaluation.specs.Word.{gather};
-ghost use Rattle.evaluation.specs.Inner.{by_index, column, literal_word, nodes_of, NodeBelow, NodeWords, Filled};
+ghost use Rattle.evaluation.specs.Inner.{by_index, column, literal_word, nodes_of, Named, NodeNamed, NodeBelow, NodeWords, Filled};
 ghost use Rattle.graph.specs.Tables.{lent_table};
 
 use crate::front;
-use graph::table;
+use graph::Lent;
 use graph::table::Table;
 
 const ONES: u64 = 18446744073709551615;
@@ -33,38 +32,64 @@ fn exclusive_word(x: u64, y: u64) -> u64
     x ^ y
 }
 
-// The word of an index, from those of the inputs and of the nodes so far.
-pub fn index_word(inputs: u32, input_words: &[u64], node_words: &[u64], index: u32) -> u64
-    requires { (inputs ≤ length input_words.now) × (index < inputs + 1 + length node_words.now) }
-    ensures { result ≡ get_or (by_index inputs input_words.now node_words.now) index 0 }
-{
-    if index == 0 {
-        return 0;
-    }
-    if index <= inputs {
-        return input_words[(index - 1) as usize];
-    }
-    node_words[(index - inputs - 1) as usize]
+// Words of 64 assignments by index, wherever they stand.
+pub trait Words {
+    ghost can_read: { Self → ℕ → Type 0 };
+
+    ghost words: { Self → List ℕ };
+
+    fn word(&self, index: u32) -> u64
+        requires { can_read self.now index }
+        ensures { result ≡ get_or (words self.now) index 0 };
 }
 
-// The word of the literal at place j of a table, whose bit is b, from the words of the inputs and of the nodes so far.
-pub fn literal_word(
-    inputs: u32,
-    table: &Table,
-    j: usize,
-    b: u32,
-    input_words: &[u64],
-    node_words: &[u64],
-) -> u64
-    requires { let l = lent_table table.now in
-        let end = inputs + 1 + length node_words.now in
-        (inputs ≤ length input_words.now) × (end ≤ 2147483647) × (j < held l) × (index (get_or l j 0) < end) × (b ≡ bit_of (get_or l j 0)) × (b ≤ 1) }
-    ensures { let l = lent_table table.now in
-        let ws = by_index inputs input_words.now node_words.now in
-        result ≡ literal_word ws (get_or l j 0) }
+// The words of the inputs, and of the nodes so far.
+#[derive(Clone, Copy)]
+pub struct Apart<'a> {
+    pub inputs: u32,
+    pub of_inputs: &'a [u64],
+    pub of_nodes: &'a [u64],
+}
+
+impl Words for Apart<'_> {
+    ghost can_read = { λ s k. (s.inputs ≤ length s.of_inputs.now) × (k < s.inputs + 1 + length s.of_nodes.now) };
+
+    ghost words = { λ s. by_index s.inputs s.of_inputs.now s.of_nodes.now };
+
+    fn word(&self, index: u32) -> u64 {
+        if index == 0 {
+            return 0;
+        }
+        if index <= self.inputs {
+            return self.of_inputs[(index - 1) as usize];
+        }
+        self.of_nodes[(index - self.inputs - 1) as usize]
+    }
+}
+
+// Each word at the place of its index.
+#[derive(Clone, Copy)]
+pub(crate) struct InRow<'a> {
+    pub(crate) all: &'a [u64],
+}
+
+impl Words for InRow<'_> {
+    ghost can_read = { λ s k. k < length s.all.now };
+
+    ghost words = { λ s. s.all.now };
+
+    fn word(&self, index: u32) -> u64 {
+        self.all[index as usize]
+    }
+}
+
+// The word of the literal at place j of a table, whose bit is b.
+pub fn literal_word<W: Words>(words: &W, table: &Table, j: usize, b: u32) -> u64
+    requires { let x = get_or (lent_table table.now) j 0 in
+        (j < held (lent_table table.now)) × Named (W.can_read words.now) x × (b ≡ bit_of x) × (b ≤ 1) }
+    ensures { result ≡ literal_word (W.words words.now) (get_or (lent_table table.now) j 0) }
 {
-    let u = table.index_at(j);
-    turned(index_word(inputs, input_words, node_words, u), b)
+    turned(words.word(table.index_at(j)), b)
 }
 
 // The first of two indices where `xor` holds, else the second.
@@ -77,31 +102,18 @@ pub fn either_index(xor: bool, u: u32, v: u32) -> u32
     v
 }
 
-// The word of a majority's third literal, whose bit is b, its words being from place `at` on. An XOR has none: the word of its first index is looked up, so
-// that nothing jumps by the kind, which a processor could not foresee.
-fn third_word(
-    inputs: u32,
-    table: &Table,
-    at: usize,
-    b: u32,
-    xor: bool,
-    input_words: &[u64],
-    node_words: &[u64],
-) -> u64
+// The word of a majority's third literal, whose bit is b, the node's words being from place `at` on. An XOR has none: the word of its first index is looked
+// up, so that nothing jumps by the kind, which a processor could not foresee.
+fn third_word<W: Words>(words: &W, table: &Table, at: usize, b: u32, xor: bool) -> u64
     requires { let l = lent_table table.now in
-        let end = inputs + 1 + length node_words.now in
-        (inputs ≤ length input_words.now) × (end ≤ 2147483647) × (at + 2 < held l)
-        × (index (get_or l at 0) < end) × (xor ≡ false → index (get_or l (at + 2) 0) < end)
+        (at + 2 < held l) × Named (W.can_read words.now) (get_or l at 0) × (xor ≡ false → Named (W.can_read words.now) (get_or l (at + 2) 0))
         × (b ≡ bit_of (get_or l (at + 2) 0)) × (b ≤ 1) }
-    ensures { let l = lent_table table.now in
-        let ws = by_index inputs input_words.now node_words.now in
-        (xor ≡ false → result ≡ literal_word ws (get_or l (at + 2) 0)) }
+    ensures { xor ≡ false → result ≡ literal_word (W.words words.now) (get_or (lent_table table.now) (at + 2) 0) }
 {
     let last = at + 2;
     let first = table.index_at(at);
     let third = table.index_at(last);
-    let u = either_index(xor, first, third);
-    turned(index_word(inputs, input_words, node_words, u), b)
+    turned(words.word(either_index(xor, first, third)), b)
 }
 
 // The words of a node's literals joined as its kind says, by a mask.
@@ -113,94 +125,54 @@ pub fn joined_word(xor: bool, x: u64, y: u64, z: u64) -> u64
     a ^ (a ^ e) & xor as u64 * ONES
 }
 
-// The word of the next node, whose words have these bits, `node_words` being those of the nodes before it.
-fn node_word(
-    inputs: u32,
-    node_table: &Table,
-    three: u32,
-    input_words: &[u64],
-    node_words: &[u64],
-) -> u64
-    requires { let l = lent_table node_table.now in
-        (inputs ≤ length input_words.now) × NodeBelow inputs l (length node_words.now) × (three ≡ three_bits l (length node_words.now)) }
-    ensures { let l = lent_table node_table.now in
-        let ws = by_index inputs input_words.now node_words.now in
-        ((n j : ℕ) → j < 64 → bit j result ≡ node_value (nodes_of inputs n l) (column j ws) (length node_words.now)) }
+// The word of node v, from those of the indices that its words name.
+pub(crate) fn node_word<W: Words>(words: &W, node_table: &Table, v: usize) -> u64
+    requires { NodeNamed (W.can_read words.now) (lent_table node_table.now) v }
+    ensures { (i n j : ℕ) → j < 64 → bit j result ≡ node_value (nodes_of i n (lent_table node_table.now)) (column j (W.words words.now)) v }
 {
-    let at = 3 * node_words.len();
+    let at = 3 * v;
+    let three = node_table.three_at(v);
     let xor = node_table.is_mark_at(at + 2);
-    let x = literal_word(inputs, node_table, at, three % 2, input_words, node_words);
-    let y = literal_word(
-        inputs,
-        node_table,
-        at + 1,
-        three / 2 % 2,
-        input_words,
-        node_words,
-    );
-    let z = third_word(
-        inputs,
-        node_table,
-        at,
-        three / 4 % 2,
-        xor,
-        input_words,
-        node_words,
-    );
+    let x = literal_word(words, node_table, at, three % 2);
+    let y = literal_word(words, node_table, at + 1, three / 2 % 2);
+    let z = third_word(words, node_table, at, three / 4 % 2, xor);
     joined_word(xor, x, y, z)
 }
 
-// Fills in the word of node v, whose words have these bits.
-fn fill_node(
-    inputs: u32,
-    node_table: &Table,
-    v: usize,
-    three: u32,
-    input_words: &[u64],
-    scratch: &mut [u64],
-)
-    requires { let l = lent_table node_table.now in
-        (inputs ≤ length input_words.now) × (v < length scratch.old) × NodeBelow inputs l v × (three ≡ three_bits l v) }
-    ensures { let l = lent_table node_table.now in
-        Filled inputs l input_words.now scratch.old v scratch.new (v + 1) }
+// Fills in the word of node v.
+fn fill_node<'x>(lent: &Lent, v: usize, input_words: &'x [u64], scratch: &'x mut [u64])
+    requires { let l = lent_table lent.now.node_table in
+        (lent.now.inputs ≤ length input_words.now) × (v < length scratch.old) × (v ≤ 100000) × NodeBelow lent.now.inputs l v }
+    ensures { let l = lent_table lent.now.node_table in
+        Filled lent.now.inputs l input_words.now scratch.old v scratch.new (v + 1) }
 {
-    let w = node_word(inputs, node_table, three, input_words, &scratch[..v]);
-    scratch[v] = w;
+    let words = Apart {
+        inputs: lent.inputs,
+        of_inputs: input_words,
+        of_nodes: &scratch[..v],
+    };
+    scratch[v] = node_word(&words, &lent.node_table, v);
 }
 
-// Fills in the words of the nodes from the one on where these begin.
-pub fn fill_rest(
-    inputs: u32,
-    nodes: u32,
-    begin: usize,
-    node_table: &Table,
-    input_words: &[u64],
-    scratch: &mut [u64],
-)
-    requires { let l = lent_table node_table.now in
-        (inputs ≤ length input_words.now) × (nodes ≤ length scratch.old) × (nodes ≤ 100000) × ((v : ℕ) → v < nodes → NodeBelow inputs l v) × (begin ≤ nodes) }
-    ensures { let l = lent_table node_table.now in
-        Filled inputs l input_words.now scratch.old begin scratch.new nodes }
+// Fills in the words of the nodes from `begin` on and below `end`, where those below `begin` are there.
+pub fn fill_rest(lent: &Lent, begin: usize, end: usize, input_words: &[u64], scratch: &mut [u64])
+    requires { let l = lent_table lent.now.node_table in
+        (lent.now.inputs ≤ length input_words.now) × (end ≤ length scratch.old) × (end ≤ 100000) × ((v : ℕ) → v < end → NodeBelow lent.now.inputs l v) × (begin ≤ end) }
+    ensures { let l = lent_table lent.now.node_table in
+        Filled lent.now.inputs l input_words.now scratch.old begin scratch.new end }
 {
-    for v in begin..nodes as usize {
-        let three = node_table.three_at(v);
-        fill_node(inputs, node_table, v, three, input_words, scratch);
+    for v in begin..end {
+        fill_node(lent, v, input_words, scratch);
     }
 }
 
 // Fills the nodes' words into the front of `scratch`, in one pass.
-pub fn fill_nodes(
-    inputs: u32,
-    nodes: u32,
-    node_table: &Table,
-    input_words: &[u64],
-    scratch: &mut [u64],
-)
-    requires { let l = lent_table node_table.now in
-        (inputs ≤ length input_words.now) × (nodes ≤ length scratch.old) × (nodes ≤ 100000) × ((v : ℕ) → v < nodes → NodeBelow inputs l v) }
-    ensures { let g = nodes_of inputs nodes (lent_table node_table.now) in
-        NodeWords g input_words.now (take nodes scratch.new) nodes }
+pub fn fill_nodes(lent: &Lent, input_words: &[u64], scratch: &mut [u64])
+    requires { let l = lent_table lent.now.node_table in
+        (lent.now.inputs ≤ length input_words.now) × (lent.now.nodes ≤ length scratch.old) × (lent.now.nodes ≤ 100000) × ((v : ℕ) → v < lent.now.nodes → NodeBelow lent.now.inputs l v) }
+    ensures { let g = nodes_of lent.now.inputs lent.now.nodes (lent_table lent.now.node_table) in
+        NodeWords g input_words.now (take lent.now.nodes scratch.new) lent.now.nodes }
 {
-    let begin = front::fill_front(inputs, nodes, node_table, input_words, scratch);
-    fill_rest(inputs, nodes, begin, node_table, input_words, scratch);
+    let begin = front::fill_front(lent, input_words, scratch);
+    fill_rest(lent, begin, lent.nodes as usize, input_words, scratch);
 }

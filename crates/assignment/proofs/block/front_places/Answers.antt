@@ -10,7 +10,7 @@ use Rattle.evaluation.proofs.Outputs.{node_below}
 use Rattle.evaluation.proofs.Rows.{front_none, front_moved}
 use Rattle.assignment.proofs.Blocks.{left_more, left_none, pattern_of, part_long, part_few, part_words}
 use Rattle.assignment.proofs.block.front_places.Goals as goal
-use Rattle.assignment.proofs.block.front_places.Goals.{After-front_nodes, After-lesser-next, At-loop-known}
+use Rattle.assignment.proofs.block.front_places.Goals.{After-front_nodes, After-min-next, At-loop-known}
 use Rattle.graph.specs.Tables.{lent_graph, lent_table}
 
 -- scratch is as long as it came
@@ -20,17 +20,17 @@ as_long l = l.loop-known.invariant.1 ∙ l.fill_low.auto.scratch
 
 -- the next stretch ends with the nodes that have room
 
-few : (c : After-lesser-next) → (c.loop-known.known < c.lesser-next.result) × (c.lesser-next.result ≤ c.args.many)
+few : (c : After-min-next) → (c.loop-known.known < c.min-next.result) × (c.min-next.result ≤ c.args.many)
 few c =
-    let e = c.lesser-next.ensures in
+    let e = c.min-next.ensures in
     let t = c.loop-known-test.true in
     (omega arith, omega arith)
 
 -- what it fills is in scratch
 
-fits-scratch : (c : After-front_nodes) → c.args.lent.now.inputs + 1 + c.lesser-next.result ≤ length c.front_nodes.new.scratch
+fits-scratch : (c : After-front_nodes) → c.args.lent.now.inputs + 1 + c.min-next.result ≤ length c.front_nodes.new.scratch
 fits-scratch c =
-    let e = c.lesser-next.ensures in
+    let e = c.min-next.ensures in
     let t = c.loop-known-test.true in
     let l : length c.loop-known.scratch ≡ length c.args.scratch.now = c.loop-known.invariant.1 ∙ c.fill_low.auto.scratch in
     omega (arith, c.front_nodes.auto.scratch, c.requires.2, c.requires.0.scratch)
@@ -69,40 +69,40 @@ overflow_add-known c = omega (arith, c.loop-known.invariant.0, c.requires.2, c.r
 pub front_nodes-requires : goal.front_nodes-requires
 front_nodes-requires c =
     let a = c.args in
-    let m = few (goal.at.front_nodes-requires c).After-lesser-next in (
+    let m = few (goal.at.front_nodes-requires c).After-min-next in (
       omega (arith, m.1, c.requires.2, c.requires.0.admitted.few_nodes),
       omega (arith, m.1, c.requires.2, c.requires.0.scratch, as_long (goal.at.front_nodes-requires c).At-loop-known),
       (λ v h. node_below (lent_graph a.lent.now) c.requires.0.admitted v (omega (arith, m.1, c.requires.2))),
       omega (arith, m.0),
     )
 
-pub overflow_add-first-in-loop-known : goal.overflow_add-first-in-loop-known
-overflow_add-first-in-loop-known c =
-    omega (arith, (few (goal.at.overflow_add-first-in-loop-known c).After-lesser-next).1, c.requires.2, c.requires.0.admitted.few_nodes)
+pub overflow_add-words : goal.overflow_add-words
+overflow_add-words c =
+    omega (arith, (few (goal.at.overflow_add-words c).After-min-next).1, c.requires.2, c.requires.0.admitted.few_nodes)
 
 pub offset_bounds-scratch-first : goal.offset_bounds-scratch-first
 offset_bounds-scratch-first c = omega (arith, c.requires.0.few)
 
-pub slice_bounds-left_from-end : goal.slice_bounds-left_from-end
-slice_bounds-left_from-end c = fits-scratch (goal.at.slice_bounds-left_from-end c).After-front_nodes
+pub slice_bounds-words-end : goal.slice_bounds-words-end
+slice_bounds-words-end c = fits-scratch (goal.at.slice_bounds-words-end c).After-front_nodes
 
-pub overflow_add-first-in-loop-known-2 : goal.overflow_add-first-in-loop-known-2
-overflow_add-first-in-loop-known-2 c =
+pub overflow_add-first-in-loop-known : goal.overflow_add-first-in-loop-known
+overflow_add-first-in-loop-known c =
     omega (arith, c.loop-known.invariant.0, c.requires.2, c.requires.0.admitted.few_nodes)
 
 pub left_from-rest-requires : goal.left_from-rest-requires
 left_from-rest-requires c =
-    (c.requires.0.few, c.requires.1, part_few (c.args.lent.now.inputs + 1) c.lesser-next.result c.front_nodes.new.scratch (fits-scratch (goal.at.left_from-rest-requires c).After-front_nodes) (omega (arith, (few (goal.at.left_from-rest-requires c).After-lesser-next).1, c.requires.2, c.requires.0.admitted.few_nodes)), pattern_of _ _ _ c.requires.0)
+    (c.requires.0.few, c.requires.1, part_few (c.args.lent.now.inputs + 1) c.min-next.result c.front_nodes.new.scratch (fits-scratch (goal.at.left_from-rest-requires c).After-front_nodes) (omega (arith, (few (goal.at.left_from-rest-requires c).After-min-next).1, c.requires.2, c.requires.0.admitted.few_nodes)), pattern_of _ _ _ c.requires.0)
 
 pub loop-known-smaller : goal.loop-known-smaller
-loop-known-smaller c = let m = few (goal.at.loop-known-smaller c).After-lesser-next in omega (arith, m.0, m.1)
+loop-known-smaller c = let m = few (goal.at.loop-known-smaller c).After-min-next in omega (arith, m.0, m.1)
 
 pub loop-known-preserved : goal.loop-known-preserved
 loop-known-preserved c =
     let a = c.args in
     let g : Graph = lent_graph a.lent.now in
-    let m = few (goal.at.loop-known-preserved c).After-lesser-next in
-    let next = c.lesser-next.result in
+    let m = few (goal.at.loop-known-preserved c).After-min-next in
+    let next = c.min-next.result in
     let filled = c.front_nodes.new.scratch in
     let front = c.front_nodes.ensures a.lent.now.nodes a.input_words.now c.loop-known.invariant.2 in (
       m.1,

@@ -27,8 +27,8 @@ fill_rest-requires c =
       c.requires.2,
     )
 
-pub slice_bounds-left_from-end-2 : goal.slice_bounds-left_from-end-2
-slice_bounds-left_from-end-2 c = sym (long (goal.at.slice_bounds-left_from-end-2 c).After-fill_rest)
+pub slice_bounds-words-end-2 : goal.slice_bounds-words-end-2
+slice_bounds-words-end-2 c = sym (long (goal.at.slice_bounds-words-end-2 c).After-fill_rest)
 
 pub left_from-requires : goal.left_from-requires
 left_from-requires c =

@@ -11,11 +11,11 @@ use Rattle.assignment.proofs.outputs.left_by.Goals as goal
 pub returns-then-want-eq2 : goal.returns-then-want-eq2
 returns-then-want-eq2 c = λ j h. left_either _ _ _ _ c.if-want-eq2.true
 
-pub index_word-w-requires : goal.index_word-w-requires
-index_word-w-requires c = (c.requires.1, c.requires.2 c.if-want-eq2.false)
+pub word-requires : goal.word-requires
+word-requires c = (c.requires.1, c.requires.2 c.if-want-eq2.false)
 
 pub returns : goal.returns
 returns c = λ j h.
     let a = c.args in
-    let e = literal_is (by_index a.inputs a.input_words.now a.node_words.now) a.x _ _ c.index_word-w.result c.turned.result refl refl c.index_word-w.ensures c.turned.ensures in
+    let e = literal_is (by_index a.words.now.inputs a.words.now.of_inputs.now a.words.now.of_nodes.now) a.x _ _ c.word.result c.turned.result refl refl c.word.ensures c.turned.ensures in
     c.narrowed.ensures j h ∙ ap (λ (w : ℕ). min (bit j a.left) (fits (bit j w) a.want)) e

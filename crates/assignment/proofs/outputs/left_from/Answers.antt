@@ -30,20 +30,20 @@ left_by-rest-requires c =
     let e = c.want_in-want.ensures in
     let x = c.edge_at-x.result in
     let want = get_or a.wanted.now c.loop-o.o 0 in
-    let high = a.inputs + 1 + length a.node_words.now in
+    let high = a.words.now.inputs + 1 + length a.words.now.of_nodes.now in
     (rw e (want_le x want a.low high (c.requires.3.small c.loop-o.o (omega arith))), c.requires.1, λ d. want_there x want a.low high (λ z. d (e ∙ z)))
 
 pub loop-o-preserved : goal.loop-o-preserved
 loop-o-preserved c =
     let a = c.args in
-    let ws : List ℕ = by_index a.inputs a.input_words.now a.node_words.now in (
+    let ws : List ℕ = by_index a.words.now.inputs a.words.now.of_inputs.now a.words.now.of_nodes.now in (
       omega arith,
-      λ j h. next_rest ws (lent_table a.output_table.now) a.wanted.now a.low (a.inputs + 1 + length a.node_words.now) j c.loop-o.o a.left c.loop-o.rest c.left_by-rest.result
+      λ j h. next_rest ws (lent_table a.lent.now.output_table) a.wanted.now a.low (a.words.now.inputs + 1 + length a.words.now.of_nodes.now) j c.loop-o.o a.left c.loop-o.rest c.left_by-rest.result
           c.edge_at-x.result c.want_in-want.result c.edge_at-x.ensures c.want_in-want.ensures (c.loop-o.invariant.1 j h) (c.left_by-rest.ensures j h),
     )
 
 pub returns : goal.returns
 returns c =
     let a = c.args in
-    let e : c.loop-o.o ≡ a.outputs = omega arith in
+    let e : c.loop-o.o ≡ a.lent.now.outputs = omega arith in
     rw e at c.loop-o.invariant.1

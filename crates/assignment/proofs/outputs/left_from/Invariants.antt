@@ -11,5 +11,5 @@ use Rattle.graph.specs.Tables.{lent_table}
 
 abbrev pub invariant-loop-o : goal.invariant-loop-o
 invariant-loop-o l =
-    (l.o ≤ l.outputs)
-    × ((j : ℕ) → j < 64 → bit j l.rest ≡ min (bit j l.left) (clean (first_of l.o (lacks (by_index l.inputs l.input_words l.node_words) (lent_table l.output_table) l.wanted l.low (l.inputs + 1 + length l.node_words) j))))
+    (l.o ≤ l.lent.outputs)
+    × ((j : ℕ) → j < 64 → bit j l.rest ≡ min (bit j l.left) (clean (first_of l.o (lacks (by_index l.words.inputs l.words.of_inputs.now l.words.of_nodes.now) (lent_table l.lent.output_table) l.wanted l.low (l.words.inputs + 1 + length l.words.of_nodes.now) j))))

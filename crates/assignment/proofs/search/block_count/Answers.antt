@@ -1,30 +1,13 @@
--- `search::block_count` meets its contract: 2 ^ i is 64 times the blocks. From the laws on powers.
-use mathlib.Core.Path.{◌≡◌, refl}
-use Prim.Native.Nat.{ℕ, ◌+◌, ◌*◌, ◌^◌, ◌≤◌}
-use native.Mathlib.Nat.{pow-suc}
-use native.Mathlib.Numerals.{add-one}
-use native.Mathlib.Omega.{arith}
+-- `block_count` meets its contract: 64 times the blocks are 2 ^ i or more. From the laws on powers.
+use Rattle.std.proofs.Common.{◌+◌, ◌^◌, ◌≤◌, arith, pow-add}
 use lib.Pow.{pow_mono}
 use Rattle.assignment.proofs.search.block_count.Goals as goal
 
-few : (i b : ℕ) → i ≤ 16 → 2 ^ i ≡ 64 * b → b ≤ 1024
-few i b h e = let m : 2 ^ i ≤ 65536 = pow_mono h in omega arith
-
-twice : (i b : ℕ) → 2 ^ i ≡ 64 * b → 2 ^ (i + 1) ≡ 64 * (b * 2)
-twice i b e = rw (add-one i) (omega (arith, pow-suc 2 i))
-
-pub loop-i-init : goal.loop-i-init
-loop-i-init c = (omega arith, refl)
-
-pub overflow_mul-blocks : goal.overflow_mul-blocks
-overflow_mul-blocks c = let l = c.loop-i in omega (arith, few l.i l.blocks l.invariant.0 l.invariant.1)
-
-pub loop-i-preserved : goal.loop-i-preserved
-loop-i-preserved c = let l = c.loop-i in (omega arith, twice l.i l.blocks l.invariant.1)
-
 pub returns : goal.returns
 returns c =
-    let l = c.loop-i in
-    let h : c.args.inputs ≤ l.i = omega arith in
-    let m = pow_mono h in
-    (omega (arith, l.invariant.1), few l.i l.blocks l.invariant.0 l.invariant.1)
+    let k = c.saturating_sub.result in
+    let all : c.args.inputs ≤ 6 + k = omega (arith, c.saturating_sub.ensures) in
+    let ten : k ≤ 10 = omega (arith, c.saturating_sub.ensures, c.requires) in
+    let p : 2 ^ c.args.inputs ≤ 2 ^ (6 + k) = pow_mono all in
+    let q : 2 ^ k ≤ 1024 = pow_mono ten in
+    (omega (arith, p, c.pow.ensures, pow-add 2 6 k), omega (arith, q, c.pow.ensures))

@@ -21,4 +21,4 @@ pub returns : goal.returns
 returns c n ws h =
     let a = c.args in
     let e : c.loop-v.v ≡ a.end = omega arith in
-    subst (λ (i : ℕ). Front (nodes_of a.inputs n (lent_table a.node_table.now)) ws c.loop-v.scratch i) e (c.loop-v.invariant.2 n ws h)
+    subst (λ (i : ℕ). Front (nodes_of a.lent.now.inputs n (lent_table a.lent.now.node_table)) ws c.loop-v.scratch i) e (c.loop-v.invariant.2 n ws h)

@@ -10,7 +10,7 @@ use Rattle.graph.specs.Tables.{lent_table}
 abbrev pub invariant-loop-v : goal.invariant-loop-v
 invariant-loop-v l =
     (l.v ≤ l.end) × (length l.scratch ≡ length l.initial.scratch)
-    × ((n : ℕ) (ws : List ℕ) → Front (nodes_of l.inputs n (lent_table l.node_table)) ws l.initial.scratch l.begin → Front (nodes_of l.inputs n (lent_table l.node_table)) ws l.scratch l.v)
+    × ((n : ℕ) (ws : List ℕ) → Front (nodes_of l.lent.inputs n (lent_table l.lent.node_table)) ws l.initial.scratch l.begin → Front (nodes_of l.lent.inputs n (lent_table l.lent.node_table)) ws l.scratch l.v)
 
 abbrev pub decreases-loop-v : goal.decreases-loop-v
 decreases-loop-v l = l.end - l.v

@@ -16,8 +16,8 @@ fill_nodes-requires c =
     let g : Graph = lent_graph a.lent.now in
     (c.requires.1, c.requires.2, c.requires.0.few_nodes, node_below g c.requires.0)
 
-pub slice_bounds-fill_results-end-2 : goal.slice_bounds-fill_results-end-2
-slice_bounds-fill_results-end-2 c =
+pub slice_bounds-words-end-2 : goal.slice_bounds-words-end-2
+slice_bounds-words-end-2 c =
     let a = c.args in
     sym (length-take-le a.lent.now.nodes c.fill_nodes.new.scratch (omega (arith, c.fill_nodes.auto.scratch)))
 

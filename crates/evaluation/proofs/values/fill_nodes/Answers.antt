@@ -3,4 +3,4 @@ use Rattle.evaluation.proofs.values.fill_nodes.Goals as goal
 
 pub returns : goal.returns
 returns c =
-    c.fill_rest.ensures c.args.nodes (c.fill_front-begin.ensures.1 c.args.nodes)
+    c.fill_rest.ensures c.args.lent.now.nodes (c.fill_front-begin.ensures.1 c.args.lent.now.nodes)
