@@ -11,31 +11,40 @@ ghost use Rattle.graph.specs.Tables.{lent_table};
 use graph::literal::{MARK, turned};
 use graph::table::{Table, copy_words, put_last, put_node, put_word, raw_at};
 
-// A literal of the second graph, met by the first, which has `base` indices above the constant. Most name nodes: that is asked first.
-pub fn met(x: u32, output_table: &Table, base: u32, inputs: u32) -> u32
-    requires { Meets (lent_table output_table.now) base inputs × (index x ≤ 104096) }
-    ensures { (result ≡ met_by (lent_table output_table.now) base inputs x) × (index result ≤ 208192) }
+// The first graph as the second meets it: its outputs, its indices above the constant, and the second's inputs, which its outputs drive.
+#[derive(Clone, Copy)]
+pub struct Front<'a> {
+    pub outputs: Table<'a>,
+    pub base: u32,
+    pub inputs: u32,
+    ghost meets: { Meets (lent_table outputs) base inputs },
+}
+
+// A literal of the second graph, met. Most name nodes: that is asked first.
+pub fn met(x: u32, front: &Front) -> u32
+    requires { index x ≤ 104096 }
+    ensures { (result ≡ met_by (lent_table front.now.outputs) front.now.base front.now.inputs x) × (index result ≤ 208192) }
 {
     let index = x / 2;
-    if inputs < index {
-        return x + 2 * base - 2 * inputs;
+    if front.inputs < index {
+        return x + 2 * front.base - 2 * front.inputs;
     }
     if index == 0 {
         return x;
     }
-    let y = output_table.edge_at((index - 1) as usize);
+    let y = front.outputs.edge_at((index - 1) as usize);
     turned(x % 2, y)
 }
 
 // The same of a third word, which may be the mark.
-pub fn met_third(x: u32, output_table: &Table, base: u32, inputs: u32) -> u32
-    requires { Meets (lent_table output_table.now) base inputs × ((x ≡ mark → ⊥) → index x ≤ 104096) }
-    ensures { (result ≡ if_equal x mark mark (met_by (lent_table output_table.now) base inputs x)) × IsWord result }
+pub fn met_third(x: u32, front: &Front) -> u32
+    requires { (x ≡ mark → ⊥) → index x ≤ 104096 }
+    ensures { (result ≡ if_equal x mark mark (met_by (lent_table front.now.outputs) front.now.base front.now.inputs x)) × IsWord result }
 {
     if x == MARK {
         return MARK;
     }
-    met(x, output_table, base, inputs)
+    met(x, front)
 }
 
 // Word k of node v, whose words have these bits, where it is known to be an edge: without the test of the mark.
@@ -78,27 +87,24 @@ pub fn meet_node(
     at: usize,
     got: u64,
     second_node_table: &Table,
-    output_table: &Table,
-    base: u32,
-    inputs: u32,
+    front: &Front,
     joined_node_table: &mut [u32],
     joined_node_bits: &mut [u64],
 ) -> u64
-    requires meets { Meets (lent_table output_table.now) base inputs }
     requires stand { Stand (v + 1) (lent_table second_node_table.now) }
     requires at_bound { at + 3 ≤ held (literals joined_node_table.old joined_node_bits.old) }
-    ensures { let word = met_word_by (lent_table second_node_table.now) (lent_table output_table.now) base inputs in
+    ensures { let word = met_word_by (lent_table second_node_table.now) (lent_table front.now.outputs) front.now.base front.now.inputs in
         let words = word (3 * v) ∷ word (3 * v + 1) ∷ word (3 * v + 2) ∷ [] in
         let before = literals joined_node_table.old (begun at got joined_node_bits.old) in
         literals joined_node_table.new (begun (at + 3) result joined_node_bits.new) ≡ words_put at words before }
 {
     let three = second_node_table.three_at(v);
     let first = edge_of(second_node_table, v, 0, three);
-    let x = met(first, output_table, base, inputs);
+    let x = met(first, front);
     let second = edge_of(second_node_table, v, 1, three);
-    let y = met(second, output_table, base, inputs);
+    let y = met(second, front);
     let third = second_node_table.word_of(v, 2, three);
-    let z = met_third(third, output_table, base, inputs);
+    let z = met_third(third, front);
     put_node(joined_node_table, joined_node_bits, at, got, x, y, z)
 }
 
@@ -108,16 +114,13 @@ pub fn meet_nodes(
     got: u64,
     second_nodes: u32,
     second_node_table: &Table,
-    output_table: &Table,
-    base: u32,
-    inputs: u32,
+    front: &Front,
     joined_node_table: &mut [u32],
     joined_node_bits: &mut [u64],
 )
-    requires meets { Meets (lent_table output_table.now) base inputs }
     requires stand { Stand second_nodes (lent_table second_node_table.now) }
     requires start_bound { (start ≤ 300000) × (start + 3 * second_nodes ≤ held (literals joined_node_table.old joined_node_bits.old)) }
-    ensures { let word = met_word_by (lent_table second_node_table.now) (lent_table output_table.now) base inputs in
+    ensures { let word = met_word_by (lent_table second_node_table.now) (lent_table front.now.outputs) front.now.base front.now.inputs in
         let before = literals joined_node_table.old (begun start got joined_node_bits.old) in
         literals joined_node_table.new joined_node_bits.new ≡ words_put start (tab (3 * second_nodes) word) before }
 {
@@ -129,9 +132,7 @@ pub fn meet_nodes(
             start + 3 * v,
             more,
             second_node_table,
-            output_table,
-            base,
-            inputs,
+            front,
             joined_node_table,
             joined_node_bits,
         );
@@ -143,26 +144,23 @@ pub fn meet_nodes(
 pub fn meet_outputs(
     outputs: u32,
     second_output_table: &Table,
-    output_table: &Table,
-    base: u32,
-    inputs: u32,
+    front: &Front,
     joined_output_table: &mut [u32],
     joined_output_bits: &mut [u64],
 )
-    requires meets { Meets (lent_table output_table.now) base inputs }
     requires fact { let ps = lent_table second_output_table.now in
         (outputs ≤ held ps) × ((j : ℕ) → j < outputs → index (get_or ps j 0) ≤ 104096) }
     requires outputs_bound { outputs ≤ held (literals joined_output_table.old joined_output_bits.old) }
     ensures { let ps = lent_table second_output_table.now in
-        let os = lent_table output_table.now in
+        let os = lent_table front.now.outputs in
         let before = literals joined_output_table.old joined_output_bits.old in
-        literals joined_output_table.new joined_output_bits.new ≡ filled (tab outputs (λ j. met_by os base inputs (get_or ps j 0))) before }
+        literals joined_output_table.new joined_output_bits.new ≡ filled (tab outputs (λ j. met_by os front.now.base front.now.inputs (get_or ps j 0))) before }
 {
     let end = outputs as usize;
     let mut got: u64 = 0;
     for j in 0..end {
         let x = second_output_table.edge_at(j);
-        let y = met(x, output_table, base, inputs);
+        let y = met(x, front);
         got = put_word(joined_output_table, joined_output_bits, j, got, y);
     }
     put_last(joined_output_bits, end, got);
@@ -174,7 +172,6 @@ pub fn copy_locks(count: u32, locks: &[u8], start: u32, joined_locks: &mut [u8])
     ensures { joined_locks.new ≡ paste joined_locks.old start locks.now count }
 {
     let first = start as usize;
-    for v in 0..count as usize {
-        joined_locks[first + v] = locks[v];
-    }
+    let end = count as usize;
+    joined_locks[first..first + end].copy_from_slice(&locks[..end]);
 }

@@ -11,6 +11,7 @@ ghost use Rattle.graph.specs.Tables.{lent_graph};
 mod faults;
 mod fill;
 
+use fill::Front;
 use graph::table::room_of;
 use graph::{Lent, Refusal};
 use tagged_file::Sizes;
@@ -40,7 +41,11 @@ pub fn join(
         room_of(joined_output_table, joined_output_bits),
         joined_locks.len(),
     )?;
-    let base = first.inputs + first.nodes;
+    let front = Front {
+        outputs: first.output_table,
+        base: first.inputs + first.nodes,
+        inputs: second.inputs,
+    };
     let got = fill::copy_nodes(
         first.nodes,
         &first.node_table,
@@ -52,18 +57,14 @@ pub fn join(
         got,
         second.nodes,
         &second.node_table,
-        &first.output_table,
-        base,
-        second.inputs,
+        &front,
         joined_node_table,
         joined_node_bits,
     );
     fill::meet_outputs(
         second.outputs,
         &second.output_table,
-        &first.output_table,
-        base,
-        second.inputs,
+        &front,
         joined_output_table,
         joined_output_bits,
     );

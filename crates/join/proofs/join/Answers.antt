@@ -46,8 +46,11 @@ returns-in_err-check_join c =
     let a = c.args in
     join_refused (lent_graph a.first.now) _ (lent_graph a.second.now) _ _ _ _ _ _ c.from_residual.ensures.1 (rw (c.room_of-2.ensures, c.room_of.ensures) at c.in_err-check_join.ensures)
 
-pub overflow_add-base : goal.overflow_add-base
-overflow_add-base c = omega (arith, (passed (goal.at.overflow_add-base c).In_ok-check_join).meets.few_indices)
+pub overflow_add-front : goal.overflow_add-front
+overflow_add-front c = omega (arith, (passed (goal.at.overflow_add-front c).In_ok-check_join).meets.few_indices)
+
+pub invariant_of-front : goal.invariant_of-front
+invariant_of-front c = record { meets = (passed (goal.at.invariant_of-front c).In_ok-check_join).meets }
 
 pub copy_nodes-got-requires : goal.copy_nodes-got-requires
 copy_nodes-got-requires c =
@@ -64,7 +67,6 @@ meet_nodes-requires c =
     let k = c.copy_nodes-got.auto in
     let a = c.args in
     record {
-      meets = r.meets;
       stand = r.stand;
       start_bound = (omega (arith, r.known.first_admitted.few_nodes), room_kept a.joined_node_table.now a.joined_node_bits.now _ _ _ k.joined_node_table k.joined_node_bits (omega (arith, r.known.rooms.long_nodes)));
     }
@@ -72,7 +74,7 @@ meet_nodes-requires c =
 pub meet_outputs-requires : goal.meet_outputs-requires
 meet_outputs-requires c =
     let r = passed (goal.at.meet_outputs-requires c).In_ok-check_join in
-    record { meets = r.meets; fact = (r.known.second_admitted.held_outputs, r.outputs_low); outputs_bound = r.known.rooms.long_outputs }
+    record { fact = (r.known.second_admitted.held_outputs, r.outputs_low); outputs_bound = r.known.rooms.long_outputs }
 
 pub copy_locks-requires : goal.copy_locks-requires
 copy_locks-requires c =

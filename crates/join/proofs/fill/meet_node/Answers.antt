@@ -22,14 +22,14 @@ edge_of-first-requires c =
     (c.requires.stand.readable c.args.v (omega arith), omega arith, omega (arith, early (goal.at.edge_of-first-requires c).Start 0 (omega arith)), c.three_at-three.ensures)
 
 pub met-x-requires : goal.met-x-requires
-met-x-requires c = (c.requires.meets, rw c.edge_of-first.ensures (early (goal.at.met-x-requires c).Start 0 (omega arith)))
+met-x-requires c = rw c.edge_of-first.ensures (early (goal.at.met-x-requires c).Start 0 (omega arith))
 
 pub edge_of-second-requires : goal.edge_of-second-requires
 edge_of-second-requires c =
     (c.requires.stand.readable c.args.v (omega arith), omega arith, omega (arith, early (goal.at.edge_of-second-requires c).Start 1 (omega arith)), c.three_at-three.ensures)
 
 pub met-y-requires : goal.met-y-requires
-met-y-requires c = (c.requires.meets, rw c.edge_of-second.ensures (early (goal.at.met-y-requires c).Start 1 (omega arith)))
+met-y-requires c = rw c.edge_of-second.ensures (early (goal.at.met-y-requires c).Start 1 (omega arith))
 
 pub word_of-third-requires : goal.word_of-third-requires
 word_of-third-requires c = (c.requires.stand.readable c.args.v (omega arith), omega arith, c.three_at-three.ensures)
@@ -38,7 +38,7 @@ pub met_third-z-requires : goal.met_third-z-requires
 met_third-z-requires c =
     let a = c.args in
     let e = c.word_of-third.ensures in
-    (c.requires.meets, λ n. rw e (third_low (lent_table a.second_node_table.now) (a.v + 1) c.requires.stand (3 * a.v + 2) (omega arith) (λ z. n (e ∙ z))))
+    λ n. rw e (third_low (lent_table a.second_node_table.now) (a.v + 1) c.requires.stand (3 * a.v + 2) (omega arith) (λ z. n (e ∙ z)))
 
 pub put_node-requires : goal.put_node-requires
 put_node-requires c =
@@ -47,4 +47,4 @@ put_node-requires c =
 pub returns : goal.returns
 returns c =
     let a = c.args in
-    node_met (lent_table a.second_node_table.now) (lent_table a.output_table.now) a.base a.inputs a.v a.at _ _ _ _ _ _ _ _ c.edge_of-first.ensures c.met-x.ensures.0 c.edge_of-second.ensures c.met-y.ensures.0 c.word_of-third.ensures c.met_third-z.ensures.0 c.put_node.ensures
+    node_met (lent_table a.second_node_table.now) (lent_table a.front.now.outputs) a.front.now.base a.front.now.inputs a.v a.at _ _ _ _ _ _ _ _ c.edge_of-first.ensures c.met-x.ensures.0 c.edge_of-second.ensures c.met-y.ensures.0 c.word_of-third.ensures c.met_third-z.ensures.0 c.put_node.ensures

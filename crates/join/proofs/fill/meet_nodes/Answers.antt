@@ -16,7 +16,6 @@ pub meet_node-more-requires : goal.meet_node-more-requires
 meet_node-more-requires c =
     let l = c.loop-v in
     record {
-      meets = c.requires.meets;
       stand = stand_less (l.v + 1) _ _ (omega arith) c.requires.stand;
       at_bound = omega (arith, c.requires.start_bound, l.invariant.2, l.invariant.3, held_literals l.joined_node_table l.joined_node_bits, held_literals c.args.joined_node_table.now c.args.joined_node_bits.now);
     }
@@ -26,7 +25,7 @@ loop-v-preserved c =
     let f = c.meet_node-more in
     let l = c.loop-v in
     let a = c.args in
-    let word : ℕ → ℕ = met_word_by (lent_table a.second_node_table.now) (lent_table a.output_table.now) a.base a.inputs in (
+    let word : ℕ → ℕ = met_word_by (lent_table a.second_node_table.now) (lent_table a.front.now.outputs) a.front.now.base a.front.now.inputs in (
       omega arith,
       node_next a.start (a.start + 3 * l.v) l.v (a.start + 3 * (l.v + 1)) (a.start + 3 * l.v + 3) f.result word _ _ _ _ refl (omega arith) l.invariant.1 f.ensures,
       f.auto.joined_node_table ∙ l.invariant.2,

@@ -12,6 +12,6 @@ use Rattle.graph.specs.Tables.{lent_table}
 abbrev pub invariant-loop-v : goal.invariant-loop-v
 invariant-loop-v l =
     (l.v ≤ l.second_nodes)
-    × (literals l.joined_node_table (begun (l.start + 3 * l.v) l.more l.joined_node_bits) ≡ words_put l.start (tab (3 * l.v) (met_word_by (lent_table l.second_node_table) (lent_table l.output_table) l.base l.inputs)) (literals l.initial.joined_node_table (begun l.start l.got l.initial.joined_node_bits)))
+    × (literals l.joined_node_table (begun (l.start + 3 * l.v) l.more l.joined_node_bits) ≡ words_put l.start (tab (3 * l.v) (met_word_by (lent_table l.second_node_table) (lent_table l.front.outputs) l.front.base l.front.inputs)) (literals l.initial.joined_node_table (begun l.start l.got l.initial.joined_node_bits)))
     × (length l.joined_node_table ≡ length l.initial.joined_node_table)
     × (length l.joined_node_bits ≡ length l.initial.joined_node_bits)

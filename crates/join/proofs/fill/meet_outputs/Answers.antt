@@ -19,7 +19,7 @@ edge_at-x-requires c =
 pub met-y-requires : goal.met-y-requires
 met-y-requires c =
     let l = c.loop-j in
-    (c.requires.meets, rw c.edge_at-x.ensures (c.requires.fact.1 l.j (omega arith)))
+    rw c.edge_at-x.ensures (c.requires.fact.1 l.j (omega arith))
 
 pub put_word-got-requires : goal.put_word-got-requires
 put_word-got-requires c =
@@ -31,7 +31,7 @@ loop-j-preserved c =
     let l = c.loop-j in
     let a = c.args in (
       omega arith,
-      output_next (lent_table a.second_output_table.now) (lent_table a.output_table.now) a.base a.inputs (literals a.joined_output_table.now a.joined_output_bits.now) _ _ l.j _ _ (omega (arith, c.requires.outputs_bound, held_le (literals a.joined_output_table.now a.joined_output_bits.now))) l.invariant.1 c.edge_at-x.ensures c.met-y.ensures.0 c.put_word-got.ensures,
+      output_next (lent_table a.second_output_table.now) (lent_table a.front.now.outputs) a.front.now.base a.front.now.inputs (literals a.joined_output_table.now a.joined_output_bits.now) _ _ l.j _ _ (omega (arith, c.requires.outputs_bound, held_le (literals a.joined_output_table.now a.joined_output_bits.now))) l.invariant.1 c.edge_at-x.ensures c.met-y.ensures.0 c.put_word-got.ensures,
       c.put_word-got.auto.table ∙ l.invariant.2,
       c.put_word-got.auto.bits ∙ l.invariant.3,
     )

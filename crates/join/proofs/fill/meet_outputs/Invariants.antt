@@ -12,6 +12,6 @@ use Rattle.graph.specs.Tables.{lent_table}
 abbrev pub invariant-loop-j : goal.invariant-loop-j
 invariant-loop-j l =
     (l.j ≤ l.outputs)
-    × (literals l.joined_output_table (begun l.j l.got l.joined_output_bits) ≡ filled (tab l.j (λ k. met_by (lent_table l.output_table) l.base l.inputs (get_or (lent_table l.second_output_table) k 0))) (literals l.initial.joined_output_table l.initial.joined_output_bits))
+    × (literals l.joined_output_table (begun l.j l.got l.joined_output_bits) ≡ filled (tab l.j (λ k. met_by (lent_table l.front.outputs) l.front.base l.front.inputs (get_or (lent_table l.second_output_table) k 0))) (literals l.initial.joined_output_table l.initial.joined_output_bits))
     × (length l.joined_output_table ≡ length l.initial.joined_output_table)
     × (length l.joined_output_bits ≡ length l.initial.joined_output_bits)

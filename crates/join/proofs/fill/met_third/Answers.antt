@@ -8,7 +8,7 @@ pub returns-then-x-eq-MARK : goal.returns-then-x-eq-MARK
 returns-then-x-eq-MARK c = (equal _ _ _ _ c.if-x-eq-MARK.true refl, λ n. absurd (n refl))
 
 pub met-requires : goal.met-requires
-met-requires c = let p = c.requires in (p.0, p.1 c.if-x-eq-MARK.false)
+met-requires c = c.requires c.if-x-eq-MARK.false
 
 pub returns : goal.returns
 returns c = (unequal _ _ _ _ c.if-x-eq-MARK.false c.met.ensures.0, λ n. omega (arith, c.met.ensures.1))
