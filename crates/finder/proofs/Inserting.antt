@@ -3,7 +3,7 @@ use mathlib.Core.Path.{◌≡◌, refl, sym, ap, ap₂, ◌∙◌}
 use mathlib.Core.Bool.{Bool, true, false, ◌||◌, or-false}
 use mathlib.Core.Logic.{⊎_elim, ◌≢◌}
 use mathlib.Core.List.{List, [], ◌∷◌, ◌++◌}
-use Prim.Native.Nat.{ℕ, suc, ◌+◌, ◌-◌, ◌*◌, ◌/◌, ◌%◌, ◌≤◌, ◌<◌}
+use Prim.Native.Nat.{ℕ, zero, suc, ◌+◌, ◌-◌, ◌*◌, ◌/◌, ◌%◌, ◌≤◌, ◌<◌}
 use native.Mathlib.Omega.{arith}
 use native.Mathlib.Nat.{eq-or-lt_of_le}
 use borrow.Author.Tests.{eq-eqb, ne_eqb, lt-ltb, le-ltb}
@@ -16,7 +16,7 @@ use Rattle.graph.proofs.Tests.{less, no_less, equal, unequal}
 use Rattle.hidden.specs.Find.{reaches}
 use Rattle.hidden.specs.Inner.{Between, has}
 use Rattle.hidden.proofs.Pass.{between_down}
-use Rattle.finder.specs.Nearness.{insert_to, Stays, Swaps, Carried, Inserted, Grown, through}
+use Rattle.finder.specs.Nearness.{insert_to, Stays, Swaps, Carried, Inserted, Grown, through, reach_room}
 
 insert_equal : (x y : ℕ) (ys : List ℕ) → y ≡ x → insert_to x (y ∷ ys) ≡ y ∷ ys
 unfolding insert_to
@@ -209,12 +209,6 @@ module _ (g : Graph) (k : ℕ) where
         grown_both (c + c) c e u _ u _ _ (reaches g (suc k) u) n b r xs xs₂ xs₃ two z (omega arith) (omega arith) (omega arith) (λ i p. reaches_node u w i lo q)
 
 -- by one word
-pub through_none : (g : Graph) (j x n r : ℕ) (xs xs' : List ℕ) → is_edge g j ≡ true → x ≡ index (word g j) → x < g.I + 1 + j / 3 → Grown 1 (x + 1) (eqb x) n r xs xs'
-    → Grown 1 (g.I + 1 + j / 3) (through g 0 j) n r xs xs'
-unfolding reaches
-through_none g j x n r xs xs' e q h a =
-    grown_as 1 1 (x + 1) (g.I + 1 + j / 3) (eqb x) (through g 0 j) n r xs xs' a (omega arith) (omega arith) (λ i p. through_edge g 0 j i e ∙ or-false (eqb (index (word g j)) i) ∙ ap (λ (y : ℕ). eqb y i) (sym q))
-
 pub through_more : (g : Graph) (k c j x n m r : ℕ) (xs xs' xs'' : List ℕ) → is_edge g j ≡ true → x ≡ index (word g j) → x < g.I + 1 + j / 3 → Grown 1 (x + 1) (eqb x) n m xs xs'
     → Grown c x (reaches g k x) m r xs' xs'' → Grown (c + 1) (g.I + 1 + j / 3) (through g k j) n r xs xs''
 through_more g k c j x n m r xs xs' xs'' e q h a b =
@@ -240,3 +234,16 @@ module _ (c e n l : ℕ) (f : 3 * c ≤ e) (h : n + e ≤ l) where
 -- and for what the index x leads to, behind itself
 pub room_through : (i j n m x c l l₀ r : ℕ) → j < 3 * n → x < i + 1 + j / 3 → l ≡ l₀ → m + (c + 1) ≤ l₀ → l₀ ≤ 1000 → r ≤ m + 1 → (x < i + 1 + n) × (r + c ≤ l) × (l ≤ 1000)
 room_through i j n m x c l l₀ r h b e k f q = (omega arith, omega arith, omega arith)
+
+-- within no words nothing is reached; and within some, what three words lead to that reach one less
+pub reach_nothing : (g : Graph) (f u n : ℕ) (xs : List ℕ) → f ≡ 0 → Grown (reach_room f) u (reaches g f u) n n xs xs
+unfolding reaches
+reach_nothing g zero u n xs e = grown_none (reach_room 0) u (reaches g 0 u) n xs (λ i p. refl)
+reach_nothing g (suc f) u n xs e = absurd (omega arith)
+
+pub reach_rooms : (f : ℕ) → (f ≡ 0 → ⊥) → 3 * (reach_room (f - 1) + 1) ≡ reach_room f
+reach_rooms zero n = absurd (n refl)
+reach_rooms (suc f) n = let e : suc f - 1 ≡ f = omega arith in rw e refl
+
+pub reach_less : (g : Graph) (c f u n r : ℕ) (xs xs' : List ℕ) → (f ≡ 0 → ⊥) → Grown c u (reaches g (suc (f - 1)) u) n r xs xs' → Grown c u (reaches g f u) n r xs xs'
+reach_less g c f u n r xs xs' z a = let e : suc (f - 1) ≡ f = omega (arith, z) in rw e at a

@@ -1,6 +1,6 @@
 -- The rising list of the indices near a node, in the first words of a slice. What the inner functions ask of each other, and no promise
 -- to a caller.
-use Rattle.std.specs.Prelude.{◌≡◌, Bool, ◌&&◌, ◌||◌, ◌⊎◌, List, [], ◌∷◌, ℕ, ◌+◌, ◌≤◌, ◌<◌, eqb, length, get_or, set, take}
+use Rattle.std.specs.Prelude.{◌≡◌, Bool, ◌&&◌, ◌||◌, ◌⊎◌, List, [], ◌∷◌, ℕ, zero, suc, ◌+◌, ◌*◌, ◌≤◌, ◌<◌, eqb, length, get_or, set, take}
 use Rattle.graph.specs.Finite.{if_less, if_equal}
 use Rattle.graph.specs.Graph.{Graph, index, word, is_edge}
 use Rattle.hidden.specs.Find.{reaches}
@@ -37,6 +37,11 @@ pub record Grown (c u : ℕ) (t : ℕ → Bool) (n r : ℕ) (xs xs' : List ℕ) 
   pub few : r ≤ n + c
   pub rising : (hi : ℕ) → u ≤ hi → Between 0 hi (take n xs) → Between 0 hi (take r xs')
   pub members : (i : ℕ) → 0 < i → has i (take r xs') ≡ (has i (take n xs) || t i)
+
+-- how many indices one reaches at most within k words
+abbrev pub reach_room : ℕ → ℕ
+reach_room zero = 0
+reach_room (suc k) = 3 * (reach_room k + 1)
 
 -- what the word at place j leads to within k words more
 unfoldable pub through : Graph → ℕ → ℕ → ℕ → Bool

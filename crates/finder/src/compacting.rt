@@ -157,7 +157,5 @@ pub fn clear_locks(locks: &mut [u8], a: usize, b: usize)
     requires { (a ≤ b) × (b ≤ 300000) × (b ≤ length locks.old) }
     ensures { Cleared a b locks.old locks.new }
 {
-    for j in a..b {
-        locks[j] = 0;
-    }
+    locks[a..b].fill(0);
 }

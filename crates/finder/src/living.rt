@@ -12,9 +12,7 @@ fn unmark(nodes: usize, scratch: &mut [u32])
     requires { (nodes ≤ 100000) × (nodes ≤ length scratch.old) }
     ensures { Zeroed nodes scratch.old scratch.new }
 {
-    for k in 0..nodes {
-        scratch[k] = 0;
-    }
+    scratch[..nodes].fill(0);
 }
 
 // The node that an index names, if it names one.
@@ -87,9 +85,7 @@ pub fn mark_living(lent: &Lent, scratch: &mut [u32])
 {
     unmark(wide(lent.nodes), scratch);
     mark_outputs(lent, scratch);
-    let mut v = wide(lent.nodes);
-    while 0 < v {
-        v -= 1;
+    for v in (0..wide(lent.nodes)).rev() {
         visit(lent, v, scratch);
     }
 }

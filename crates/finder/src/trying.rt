@@ -16,7 +16,7 @@ ghost use Rattle.graph.specs.Tables.{lent_table};
 use crate::barred::nothing_to_find;
 use crate::following::gather_ways;
 use crate::masks::{allowed_places, spread, thirds, too_few};
-use crate::nearness::reach_three;
+use crate::nearness::reach;
 use crate::signs::{could_be, sign_of};
 use graph::table::Table;
 use majority_call::{making, valuing};
@@ -24,6 +24,9 @@ use moves::words::wide;
 use trees::fields::read;
 
 pub const NONE: u32 = 256;
+
+// How many words down an index is near.
+const WORDS: u32 = 3;
 
 // A triple and the node's truth value over it, of majority's class; NONE where there is no such triple.
 #[derive(Clone, Copy)]
@@ -289,7 +292,7 @@ pub fn try_near(inputs: u32, nodes: u32, node_table: &Table, scratch: &mut [u32]
     }
     let mut list = [0u32; 39];
     let u = inputs + 1 + v;
-    let m = reach_three(inputs, nodes, node_table, &mut list, 0, u);
+    let m = reach(inputs, nodes, node_table, &mut list, 0, u, WORDS);
     let allowed = allowed_places(inputs, nodes, node_table, &list, m, w);
     if too_few(m, allowed) {
         return Trial {

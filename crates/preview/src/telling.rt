@@ -14,10 +14,7 @@ pub fn clear(nodes: u32, bytes: &mut [u8])
     requires { (nodes ≤ 100000) × (nodes ≤ length bytes.old) }
     ensures { Cleared nodes bytes.old bytes.new }
 {
-    let n = wide(nodes);
-    for v in 0..n {
-        bytes[v] = 0;
-    }
+    bytes[..nodes as usize].fill(0);
 }
 
 pub fn byte(x: u32) -> u8

@@ -43,7 +43,7 @@ returns-then-nothing_to_find c =
 
 pub allowed_places-allowed-requires : goal.allowed_places-allowed-requires
 allowed_places-allowed-requires c =
-    let o = c.reach_three-m in
+    let o = c.reach-m in
     let w = c.wide-w in
     (followed (goal.at.allowed_places-allowed-requires c).Start w.result w.ensures o.result _ _ o.ensures refl).near
 
@@ -51,7 +51,7 @@ pub returns-then-too_few : goal.returns-then-too_few
 returns-then-too_few c =
     let q = c.too_few in
     let d = c.allowed_places-allowed in
-    let o = c.reach_three-m in
+    let o = c.reach-m in
     let w = c.wide-w in
     let a = c.args in
     let l = o.new.list in
@@ -62,7 +62,7 @@ returns-then-too_few c =
 
 pub gather_ways-n-requires : goal.gather_ways-n-requires
 gather_ways-n-requires c =
-    let o = c.reach_three-m in
+    let o = c.reach-m in
     let w = c.wide-w in
     (followed (goal.at.gather_ways-n-requires c).Start w.result w.ensures o.result _ _ o.ensures refl, omega arith)
 
@@ -74,7 +74,7 @@ returns-then-spread c =
     let t = c.spread in
     let y = c.gather_ways-n in
     let d = c.allowed_places-allowed in
-    let o = c.reach_three-m in
+    let o = c.reach-m in
     let w = c.wide-w in
     let a = c.args in
     let l = o.new.list in
@@ -87,7 +87,7 @@ pub try_triples-requires : goal.try_triples-requires
 try_triples-requires c =
     let y = c.gather_ways-n in
     let d = c.allowed_places-allowed in
-    let o = c.reach_three-m in
+    let o = c.reach-m in
     let w = c.wide-w in
     let a = c.args in (
       near_ready (graph (goal.at.try_triples-requires c).Start) a.v w.result o.result _ o.new.list w.ensures o.ensures a.scratch.now c.requires.0 c.requires.1 c.requires.2 c.requires.3 c.requires.4 refl,
@@ -97,7 +97,7 @@ try_triples-requires c =
 pub returns : goal.returns
 returns c =
     let t = c.try_triples in
-    let o = c.reach_three-m in
+    let o = c.reach-m in
     let w = c.wide-w in
     let a = c.args in
     sought_near (graph (goal.at.returns c).Start) a.v w.result o.result _ o.new.list w.ensures o.ensures t.result.byte _ a.scratch.now _ t.ensures
