@@ -1,8 +1,9 @@
 -- The triples of a rising list tried at node v, in order. What the inner functions ask of each other, and no promise to a caller.
-use Rattle.std.specs.Prelude.{◌≡◌, true, false, List, ℕ, ◌+◌, ◌*◌, ◌≤◌, ◌<◌, length, take}
+use Rattle.std.specs.Prelude.{◌≡◌, true, false, Option, None, Some, List, ℕ, ◌+◌, ◌*◌, ◌≤◌, ◌<◌, length, take}
 use Rattle.graph.specs.Admission.{Admitted}
 use Rattle.graph.specs.Graph.{Graph, node}
-use Rattle.hidden.specs.Truth.{Triple, truth}
+use Rattle.finder.specs.declared.trying.Trial.{Trial}
+use Rattle.hidden.specs.Truth.{Triple, triple, truth}
 use Rattle.hidden.specs.Majority.{is_majority, made}
 use Rattle.hidden.specs.Find.{first_made}
 use Rattle.hidden.specs.Inner.{Between, Rising}
@@ -26,6 +27,20 @@ pub record SignsRead (g : Graph) (v one two w x y : ℕ) (sc : List ℕ) : Type 
   pub here : w ≡ sign_of g.I sc (node g v)
   pub first : x ≡ sign_of g.I sc one
   pub second : y ≡ sign_of g.I sc two
+
+-- the truth value that was found, and 256 where none was
+abbrev pub byte_found : Option ℕ → ℕ
+byte_found None = 256
+byte_found (Some b) = b
+
+-- the same of a trial, and its triple
+abbrev pub trial_byte : Option Trial → ℕ
+trial_byte None = 256
+trial_byte (Some t) = t.byte
+
+abbrev pub trial_three : Option Trial → Triple
+trial_three None = triple 0 0 0
+trial_three (Some t) = triple t.one t.two t.three
 
 -- one triple tried at node v: its truth value, where that is of majority's class, else 256
 pub record Tried (g : Graph) (t : Triple) (v f : ℕ) (sc sc' : List ℕ) : Type 0 where

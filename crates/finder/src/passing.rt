@@ -3,16 +3,15 @@ ghost use Rattle.std.specs.Prelude.{◌≡◌, not, ◌||◌, ℕ, ◌+◌, ◌*
 ghost use Rattle.graph.specs.Admission.{Admitted};
 ghost use Rattle.graph.specs.Literals.{literals};
 ghost use Rattle.evaluation.specs.Inner.{nodes_of};
-ghost use Rattle.hidden.specs.Truth.{triple};
 ghost use Rattle.hidden.specs.Find.{is_plain, passed};
 ghost use Rattle.finder.specs.Signs.{Signed};
-ghost use Rattle.finder.specs.Trying.{Gives};
+ghost use Rattle.finder.specs.Trying.{Gives, trial_byte, trial_three};
 ghost use Rattle.finder.specs.Passing.{Clean, Becomes, Changed, Stepped};
 ghost use Rattle.graph.specs.Tables.{lent_table};
 
 use crate::down::set_down;
 use crate::signs::set_sign;
-use crate::trying::{NONE, Trial, try_near};
+use crate::trying::{Trial, try_near};
 use graph::table::Table;
 use majority_call::making;
 use moves::words::wide;
@@ -64,28 +63,25 @@ fn make_found(
     node_table: &mut [u32],
     node_bits: &mut [u64],
     v: usize,
-    found: Trial,
+    found: Option<Trial>,
 )
     requires { let g = nodes_of inputs nodes (literals node_table.old node_bits.old) in
-        let t = triple found.one found.two found.three in
-        Admitted g × (v < nodes) × (found.byte < 256 → Gives g v found.byte t) }
+        Admitted g × (v < nodes) × (trial_byte found < 256 → Gives g v (trial_byte found) (trial_three found)) }
     ensures { let g = nodes_of inputs nodes (literals node_table.old node_bits.old) in
-        let t = triple found.one found.two found.three in
-        Becomes g v found.byte t (literals node_table.new node_bits.new) }
+        Becomes g v (trial_byte found) (trial_three found) (literals node_table.new node_bits.new) }
 {
-    if NONE <= found.byte {
-        return;
+    if let Some(trial) = found {
+        let c = making::complements_of(trial.byte as u32);
+        making::make(
+            node_table,
+            node_bits,
+            v,
+            trial.one,
+            trial.two,
+            trial.three,
+            c,
+        );
     }
-    let c = making::complements_of(found.byte);
-    making::make(
-        node_table,
-        node_bits,
-        v,
-        found.one,
-        found.two,
-        found.three,
-        c,
-    );
 }
 
 // The words of node v: locked and plain ones stay. What scratch has of the node itself is forgotten.

@@ -10,7 +10,7 @@ ghost use Rattle.hidden.specs.Inner.{Rising, left₁, left₂, left₃};
 ghost use Rattle.majority_call.specs.Valuing.{Facts};
 ghost use Rattle.finder.specs.Signs.{Signed};
 ghost use Rattle.finder.specs.Meeting.{Tells, ThirdsMet, WaysKnown};
-ghost use Rattle.finder.specs.Trying.{Ready, SignsRead, Tried, Sought};
+ghost use Rattle.finder.specs.Trying.{Ready, SignsRead, byte_found, Tried, trial_byte, trial_three, Sought};
 ghost use Rattle.graph.specs.Tables.{lent_table};
 
 use crate::barred::nothing_to_find;
@@ -23,15 +23,13 @@ use majority_call::{making, valuing};
 use moves::words::wide;
 use trees::fields::read;
 
-pub const NONE: u32 = 256;
-
 // How many words down an index is near.
 const WORDS: u32 = 3;
 
-// A triple and the node's truth value over it, of majority's class; NONE where there is no such triple.
+// A triple and the node's truth value over it, of majority's class.
 #[derive(Clone, Copy)]
 pub struct Trial {
-    pub byte: u32,
+    pub byte: u8,
     pub one: u32,
     pub two: u32,
     pub three: u32,
@@ -47,20 +45,20 @@ fn tried(
     two: u32,
     three: u32,
     v: usize,
-) -> u32
+) -> Option<u8>
     requires { let g = nodes_of inputs nodes (lent_table node_table.now) in
         Admitted g × (8 * nodes ≤ length scratch.old) × (v < nodes) × Facts g scratch.old × Rising (triple one two three) (inputs + 1 + v) }
     ensures { let g = nodes_of inputs nodes (lent_table node_table.now) in
-        Tried g (triple one two three) v result scratch.old scratch.new }
+        Tried g (triple one two three) v (byte_found result) scratch.old scratch.new }
 {
     let byte = valuing::truth(inputs, nodes, node_table, scratch, one, two, three, v);
     if byte == valuing::LEAK {
-        return NONE;
+        return None;
     }
     if making::is_majority(byte) {
-        return byte;
+        return Some(byte as u8);
     }
-    NONE
+    None
 }
 
 // The same, by the signatures w of the node, x of the first and y of the second: most triples do not fit, and of these nothing is valued.
@@ -76,18 +74,18 @@ fn tried_if_fit(
     w: u32,
     x: u32,
     y: u32,
-) -> u32
+) -> Option<u8>
     requires { let g = nodes_of inputs nodes (lent_table node_table.now) in
         let t = triple one two three in
         Admitted g × (8 * nodes ≤ length scratch.old) × (v < nodes) × Facts g scratch.old × Rising t (inputs + 1 + v) × SignsRead g v one two w x y scratch.old }
     ensures { let g = nodes_of inputs nodes (lent_table node_table.now) in
-        Tried g (triple one two three) v result scratch.old scratch.new }
+        Tried g (triple one two three) v (byte_found result) scratch.old scratch.new }
 {
     let z = sign_of(inputs, scratch, three);
     if could_be(w, x, y, z) {
         return tried(inputs, nodes, node_table, scratch, one, two, three, v);
     }
-    NONE
+    None
 }
 
 // The same, where the places of thirds that meet every way have that of the third.
@@ -105,15 +103,15 @@ fn tried_if_met(
     y: u32,
     met: u64,
     c: usize,
-) -> u32
+) -> Option<u8>
     requires { let g = nodes_of inputs nodes (lent_table node_table.now) in
         let t = triple one two three in
         Admitted g × (8 * nodes ≤ length scratch.old) × (v < nodes) × Facts g scratch.old × Rising t (inputs + 1 + v) × SignsRead g v one two w x y scratch.old × (c < 64) × (bit c met ≡ 0 → is_majority (truth g t (inputs + 1 + v)) ≡ false) }
     ensures { let g = nodes_of inputs nodes (lent_table node_table.now) in
-        Tried g (triple one two three) v result scratch.old scratch.new }
+        Tried g (triple one two three) v (byte_found result) scratch.old scratch.new }
 {
     if (met >> c) % 2 == 0 {
-        return NONE;
+        return None;
     }
     tried_if_fit(
         inputs, nodes, node_table, scratch, one, two, three, v, w, x, y,
@@ -132,13 +130,12 @@ fn try_thirds(
     b: usize,
     v: usize,
     met: u64,
-) -> Trial
+) -> Option<Trial>
     requires { let g = nodes_of inputs nodes (lent_table node_table.now) in
         Ready g v m list.now scratch.old × (a < b) × (b < m) × (m ≤ 39) × ThirdsMet g v m list.now a b met }
     ensures { let g = nodes_of inputs nodes (lent_table node_table.now) in
         let l = take m list.now in
-        let t = triple result.one result.two result.three in
-        Sought g v (left₃ l a b (suc b)) (left₂ l a (suc b)) result.byte t scratch.old scratch.new }
+        Sought g v (left₃ l a b (suc b)) (left₂ l a (suc b)) (trial_byte result) (trial_three result) scratch.old scratch.new }
 {
     let one = list[a];
     let two = list[b];
@@ -147,24 +144,19 @@ fn try_thirds(
     let y = sign_of(inputs, scratch, two);
     for c in b + 1..m {
         let three = list[c];
-        let byte = tried_if_met(
+        let tried = tried_if_met(
             inputs, nodes, node_table, scratch, one, two, three, v, w, x, y, met, c,
         );
-        if byte < NONE {
-            return Trial {
-                byte: byte,
-                one: one,
-                two: two,
-                three: three,
-            };
+        if let Some(byte) = tried {
+            return Some(Trial {
+                byte,
+                one,
+                two,
+                three,
+            });
         }
     }
-    Trial {
-        byte: NONE,
-        one: 0,
-        two: 0,
-        three: 0,
-    }
+    None
 }
 
 // Those with the indices at places a and b, if some third may meet every way with them.
@@ -181,22 +173,16 @@ fn try_pair(
     a: usize,
     b: usize,
     v: usize,
-) -> Trial
+) -> Option<Trial>
     requires { let g = nodes_of inputs nodes (lent_table node_table.now) in
         Ready g v m list.now scratch.old × (a < b) × (b < m) × WaysKnown g v m list.now allowed n ways.now }
     ensures { let g = nodes_of inputs nodes (lent_table node_table.now) in
         let l = take m list.now in
-        let t = triple result.one result.two result.three in
-        Sought g v (left₃ l a b (suc b)) (left₂ l a (suc b)) result.byte t scratch.old scratch.new }
+        Sought g v (left₃ l a b (suc b)) (left₂ l a (suc b)) (trial_byte result) (trial_three result) scratch.old scratch.new }
 {
     let met = thirds(ways, n, allowed, a, b);
     if (met >> b) < 2 {
-        return Trial {
-            byte: NONE,
-            one: 0,
-            two: 0,
-            three: 0,
-        };
+        return None;
     }
     try_thirds(inputs, nodes, node_table, scratch, list, m, a, b, v, met)
 }
@@ -214,28 +200,22 @@ fn try_seconds(
     n: usize,
     a: usize,
     v: usize,
-) -> Trial
+) -> Option<Trial>
     requires { let g = nodes_of inputs nodes (lent_table node_table.now) in
         Ready g v m list.now scratch.old × (a < m) × WaysKnown g v m list.now allowed n ways.now }
     ensures { let g = nodes_of inputs nodes (lent_table node_table.now) in
         let l = take m list.now in
-        let t = triple result.one result.two result.three in
-        Sought g v (left₁ l a) (left₁ l (suc a)) result.byte t scratch.old scratch.new }
+        Sought g v (left₁ l a) (left₁ l (suc a)) (trial_byte result) (trial_three result) scratch.old scratch.new }
 {
     for b in a + 1..m {
         let found = try_pair(
             inputs, nodes, node_table, scratch, list, m, allowed, ways, n, a, b, v,
         );
-        if found.byte < NONE {
-            return found;
+        if let Some(trial) = found {
+            return Some(trial);
         }
     }
-    Trial {
-        byte: NONE,
-        one: 0,
-        two: 0,
-        three: 0,
-    }
+    None
 }
 
 // All of them.
@@ -250,69 +230,53 @@ fn try_triples(
     ways: &[u64],
     n: usize,
     v: usize,
-) -> Trial
+) -> Option<Trial>
     requires { let g = nodes_of inputs nodes (lent_table node_table.now) in
         Ready g v m list.now scratch.old × WaysKnown g v m list.now allowed n ways.now }
     ensures { let g = nodes_of inputs nodes (lent_table node_table.now) in
-        let t = triple result.one result.two result.three in
-        Sought g v (triples (take m list.now)) [] result.byte t scratch.old scratch.new }
+        Sought g v (triples (take m list.now)) [] (trial_byte result) (trial_three result) scratch.old scratch.new }
 {
     for a in 0..m {
         let found = try_seconds(
             inputs, nodes, node_table, scratch, list, m, allowed, ways, n, a, v,
         );
-        if found.byte < NONE {
-            return found;
+        if let Some(trial) = found {
+            return Some(trial);
         }
     }
-    Trial {
-        byte: NONE,
-        one: 0,
-        two: 0,
-        three: 0,
-    }
+    None
 }
 
 // All that are near node v.
-pub fn try_near(inputs: u32, nodes: u32, node_table: &Table, scratch: &mut [u32], v: u32) -> Trial
+pub fn try_near(
+    inputs: u32,
+    nodes: u32,
+    node_table: &Table,
+    scratch: &mut [u32],
+    v: u32,
+) -> Option<Trial>
     requires { let g = nodes_of inputs nodes (lent_table node_table.now) in
         Admitted g × (8 * nodes ≤ length scratch.old) × (v < nodes) × Facts g scratch.old × Signed g (v + 1) scratch.old × Tells g scratch.old }
     ensures { let g = nodes_of inputs nodes (lent_table node_table.now) in
-        let t = triple result.one result.two result.three in
-        Sought g v (triples (near g (inputs + 1 + v))) [] result.byte t scratch.old scratch.new }
+        Sought g v (triples (near g (inputs + 1 + v))) [] (trial_byte result) (trial_three result) scratch.old scratch.new }
 {
     let w = wide(v);
     if nothing_to_find(inputs, nodes, node_table, w) {
-        return Trial {
-            byte: NONE,
-            one: 0,
-            two: 0,
-            three: 0,
-        };
+        return None;
     }
     let mut list = [0u32; 39];
     let u = inputs + 1 + v;
     let m = reach(inputs, nodes, node_table, &mut list, 0, u, WORDS);
     let allowed = allowed_places(inputs, nodes, node_table, &list, m, w);
     if too_few(m, allowed) {
-        return Trial {
-            byte: NONE,
-            one: 0,
-            two: 0,
-            three: 0,
-        };
+        return None;
     }
     let mut ways = [0u64; 27];
     let n = gather_ways(
         inputs, nodes, node_table, scratch, &list, m, w, allowed, &mut ways,
     );
     if spread(&ways, n, allowed) {
-        return Trial {
-            byte: NONE,
-            one: 0,
-            two: 0,
-            three: 0,
-        };
+        return None;
     }
     try_triples(
         inputs, nodes, node_table, scratch, &list, m, allowed, &ways, n, w,

@@ -9,6 +9,7 @@ use Rattle.graph.specs.Literals.{literals}
 use Rattle.evaluation.specs.Inner.{nodes_of}
 use Rattle.trees.specs.Filling.{Stored}
 use Rattle.finder.specs.Passing.{Becomes}
+use Rattle.finder.specs.Trying.{trial_byte}
 use Rattle.finder.proofs.Below.{clean_tells, locked_here, free_here, changed_left, changed_tried}
 use Rattle.finder.proofs.passing.change_node.Goals as goal
 use Rattle.finder.proofs.passing.change_node.Goals.{Start}
@@ -60,6 +61,6 @@ returns c =
     let w = c.wide-w in
     let a = c.args in
     let z : Stored a.v 2 0 t.new.scratch d.new.scratch = rw w.ensures at d.ensures in
-    let b : Becomes (graph (goal.at.returns c).Start) a.v t.result.byte _ _ = rw w.ensures at m.ensures in
-    changed_tried a.inputs a.nodes (words (goal.at.returns c).Start) a.locks.now a.scratch.now a.v c.requires.1 c.requires.0 c.requires.3 c.requires.4 t.result.byte _ _ t.new.scratch d.new.scratch
+    let b : Becomes (graph (goal.at.returns c).Start) a.v (trial_byte t.result) _ _ = rw w.ensures at m.ensures in
+    changed_tried a.inputs a.nodes (words (goal.at.returns c).Start) a.locks.now a.scratch.now a.v c.requires.1 c.requires.0 c.requires.3 c.requires.4 (trial_byte t.result) _ _ t.new.scratch d.new.scratch
     (free_here (graph (goal.at.returns c).Start) a.locks.now a.v w.result p.result false w.ensures c.if-locks-w-eq1.false p.ensures c.if-is_plain.false) t.ensures b z

@@ -10,32 +10,31 @@ use Rattle.finder.proofs.Below.{becomes_none, becomes_made}
 use Rattle.finder.proofs.passing.make_found.Goals as goal
 use Rattle.finder.proofs.passing.make_found.Goals.{Start}
 
-abbrev graph : Start → Graph
-graph s = nodes_of s.args.inputs s.args.nodes (literals s.args.node_table.now s.args.node_bits.now)
-
-abbrev three : Start → Triple
-three s = triple s.args.found.one s.args.found.two s.args.found.three
-
 room : (i n v x y z c l : ℕ) → v < n → i ≤ 4096 → n ≤ 100000 → 3 * n ≤ l → x < y → y < z → z < i + 1 + v → c < 8
     → (v < 100000) × (3 * v + 3 ≤ l) × (x < 200000) × (y < 200000) × (z < 200000) × (c < 8)
 room i n v x y z c l h f m r p q e d = (omega arith, omega arith, omega arith, omega arith, omega arith, d)
 
-pub returns-then-found-ge-NONE : goal.returns-then-found-ge-NONE
-returns-then-found-ge-NONE c = becomes_none (graph (goal.at.returns-then-found-ge-NONE c).Start) c.args.v c.args.found.byte (three (goal.at.returns-then-found-ge-NONE c).Start) c.if-found-ge-NONE.true
-
 pub complements_of-c-requires : goal.complements_of-c-requires
-complements_of-c-requires c = (c.if-found-ge-NONE.false, (c.requires.2 c.if-found-ge-NONE.false).majority)
+complements_of-c-requires c =
+    let k = rw c.in-Some.is at c.requires.2 in
+    (omega arith, (k (omega arith)).majority)
 
 pub make-requires : goal.make-requires
 make-requires c =
     let a = c.args in
-    let r = (c.requires.2 c.if-found-ge-NONE.false).rising in
-    room a.inputs a.nodes a.v a.found.one a.found.two a.found.three _ _ c.requires.1 c.requires.0.few_inputs c.requires.0.few_nodes c.requires.0.held_nodes r.second r.third r.below c.complements_of-c.ensures.1
+    let t = c.in-Some.trial in
+    let k = rw c.in-Some.is at c.requires.2 in
+    let r = (k (omega arith)).rising in
+    room a.inputs a.nodes a.v t.one t.two t.three _ _ c.requires.1 c.requires.0.few_inputs c.requires.0.few_nodes c.requires.0.held_nodes r.second r.third r.below c.complements_of-c.ensures.1
 
-pub returns : goal.returns
-returns c =
+pub returns-in-Some : goal.returns-in-Some
+returns-in-Some c =
     let k = c.complements_of-c in
     let a = c.args in
-    let l = c.if-found-ge-NONE.false in
-    becomes_made (graph (goal.at.returns c).Start) a.v a.found.byte (three (goal.at.returns c).Start) _ l
-    (made_table a.inputs a.nodes (literals a.node_table.now a.node_bits.now) _ (three (goal.at.returns c).Start) (a.inputs + 1 + a.v) a.v a.found.byte k.result (omega arith) (c.requires.2 l).value k.ensures.0 c.make.ensures)
+    let t = c.in-Some.trial in
+    let x : Triple = triple t.one t.two t.three in
+    let ns = literals a.node_table.now a.node_bits.now in
+    let l : t.byte < 256 = omega arith in
+    let q = rw c.in-Some.is at c.requires.2 in
+    rw c.in-Some.is
+    (becomes_made (nodes_of a.inputs a.nodes ns) a.v t.byte x _ l (made_table a.inputs a.nodes ns _ x (a.inputs + 1 + a.v) a.v t.byte k.result (omega arith) (q l).value k.ensures.0 c.make.ensures))

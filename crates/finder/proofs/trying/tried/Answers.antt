@@ -34,6 +34,11 @@ pub is_majority-requires : goal.is_majority-requires
 is_majority-requires c =
     byte _ _ c.truth-byte.ensures.value (truth_le (graph (goal.at.is_majority-requires c).Start) (three (goal.at.is_majority-requires c).Start) _ (omega (arith, c.requires.2))) c.if-byte-eq-LEAK.false
 
+pub overflow_cast-result : goal.overflow_cast-result
+overflow_cast-result c =
+    let l = byte _ _ c.truth-byte.ensures.value (truth_le (graph (goal.at.overflow_cast-result c).Start) (three (goal.at.overflow_cast-result c).Start) _ (omega (arith, c.requires.2))) c.if-byte-eq-LEAK.false in
+    omega (arith, l)
+
 pub returns-then-is_majority : goal.returns-then-is_majority
 returns-then-is_majority c =
     let t = c.truth-byte in

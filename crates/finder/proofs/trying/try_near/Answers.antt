@@ -10,6 +10,7 @@ use Rattle.hidden.specs.Find.{reaches}
 use Rattle.finder.specs.Barred.{NoMajority}
 use Rattle.finder.specs.Meeting.{Followed}
 use Rattle.finder.specs.Nearness.{Grown}
+use Rattle.finder.specs.Trying.{trial_byte}
 use Rattle.finder.proofs.Barring.{barred_sought}
 use Rattle.finder.proofs.Trials.{near_ready, sought_near}
 use Rattle.finder.proofs.Unfit.{none_sought, unmet_passed}
@@ -100,4 +101,4 @@ returns c =
     let o = c.reach-m in
     let w = c.wide-w in
     let a = c.args in
-    sought_near (graph (goal.at.returns c).Start) a.v w.result o.result _ o.new.list w.ensures o.ensures t.result.byte _ a.scratch.now _ t.ensures
+    sought_near (graph (goal.at.returns c).Start) a.v w.result o.result _ o.new.list w.ensures o.ensures (trial_byte t.result) _ a.scratch.now _ t.ensures

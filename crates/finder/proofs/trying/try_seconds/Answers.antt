@@ -29,25 +29,20 @@ try_pair-found-requires c =
     let a = c.args in
     (going_ready (graph (goal.at.try_pair-found-requires c).Start) a.v (left₁ (near (goal.at.try_pair-found-requires c).Start) a.a) a.scratch.now (left₂ (near (goal.at.try_pair-found-requires c).Start) a.a l.b) l.scratch l.invariant.2 a.m a.list.now c.requires.0, l.invariant.0, c.loop-b-test.true, c.requires.2)
 
-pub shape_of-scratch-then-found-lt-NONE : goal.shape_of-scratch-then-found-lt-NONE
-shape_of-scratch-then-found-lt-NONE c = c.try_pair-found.ensures.framed.same ∙ c.loop-b.invariant.2.framed.same
-
-pub returns-then-found-lt-NONE : goal.returns-then-found-lt-NONE
-returns-then-found-lt-NONE c =
-    let o = c.try_pair-found in
+pub returns-in-Some : goal.returns-in-Some
+returns-in-Some c =
     let l = c.loop-b in
     let a = c.args in
-    going_found (graph (goal.at.returns-then-found-lt-NONE c).Start) a.v (left₁ (near (goal.at.returns-then-found-lt-NONE c).Start) a.a) a.scratch.now (left₂ (near (goal.at.returns-then-found-lt-NONE c).Start) a.a l.b) l.scratch l.invariant.2 (left₃ (near (goal.at.returns-then-found-lt-NONE c).Start) a.a l.b (suc l.b)) (left₂ (near (goal.at.returns-then-found-lt-NONE c).Start) a.a (suc l.b)) o.result.byte _ _ (second_step a.m a.list.now c.requires.0.listed a.a l.b c.loop-b-test.true) o.ensures (left₁ (near (goal.at.returns-then-found-lt-NONE c).Start) (suc a.a)) c.if-found-lt-NONE.true
+    going_found (graph (goal.at.returns-in-Some c).Start) a.v (left₁ (near (goal.at.returns-in-Some c).Start) a.a) a.scratch.now (left₂ (near (goal.at.returns-in-Some c).Start) a.a l.b) l.scratch l.invariant.2 (left₃ (near (goal.at.returns-in-Some c).Start) a.a l.b (suc l.b)) (left₂ (near (goal.at.returns-in-Some c).Start) a.a (suc l.b)) c.in-Some.trial.byte _ _ (second_step a.m a.list.now c.requires.0.listed a.a l.b c.loop-b-test.true) c.in-Some.ensures (left₁ (near (goal.at.returns-in-Some c).Start) (suc a.a)) (omega arith)
 
 pub loop-b-preserved : goal.loop-b-preserved
 loop-b-preserved c =
-    let o = c.try_pair-found in
     let t = c.loop-b-test.true in
     let l = c.loop-b in
     let a = c.args in (
       omega (arith, l.invariant.0),
       omega (arith, t),
-      going_on (graph (goal.at.loop-b-preserved c).Start) a.v (left₁ (near (goal.at.loop-b-preserved c).Start) a.a) a.scratch.now (left₂ (near (goal.at.loop-b-preserved c).Start) a.a l.b) l.scratch l.invariant.2 (left₃ (near (goal.at.loop-b-preserved c).Start) a.a l.b (suc l.b)) (left₂ (near (goal.at.loop-b-preserved c).Start) a.a (suc l.b)) o.result.byte _ _ (second_step a.m a.list.now c.requires.0.listed a.a l.b c.loop-b-test.true) o.ensures _ (seconds_next a.m a.list.now c.requires.0.listed a.a l.b) c.if-found-lt-NONE.false,
+      going_on (graph (goal.at.loop-b-preserved c).Start) a.v (left₁ (near (goal.at.loop-b-preserved c).Start) a.a) a.scratch.now (left₂ (near (goal.at.loop-b-preserved c).Start) a.a l.b) l.scratch l.invariant.2 (left₃ (near (goal.at.loop-b-preserved c).Start) a.a l.b (suc l.b)) (left₂ (near (goal.at.loop-b-preserved c).Start) a.a (suc l.b)) 256 _ _ (second_step a.m a.list.now c.requires.0.listed a.a l.b c.loop-b-test.true) c.in_default.ensures _ (seconds_next a.m a.list.now c.requires.0.listed a.a l.b) (omega arith),
     )
 
 pub shape_of-scratch : goal.shape_of-scratch

@@ -60,51 +60,46 @@ loop-c-init c =
 pub bounds-list-c : goal.bounds-list-c
 bounds-list-c c = low _ _ _ _ (self _) c.loop-c-test.true c.requires.0.listed
 
-pub tried_if_met-byte-requires : goal.tried_if_met-byte-requires
-tried_if_met-byte-requires c =
+pub tried_if_met-tried-requires : goal.tried_if_met-tried-requires
+tried_if_met-tried-requires c =
     let w = c.read-w in
     let x = c.sign_of-x in
     let y = c.sign_of-y in
     let l = c.loop-c in
     let a = c.args in
-    let r = going_ready (graph (goal.at.tried_if_met-byte-requires c).Start) a.v (left₃ (near (goal.at.tried_if_met-byte-requires c).Start) a.a a.b (suc a.b)) a.scratch.now (left₃ (near (goal.at.tried_if_met-byte-requires c).Start) a.a a.b l.c) l.scratch l.invariant.2 a.m a.list.now c.requires.0 in (
+    let r = going_ready (graph (goal.at.tried_if_met-tried-requires c).Start) a.v (left₃ (near (goal.at.tried_if_met-tried-requires c).Start) a.a a.b (suc a.b)) a.scratch.now (left₃ (near (goal.at.tried_if_met-tried-requires c).Start) a.a a.b l.c) l.scratch l.invariant.2 a.m a.list.now c.requires.0 in (
       r.admitted,
       r.room,
       r.within,
       r.facts,
-      three_rise (node (graph (goal.at.tried_if_met-byte-requires c).Start) a.v) a.m a.list.now r.listed r.rising a.a a.b l.c c.requires.1 l.invariant.0 c.loop-c-test.true,
-      going_read (graph (goal.at.tried_if_met-byte-requires c).Start) a.v (left₃ (near (goal.at.tried_if_met-byte-requires c).Start) a.a a.b (suc a.b)) a.scratch.now (left₃ (near (goal.at.tried_if_met-byte-requires c).Start) a.a a.b l.c) l.scratch l.invariant.2 _ _ w.result x.result y.result
-          (record { signed = c.requires.0.signed; here = w.ensures ∙ sign_here (graph (goal.at.tried_if_met-byte-requires c).Start) a.v a.scratch.now; first = x.ensures; second = y.ensures }),
+      three_rise (node (graph (goal.at.tried_if_met-tried-requires c).Start) a.v) a.m a.list.now r.listed r.rising a.a a.b l.c c.requires.1 l.invariant.0 c.loop-c-test.true,
+      going_read (graph (goal.at.tried_if_met-tried-requires c).Start) a.v (left₃ (near (goal.at.tried_if_met-tried-requires c).Start) a.a a.b (suc a.b)) a.scratch.now (left₃ (near (goal.at.tried_if_met-tried-requires c).Start) a.a a.b l.c) l.scratch l.invariant.2 _ _ w.result x.result y.result
+          (record { signed = c.requires.0.signed; here = w.ensures ∙ sign_here (graph (goal.at.tried_if_met-tried-requires c).Start) a.v a.scratch.now; first = x.ensures; second = y.ensures }),
       omega (arith, c.requires.3, c.loop-c-test.true),
       c.requires.4 l.c l.invariant.0 c.loop-c-test.true,
     )
 
-pub shape_of-scratch-then-byte-lt-NONE : goal.shape_of-scratch-then-byte-lt-NONE
-shape_of-scratch-then-byte-lt-NONE c = c.tried_if_met-byte.ensures.framed.same ∙ c.loop-c.invariant.2.framed.same
-
-pub returns-then-byte-lt-NONE : goal.returns-then-byte-lt-NONE
-returns-then-byte-lt-NONE c =
-    let o = c.tried_if_met-byte in
+pub returns-in-Some : goal.returns-in-Some
+returns-in-Some c =
     let t = c.loop-c-test.true in
     let l = c.loop-c in
     let a = c.args in
     let x : Triple = triple (get_or a.list.now a.a 0) (get_or a.list.now a.b 0) (get_or a.list.now l.c 0) in
-    tried_found (graph (goal.at.returns-then-byte-lt-NONE c).Start) a.v (left₃ (near (goal.at.returns-then-byte-lt-NONE c).Start) a.a a.b (suc a.b)) a.scratch.now (left₃ (near (goal.at.returns-then-byte-lt-NONE c).Start) a.a a.b l.c) l.scratch l.invariant.2 x (left₃ (near (goal.at.returns-then-byte-lt-NONE c).Start) a.a a.b (l.c + 1)) o.result _
-    (third_step a.m a.list.now c.requires.0.listed a.a a.b l.c c.requires.1 l.invariant.0 t) o.ensures (left₂ (near (goal.at.returns-then-byte-lt-NONE c).Start) a.a (suc a.b))
-    (three_rise (node (graph (goal.at.returns-then-byte-lt-NONE c).Start) a.v) a.m a.list.now c.requires.0.listed c.requires.0.rising a.a a.b l.c c.requires.1 l.invariant.0 t)
-    c.if-byte-lt-NONE.true
+    tried_found (graph (goal.at.returns-in-Some c).Start) a.v (left₃ (near (goal.at.returns-in-Some c).Start) a.a a.b (suc a.b)) a.scratch.now (left₃ (near (goal.at.returns-in-Some c).Start) a.a a.b l.c) l.scratch l.invariant.2 x (left₃ (near (goal.at.returns-in-Some c).Start) a.a a.b (l.c + 1)) c.in-Some.byte _
+    (third_step a.m a.list.now c.requires.0.listed a.a a.b l.c c.requires.1 l.invariant.0 t) c.in-Some.ensures (left₂ (near (goal.at.returns-in-Some c).Start) a.a (suc a.b))
+    (three_rise (node (graph (goal.at.returns-in-Some c).Start) a.v) a.m a.list.now c.requires.0.listed c.requires.0.rising a.a a.b l.c c.requires.1 l.invariant.0 t)
+    (omega arith)
 
 pub loop-c-preserved : goal.loop-c-preserved
 loop-c-preserved c =
-    let o = c.tried_if_met-byte in
     let t = c.loop-c-test.true in
     let l = c.loop-c in
     let a = c.args in
     let x : Triple = triple (get_or a.list.now a.a 0) (get_or a.list.now a.b 0) (get_or a.list.now l.c 0) in (
       omega (arith, l.invariant.0),
       omega (arith, t),
-      tried_on (graph (goal.at.loop-c-preserved c).Start) a.v (left₃ (near (goal.at.loop-c-preserved c).Start) a.a a.b (suc a.b)) a.scratch.now (left₃ (near (goal.at.loop-c-preserved c).Start) a.a a.b l.c) l.scratch l.invariant.2 x (left₃ (near (goal.at.loop-c-preserved c).Start) a.a a.b (l.c + 1)) o.result _
-          (third_step a.m a.list.now c.requires.0.listed a.a a.b l.c c.requires.1 l.invariant.0 t) o.ensures c.if-byte-lt-NONE.false,
+      tried_on (graph (goal.at.loop-c-preserved c).Start) a.v (left₃ (near (goal.at.loop-c-preserved c).Start) a.a a.b (suc a.b)) a.scratch.now (left₃ (near (goal.at.loop-c-preserved c).Start) a.a a.b l.c) l.scratch l.invariant.2 x (left₃ (near (goal.at.loop-c-preserved c).Start) a.a a.b (l.c + 1)) 256 _
+          (third_step a.m a.list.now c.requires.0.listed a.a a.b l.c c.requires.1 l.invariant.0 t) c.in_default.ensures (omega arith),
     )
 
 pub shape_of-scratch : goal.shape_of-scratch

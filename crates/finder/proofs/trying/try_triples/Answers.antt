@@ -31,24 +31,19 @@ try_seconds-found-requires c =
     let a = c.args in
     (going_ready (graph (goal.at.try_seconds-found-requires c).Start) a.v (triples (near (goal.at.try_seconds-found-requires c).Start)) a.scratch.now (left₁ (near (goal.at.try_seconds-found-requires c).Start) l.a) l.scratch l.invariant.1 a.m a.list.now c.requires.0, c.loop-a-test.true, c.requires.1)
 
-pub shape_of-scratch-then-found-lt-NONE : goal.shape_of-scratch-then-found-lt-NONE
-shape_of-scratch-then-found-lt-NONE c = c.try_seconds-found.ensures.framed.same ∙ c.loop-a.invariant.1.framed.same
-
-pub returns-then-found-lt-NONE : goal.returns-then-found-lt-NONE
-returns-then-found-lt-NONE c =
-    let o = c.try_seconds-found in
+pub returns-in-Some : goal.returns-in-Some
+returns-in-Some c =
     let l = c.loop-a in
     let a = c.args in
-    going_found (graph (goal.at.returns-then-found-lt-NONE c).Start) a.v (triples (near (goal.at.returns-then-found-lt-NONE c).Start)) a.scratch.now (left₁ (near (goal.at.returns-then-found-lt-NONE c).Start) l.a) l.scratch l.invariant.1 (left₁ (near (goal.at.returns-then-found-lt-NONE c).Start) l.a) (left₁ (near (goal.at.returns-then-found-lt-NONE c).Start) (suc l.a)) o.result.byte _ _ (refl) o.ensures ([]) c.if-found-lt-NONE.true
+    going_found (graph (goal.at.returns-in-Some c).Start) a.v (triples (near (goal.at.returns-in-Some c).Start)) a.scratch.now (left₁ (near (goal.at.returns-in-Some c).Start) l.a) l.scratch l.invariant.1 (left₁ (near (goal.at.returns-in-Some c).Start) l.a) (left₁ (near (goal.at.returns-in-Some c).Start) (suc l.a)) c.in-Some.trial.byte _ _ (refl) c.in-Some.ensures ([]) (omega arith)
 
 pub loop-a-preserved : goal.loop-a-preserved
 loop-a-preserved c =
-    let o = c.try_seconds-found in
     let t = c.loop-a-test.true in
     let l = c.loop-a in
     let a = c.args in (
       omega (arith, t),
-      going_on (graph (goal.at.loop-a-preserved c).Start) a.v (triples (near (goal.at.loop-a-preserved c).Start)) a.scratch.now (left₁ (near (goal.at.loop-a-preserved c).Start) l.a) l.scratch l.invariant.1 (left₁ (near (goal.at.loop-a-preserved c).Start) l.a) (left₁ (near (goal.at.loop-a-preserved c).Start) (suc l.a)) o.result.byte _ _ (refl) o.ensures _ (firsts_next a.m a.list.now c.requires.0.listed l.a) c.if-found-lt-NONE.false,
+      going_on (graph (goal.at.loop-a-preserved c).Start) a.v (triples (near (goal.at.loop-a-preserved c).Start)) a.scratch.now (left₁ (near (goal.at.loop-a-preserved c).Start) l.a) l.scratch l.invariant.1 (left₁ (near (goal.at.loop-a-preserved c).Start) l.a) (left₁ (near (goal.at.loop-a-preserved c).Start) (suc l.a)) 256 _ _ (refl) c.in_default.ensures _ (firsts_next a.m a.list.now c.requires.0.listed l.a) (omega arith),
     )
 
 pub shape_of-scratch : goal.shape_of-scratch
