@@ -5,7 +5,7 @@ use Rattle.std.specs.Result.{IsErrAnd}
 use Rattle.std.proofs.lemmas.Result.{err_from_is_err_and}
 use Rattle.graph.specs.Finite.{if_less, if_equal, first, first_of}
 use Rattle.graph.specs.Graph.{Graph, is_edge}
-use Rattle.graph.specs.Admission.{room_number, tables_number, word_number, output_number, stray_number, strays_number, literal_number, lock_number, locks_number, content_number, admission_number}
+use Rattle.graph.specs.Admission.{room_number, tables_number, word_number, output_number, stray_number, strays_number, literal_number, lock_number, locks_number, content_number}
 use Rattle.graph.proofs.Cases.{cond_le, eq_or_ne}
 use Rattle.graph.proofs.Tests.{equal, unequal, fault}
 use Rattle.graph.specs.Answer.{Answer, Outcome, LockedOutcome, number_of, refusal_number, answer_by, refused, outcome, locked_outcome, unless, guarded, guarded_locks}
@@ -13,27 +13,30 @@ use Rattle.graph.specs.Inner.{IsRefusal}
 use Rattle.graph.specs.declared.Refusal.{Refusal}
 use Rattle.graph.specs.declared.Refusal.TheVariants.{MissingBytes, WrongField, OverLimit, ShortSlice, BadLiteral, ExtraBytes, NoSuchNode, ShortScratch, ShortBuffer, BadText, HasLatches, WrongNumbering, BadLock, NotRising, NoSuchMove, LockedNode, ManyInputs, BadWanted, StagesDiffer}
 
--- no refusal has the number 0
+-- the number of each refusal, and that it is not 0
+pub number_in : (r : Refusal) → IsRefusal (number_of r)
+number_in MissingBytes = (omega arith, omega arith)
+number_in WrongField = (omega arith, omega arith)
+number_in OverLimit = (omega arith, omega arith)
+number_in ShortSlice = (omega arith, omega arith)
+number_in BadLiteral = (omega arith, omega arith)
+number_in ExtraBytes = (omega arith, omega arith)
+number_in NoSuchNode = (omega arith, omega arith)
+number_in ShortScratch = (omega arith, omega arith)
+number_in ShortBuffer = (omega arith, omega arith)
+number_in BadText = (omega arith, omega arith)
+number_in HasLatches = (omega arith, omega arith)
+number_in WrongNumbering = (omega arith, omega arith)
+number_in BadLock = (omega arith, omega arith)
+number_in NotRising = (omega arith, omega arith)
+number_in NoSuchMove = (omega arith, omega arith)
+number_in LockedNode = (omega arith, omega arith)
+number_in ManyInputs = (omega arith, omega arith)
+number_in BadWanted = (omega arith, omega arith)
+number_in StagesDiffer = (omega arith, omega arith)
+
 pub number_some : (r : Refusal) → number_of r ≡ 0 → ⊥
-number_some MissingBytes e = omega arith
-number_some WrongField e = omega arith
-number_some OverLimit e = omega arith
-number_some ShortSlice e = omega arith
-number_some BadLiteral e = omega arith
-number_some ExtraBytes e = omega arith
-number_some NoSuchNode e = omega arith
-number_some ShortScratch e = omega arith
-number_some ShortBuffer e = omega arith
-number_some BadText e = omega arith
-number_some HasLatches e = omega arith
-number_some WrongNumbering e = omega arith
-number_some BadLock e = omega arith
-number_some NotRising e = omega arith
-number_some NoSuchMove e = omega arith
-number_some LockedNode e = omega arith
-number_some ManyInputs e = omega arith
-number_some BadWanted e = omega arith
-number_some StagesDiffer e = omega arith
+number_some r e = omega (arith, (number_in r).0, e)
 
 -- a call that is refused by k, and one that is not
 pub refused_is : (k m : ℕ) (a : Answer) → k ≡ m → (m ≡ 0 → ⊥) → refused k ≡ unless m a
@@ -141,11 +144,3 @@ module _ (g : Graph) where
     pub content_le : content_number g ls ≤ 13
     unfolding content_number
     content_le = first_le _ _ _ (omega (arith, literal_le)) (locks_le g.N)
-
-    pub admission_le : admission_number g ls ≤ 13
-    unfolding admission_number
-    admission_le = first_le _ _ _ (omega (arith, tables_le)) content_le
-
-    -- what `refused_by` asks of the number
-    pub admission_range : (k : ℕ) → k ≡ admission_number g ls → (k ≡ 0 → ⊥) → IsRefusal k
-    admission_range k e n = (omega arith, omega (arith, admission_le))

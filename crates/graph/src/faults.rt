@@ -1,4 +1,4 @@
-// Whether a graph with its locks is refused, by 3, 4, 5 or 13; and the number of each refusal.
+// Whether a graph with its locks is refused, by 3, 4, 5 or 13.
 ghost use Rattle.std.specs.Prelude.{◌≡◌, ℕ, ◌+◌, ◌*◌, ◌/◌, ◌<◌, ◌≤◌, max, List, length};
 ghost use Rattle.graph.specs.Finite.{first, first_of, if_less, if_equal, sum};
 ghost use Rattle.graph.specs.Graph.{graph_of, mark};
@@ -258,92 +258,4 @@ pub fn check_admission(lent: &Lent) -> Result<(), Refusal>
 {
     check_tables(lent)?;
     check_content(lent)
-}
-
-pub fn admission_number(lent: &Lent) -> u32
-    ensures { result ≡ admission_number (lent_graph lent.now) lent.now.locks.now }
-{
-    match check_admission(lent) {
-        Ok(()) => 0,
-        Err(refusal) => number_of(refusal),
-    }
-}
-
-pub fn tables_number(lent: &Lent) -> u32
-    ensures { result ≡ tables_number (lent_graph lent.now) lent.now.locks.now }
-{
-    match check_tables(lent) {
-        Ok(()) => 0,
-        Err(refusal) => number_of(refusal),
-    }
-}
-
-pub fn content_number(lent: &Lent) -> u32
-    requires { tables_number (lent_graph lent.now) lent.now.locks.now ≡ 0 }
-    ensures { result ≡ content_number (lent_graph lent.now) lent.now.locks.now }
-{
-    match check_content(lent) {
-        Ok(()) => 0,
-        Err(refusal) => number_of(refusal),
-    }
-}
-
-pub fn room_number(
-    inputs: u32,
-    nodes: u32,
-    outputs: u32,
-    node_room: usize,
-    output_room: usize,
-    lock_room: usize,
-) -> u32
-    ensures { result ≡ room_number inputs nodes outputs node_room output_room lock_room }
-{
-    match check_room(inputs, nodes, outputs, node_room, output_room, lock_room) {
-        Ok(()) => 0,
-        Err(refusal) => number_of(refusal),
-    }
-}
-
-// The first of two faults; 0 is none.
-pub fn first_fault(a: u32, b: u32) -> u32
-    ensures { result ≡ first a b }
-{
-    if a != 0 {
-        return a;
-    }
-    b
-}
-
-// The refusal of a number that is not 0.
-pub fn refused_by(number: u32) -> Refusal
-    requires { IsRefusal number }
-    ensures { number_of result ≡ number }
-{
-    match number {
-        1 => Refusal::MissingBytes,
-        2 => Refusal::WrongField,
-        3 => Refusal::OverLimit,
-        4 => Refusal::ShortSlice,
-        5 => Refusal::BadLiteral,
-        6 => Refusal::ExtraBytes,
-        7 => Refusal::NoSuchNode,
-        8 => Refusal::ShortScratch,
-        9 => Refusal::ShortBuffer,
-        10 => Refusal::BadText,
-        11 => Refusal::HasLatches,
-        12 => Refusal::WrongNumbering,
-        13 => Refusal::BadLock,
-        14 => Refusal::NotRising,
-        15 => Refusal::NoSuchMove,
-        16 => Refusal::LockedNode,
-        17 => Refusal::ManyInputs,
-        18 => Refusal::BadWanted,
-        _ => Refusal::StagesDiffer,
-    }
-}
-
-pub fn number_of(refusal: Refusal) -> u32
-    ensures { result ≡ number_of refusal }
-{
-    u32::from(refusal)
 }
