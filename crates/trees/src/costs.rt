@@ -12,7 +12,7 @@ ghost use Rattle.graph.specs.Tables.{lent_graph};
 use crate::fields::{read, store};
 use graph::literal::MARK;
 use graph::{Lent, table};
-use moves::words::{over, wide};
+use moves::words::over;
 use moves::{decide, rows};
 use state::now;
 
@@ -34,7 +34,7 @@ pub fn edge_cost(inputs: u32, nodes: u32, u: u32, b: u32, scratch: &[u32]) -> u3
     if u <= inputs {
         return b;
     }
-    let v = wide(u - (inputs + 1));
+    let v = (u - (inputs + 1)) as usize;
     if read(scratch, v, 3) == MARK {
         return b;
     }
@@ -117,10 +117,10 @@ pub fn fill_costs(lent: &Lent, root: usize, scratch: &mut [u32])
     ensures { let g = lent_graph lent.now in
         CostedBelow (stands g scratch.old) lent.now.locks.now scratch.new (lent.now.inputs + 1 + root) root × CostsOnly scratch.old scratch.new }
 {
-    let mut v = wide(read(scratch, root, 7));
+    let mut v = read(scratch, root, 7) as usize;
     while v != root {
         let bits = node_costs(lent, v, scratch);
         store(scratch, v, 4, bits);
-        v = wide(read(scratch, v, 6));
+        v = read(scratch, v, 6) as usize;
     }
 }

@@ -15,7 +15,6 @@ use crate::costs;
 use crate::fields::{read, store};
 use graph::Lent;
 use graph::literal::MARK;
-use moves::words::{narrow, wide};
 use moves::{decide, rows};
 use state::now;
 
@@ -44,7 +43,7 @@ pub fn odd_at(lent: &Lent, v: usize, scratch: &[u32]) -> u32
     if place == MARK {
         return read(scratch, v, 1);
     }
-    shown_bit(lent, wide(place), scratch)
+    shown_bit(lent, place as usize, scratch)
 }
 
 // The first least move of node v, with the costs stored below it and the moves stored above it.
@@ -73,9 +72,9 @@ pub fn fill_moves(lent: &Lent, root: usize, scratch: &mut [u32])
     ensures { let g = lent_graph lent.now in
         TreeDecided (stands g scratch.old) lent.now.locks.now (lent.now.inputs + 1 + root) scratch.new × CostsOnly scratch.old scratch.new }
 {
-    let mut v = narrow(root);
+    let mut v = root as u32;
     while v != MARK {
-        let w = wide(v);
+        let w = v as usize;
         let m = decide_at(lent, w, scratch);
         store(scratch, w, 4, m);
         v = read(scratch, w, 5);

@@ -22,7 +22,5 @@ pub fn clear(nodes: usize, scratch: &mut [u32])
     requires { (nodes ≤ 100000) × (8 * nodes ≤ length scratch.old) }
     ensures { Cleared nodes scratch.new }
 {
-    for k in 0..8 * nodes {
-        scratch[k] = 0;
-    }
+    scratch[..8 * nodes].fill(0);
 }

@@ -10,15 +10,15 @@ use crate::fields::{read, store};
 use graph::literal::MARK;
 use graph::table;
 use graph::table::Table;
-use moves::words::{narrow, node_of, wide};
+use moves::words::node_of;
 
 // The word at place p, which has the index u and the bit b, noted at the node that it names: counted in field f, its bit added in field
 // 1, its place kept in field f + 1. The mark names none.
-pub fn note(inputs: usize, nodes: usize, u: u32, b: u32, p: u32, f: usize, scratch: &mut [u32])
+pub fn note(inputs: u32, nodes: usize, u: u32, b: u32, p: u32, f: usize, scratch: &mut [u32])
     requires { Counting inputs nodes f scratch.old 999999 × (b ≤ 1) }
     ensures { (x : ℕ) → Names x u → b ≡ bit_of x → Noted inputs nodes f x p scratch.old scratch.new }
 {
-    let v = wide(node_of(narrow(inputs), u));
+    let v = node_of(inputs, u) as usize;
     if nodes <= v {
         return;
     }
@@ -30,7 +30,7 @@ pub fn note(inputs: usize, nodes: usize, u: u32, b: u32, p: u32, f: usize, scrat
 }
 
 pub fn note_all(
-    inputs: usize,
+    inputs: u32,
     nodes: usize,
     table: &Table,
     words: usize,
@@ -43,7 +43,7 @@ pub fn note_all(
     for p in 0..words {
         let u = table.index_at(p);
         let b = table.odd_at(p);
-        note(inputs, nodes, u, b, narrow(p), f, scratch);
+        note(inputs, nodes, u, b, p as u32, f, scratch);
     }
 }
 

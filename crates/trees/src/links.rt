@@ -5,7 +5,6 @@ ghost use Rattle.trees.specs.Linking.{Rising, Bounded, root_at, RootLinked, Belo
 
 use crate::fields::{read, store};
 use graph::literal::MARK;
-use moves::words::{narrow, wide};
 
 // The root of a linked node.
 pub fn root_at(scratch: &[u32], w: usize) -> usize
@@ -15,7 +14,7 @@ pub fn root_at(scratch: &[u32], w: usize) -> usize
     if read(scratch, w, 3) == MARK {
         return w;
     }
-    wide(read(scratch, w, 7))
+    read(scratch, w, 7) as usize
 }
 
 pub fn link_root(scratch: &mut [u32], v: usize)
@@ -24,7 +23,7 @@ pub fn link_root(scratch: &mut [u32], v: usize)
 {
     store(scratch, v, 5, MARK);
     store(scratch, v, 6, MARK);
-    store(scratch, v, 7, narrow(v));
+    store(scratch, v, 7, v as u32);
 }
 
 pub fn link_below(scratch: &mut [u32], v: usize, root: usize)
@@ -34,9 +33,9 @@ pub fn link_below(scratch: &mut [u32], v: usize, root: usize)
     let h = read(scratch, root, 7);
     store(scratch, v, 5, MARK);
     store(scratch, v, 6, h);
-    store(scratch, v, 7, narrow(root));
-    store(scratch, wide(h), 5, narrow(v));
-    store(scratch, root, 7, narrow(v));
+    store(scratch, v, 7, root as u32);
+    store(scratch, h as usize, 5, v as u32);
+    store(scratch, root, 7, v as u32);
 }
 
 pub fn link(nodes: usize, scratch: &mut [u32], v: usize)
@@ -48,7 +47,7 @@ pub fn link(nodes: usize, scratch: &mut [u32], v: usize)
         link_root(scratch, v);
         return;
     }
-    let root = root_at(scratch, wide(place / 3));
+    let root = root_at(scratch, (place / 3) as usize);
     link_below(scratch, v, root);
 }
 
@@ -56,9 +55,7 @@ pub fn link_all(nodes: usize, scratch: &mut [u32])
     requires { (nodes ≤ 100000) × (8 * nodes ≤ length scratch.old) × Rising nodes scratch.old }
     ensures { LinkingAny nodes scratch.old scratch.new 0 × LowKept scratch.old scratch.new }
 {
-    let mut v = nodes;
-    while 0 < v {
-        v -= 1;
+    for v in (0..nodes).rev() {
         link(nodes, scratch, v);
     }
 }

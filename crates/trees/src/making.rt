@@ -13,7 +13,6 @@ use crate::deciding;
 use crate::fields::read;
 use graph::Lent;
 use graph::literal::MARK;
-use moves::words::{narrow, wide};
 use state::moving;
 use state::moving::Step;
 
@@ -26,9 +25,9 @@ pub fn make_moves(lent: &Lent, root: usize, count: u32, scratch: &mut [u32]) -> 
         Made scratch.old g scratch.new (tree_moved (stands g scratch.old) lent.now.locks.now (lent.now.inputs + 1 + root)) result }
 {
     let mut c = count;
-    let mut v = narrow(root);
+    let mut v = root as u32;
     while v != MARK {
-        let w = wide(v);
+        let w = v as usize;
         let m = read(scratch, w, 4);
         c = moving::make_move(lent, w, m, c, scratch);
         v = read(scratch, w, 5);

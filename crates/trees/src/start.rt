@@ -15,11 +15,17 @@ pub fn fill_scratch(lent: &Lent, scratch: &mut [u32])
     ensures { let g = lent_graph lent.now in
         Ordered g scratch.new × (stands g scratch.new ≡ g) }
 {
-    let i = lent.inputs as usize;
     let n = lent.nodes as usize;
     clear(n, scratch);
-    fill::note_all(i, n, &lent.node_table, 3 * n, 4, scratch);
-    fill::note_all(i, n, &lent.output_table, lent.outputs as usize, 6, scratch);
+    fill::note_all(lent.inputs, n, &lent.node_table, 3 * n, 4, scratch);
+    fill::note_all(
+        lent.inputs,
+        n,
+        &lent.output_table,
+        lent.outputs as usize,
+        6,
+        scratch,
+    );
     fill::gather_all(n, &lent.node_table, scratch);
     links::link_all(n, scratch);
 }

@@ -39,11 +39,11 @@ module _ (g : Graph) (ls sc₀ : List ℕ) (o : Ordered g sc₀) (r : ℕ) (h : 
   unfolding stands turned_by
   last sc v iv e = rw e at (costed_below (stands g sc₀) ls sc r v iv.done)
 
-pub read-requires : goal.read-requires
-read-requires c = omega (arith, c.requires.0.long, c.requires.0.admitted.few_nodes, c.requires.1)
+pub read-v-requires : goal.read-v-requires
+read-v-requires c = omega (arith, c.requires.0.long, c.requires.0.admitted.few_nodes, c.requires.1)
 
 pub loop-v-init : goal.loop-v-init
-loop-v-init c = let p = c.requires in begin _ _ _ p.0 _ p.1 p.2 _ (c.wide-v.ensures ∙ c.read.ensures)
+loop-v-init c = let p = c.requires in begin _ _ _ p.0 _ p.1 p.2 _ c.read-v.ensures
 
 pub node_costs-bits-requires : goal.node_costs-bits-requires
 node_costs-bits-requires c = (ordered_costs _ _ _ c.loop-v.invariant.only c.requires.0, omega (arith, c.loop-v.invariant.within, c.requires.1), c.requires.3)
@@ -51,19 +51,19 @@ node_costs-bits-requires c = (ordered_costs _ _ _ c.loop-v.invariant.only c.requ
 pub store-requires : goal.store-requires
 store-requires c = omega (arith, c.loop-v.invariant.within, c.loop-v.invariant.only.same, c.requires.0.long, c.requires.0.admitted.few_nodes, c.requires.1)
 
-pub read-requires-in-loop-v : goal.read-requires-in-loop-v
-read-requires-in-loop-v c = omega (arith, c.loop-v.invariant.within, c.loop-v.invariant.only.same, c.requires.0.long, c.requires.0.admitted.few_nodes, c.requires.1)
+pub read-v-requires-in-loop-v : goal.read-v-requires-in-loop-v
+read-v-requires-in-loop-v c = omega (arith, c.loop-v.invariant.within, c.loop-v.invariant.only.same, c.requires.0.long, c.requires.0.admitted.few_nodes, c.requires.1)
 
 pub loop-v-smaller : goal.loop-v-smaller
 loop-v-smaller c =
     let p = c.requires in
-    let a = again _ _ _ p.0 _ p.1 p.2 _ _ c.loop-v.invariant (λ e. omega arith) _ _ c.store.ensures c.node_costs-bits.ensures.0 c.node_costs-bits.ensures.1 _ (c.wide-v-in-loop-v.ensures ∙ c.read-in-loop-v.ensures) in
+    let a = again _ _ _ p.0 _ p.1 p.2 _ _ c.loop-v.invariant (λ e. omega arith) _ _ c.store.ensures c.node_costs-bits.ensures.0 c.node_costs-bits.ensures.1 _ c.read-v-in-loop-v.ensures in
     omega (arith, a.1, c.loop-v.invariant.within)
 
 pub loop-v-preserved : goal.loop-v-preserved
 loop-v-preserved c =
     let p = c.requires in
-    (again _ _ _ p.0 _ p.1 p.2 _ _ c.loop-v.invariant (λ e. omega arith) _ _ c.store.ensures c.node_costs-bits.ensures.0 c.node_costs-bits.ensures.1 _ (c.wide-v-in-loop-v.ensures ∙ c.read-in-loop-v.ensures)).0
+    (again _ _ _ p.0 _ p.1 p.2 _ _ c.loop-v.invariant (λ e. omega arith) _ _ c.store.ensures c.node_costs-bits.ensures.0 c.node_costs-bits.ensures.1 _ c.read-v-in-loop-v.ensures).0
 
 pub shape_of-scratch : goal.shape_of-scratch
 shape_of-scratch c = c.loop-v.invariant.only.same

@@ -1,11 +1,10 @@
 -- `fill_costs` meets its contract: the nodes of the tree passed have their costs. From the laws on the pass.
 use mathlib.Core.List.{List}
 use Prim.Native.Nat.{ℕ, ◌-◌}
-use Rattle.graph.specs.Graph.{Graph, graph_of}
+use Rattle.graph.specs.Graph.{Graph}
 use Rattle.state.specs.State.{stands}
 use Rattle.trees.proofs.CostPass.{CostRight}
 use Rattle.trees.proofs.Passes.{RisenTo}
-use Rattle.graph.specs.Literals.{literals}
 use Rattle.trees.proofs.costs.fill_costs.Given as goal
 use Rattle.graph.specs.Tables.{lent_graph}
 

@@ -70,33 +70,33 @@ module _ (g : Graph) (ls sc₁ : List ℕ) (o : Ordered g sc₁) (r : ℕ) (h : 
       let mf = fallen_all k (MoveRight k ls r) sc₁ ready r within root-now sc v iv e in
       (moves_all k ls sc₁ ready r within root-now sc mf, mf.only)
 
-pub narrow-v-requires : goal.narrow-v-requires
-narrow-v-requires c = omega (arith, c.requires.0.admitted.few_nodes, c.requires.1)
+pub overflow_cast-v : goal.overflow_cast-v
+overflow_cast-v c = omega (arith, c.requires.0.admitted.few_nodes, c.requires.1)
 
 pub loop-v-init : goal.loop-v-init
-loop-v-init c = let p = c.requires in begin _ _ _ p.0 _ p.1 p.2 _ c.narrow-v.ensures
+loop-v-init c = let p = c.requires in begin _ _ _ p.0 _ p.1 p.2 _ refl
 
 pub decide_at-m-requires : goal.decide_at-m-requires
 decide_at-m-requires c =
     let p = c.requires in
     let iv = c.loop-v.invariant in
-    (ordered_costs _ _ _ iv.from.only p.0, omega (arith, (iv.here (λ e. omega arith)).0, c.wide-w.ensures, p.1), decided-above _ _ _ p.0 _ p.1 p.2 p.3 _ _ iv (λ e. omega arith) _ c.wide-w.ensures, p.4)
+    (ordered_costs _ _ _ iv.from.only p.0, omega (arith, (iv.here (λ e. omega arith)).0, p.1), decided-above _ _ _ p.0 _ p.1 p.2 p.3 _ _ iv (λ e. omega arith) _ refl, p.4)
 
 pub store-requires : goal.store-requires
-store-requires c = omega (arith, (c.loop-v.invariant.here (λ e. omega arith)).0, c.loop-v.invariant.from.only.same, c.wide-w.ensures, c.requires.1, c.requires.0.long, c.requires.0.admitted.few_nodes)
+store-requires c = omega (arith, (c.loop-v.invariant.here (λ e. omega arith)).0, c.loop-v.invariant.from.only.same, c.requires.1, c.requires.0.long, c.requires.0.admitted.few_nodes)
 
 pub read-v-requires : goal.read-v-requires
-read-v-requires c = omega (arith, (c.loop-v.invariant.here (λ e. omega arith)).0, c.loop-v.invariant.from.only.same, c.store.ensures.same, c.wide-w.ensures, c.requires.1, c.requires.0.long, c.requires.0.admitted.few_nodes)
+read-v-requires c = omega (arith, (c.loop-v.invariant.here (λ e. omega arith)).0, c.loop-v.invariant.from.only.same, c.store.ensures.same, c.requires.1, c.requires.0.long, c.requires.0.admitted.few_nodes)
 
 pub loop-v-smaller : goal.loop-v-smaller
 loop-v-smaller c =
     let p = c.requires in
-    (again _ _ _ p.0 _ p.1 p.2 p.3 _ _ c.loop-v.invariant (λ e. omega arith) _ c.wide-w.ensures _ _ _ c.decide_at-m.ensures c.store.ensures c.read-v.ensures).1
+    (again _ _ _ p.0 _ p.1 p.2 p.3 _ _ c.loop-v.invariant (λ e. omega arith) _ refl _ _ _ c.decide_at-m.ensures c.store.ensures c.read-v.ensures).1
 
 pub loop-v-preserved : goal.loop-v-preserved
 loop-v-preserved c =
     let p = c.requires in
-    (again _ _ _ p.0 _ p.1 p.2 p.3 _ _ c.loop-v.invariant (λ e. omega arith) _ c.wide-w.ensures _ _ _ c.decide_at-m.ensures c.store.ensures c.read-v.ensures).0
+    (again _ _ _ p.0 _ p.1 p.2 p.3 _ _ c.loop-v.invariant (λ e. omega arith) _ refl _ _ _ c.decide_at-m.ensures c.store.ensures c.read-v.ensures).0
 
 pub shape_of-scratch : goal.shape_of-scratch
 shape_of-scratch c = c.loop-v.invariant.from.only.same

@@ -1,12 +1,11 @@
 -- `fill_moves` meets its contract: the nodes of the tree passed are decided. From the laws on the pass.
 use mathlib.Core.List.{List}
 use Prim.Native.Nat.{ℕ}
-use Rattle.graph.specs.Graph.{Graph, graph_of}
+use Rattle.graph.specs.Graph.{Graph}
 use Rattle.state.specs.State.{stands}
 use Rattle.trees.proofs.Falling.{bound_of}
 use Rattle.trees.proofs.DecidePass.{MoveRight}
 use Rattle.trees.proofs.Passes.{FallenTo}
-use Rattle.graph.specs.Literals.{literals}
 use Rattle.trees.proofs.deciding.fill_moves.Given as goal
 use Rattle.graph.specs.Tables.{lent_graph}
 

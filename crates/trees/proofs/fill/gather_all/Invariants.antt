@@ -1,9 +1,8 @@
 -- `gather_all` meets its contract: the nodes passed are done. From the laws on stores.
 use mathlib.Core.Path.{◌≡◌}
 use mathlib.Core.List.{List}
-use Prim.Native.Nat.{ℕ, ◌-◌, ◌≤◌}
+use Prim.Native.Nat.{ℕ, ◌≤◌}
 use lib.ListN.{length}
-use Rattle.graph.specs.Literals.{literals}
 use Rattle.trees.specs.Filling.{GatheredTo}
 use Rattle.trees.proofs.fill.gather_all.Given as goal
 use Rattle.graph.specs.Tables.{lent_table}

@@ -15,9 +15,6 @@ index_at-u-requires c = omega (arith, c.loop-p.invariant.within)
 pub odd_at-b-requires : goal.odd_at-b-requires
 odd_at-b-requires c = omega (arith, c.loop-p.invariant.within)
 
-pub narrow-requires : goal.narrow-requires
-narrow-requires c = omega (arith, c.requires.1)
-
 pub note-requires : goal.note-requires
 note-requires c =
     let p = c.requires in
@@ -35,7 +32,7 @@ loop-p-preserved c =
     record {
       within = omega arith;
       same = c.scratch-1.given ∙ l.invariant.same;
-      notes = notes_suc _ _ _ _ _ c.requires.0 _ _ l.invariant.notes _ _ c.narrow.ensures (c.note.ensures x c.index_at-u.ensures c.odd_at-b.ensures.0);
+      notes = notes_suc _ _ _ _ _ c.requires.0 _ _ l.invariant.notes _ _ refl (c.note.ensures x c.index_at-u.ensures c.odd_at-b.ensures.0);
     }
 
 pub shape_of-scratch : goal.shape_of-scratch

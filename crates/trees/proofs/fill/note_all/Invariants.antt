@@ -1,9 +1,8 @@
 -- `note_all` meets its contract: the words passed are noted. From the laws on noting.
 use mathlib.Core.Path.{◌≡◌}
 use mathlib.Core.List.{List}
-use Prim.Native.Nat.{ℕ, ◌-◌, ◌≤◌}
+use Prim.Native.Nat.{ℕ, ◌≤◌}
 use lib.ListN.{length}
-use Rattle.graph.specs.Literals.{literals}
 use Rattle.trees.specs.Filling.{Notes}
 use Rattle.trees.proofs.fill.note_all.Given as goal
 use Rattle.graph.specs.Tables.{lent_table}

@@ -8,4 +8,4 @@ pub returns-then-read : goal.returns-then-read
 returns-then-read c = sym (root_at_root _ _ (omega (arith, c.read.ensures)))
 
 pub returns : goal.returns
-returns c = c.wide.ensures ∙ c.read-2.ensures ∙ sym (root_at_other _ _ (λ e. omega (arith, c.read.ensures)))
+returns c = c.read-2.ensures ∙ sym (root_at_other _ _ (λ e. omega (arith, c.read.ensures)))

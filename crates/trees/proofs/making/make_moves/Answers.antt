@@ -113,31 +113,30 @@ module _ (s : Start) where
 loop-both : (c : After-read-v) → Inv (graph-of (goal.at.After-read-v c).Start) c.args.scratch.now c.args.root c.make_move-c.new.scratch c.read-v.result c.make_move-c.result × (bound_of c.read-v.result < bound_of c.loop-v.v)
 loop-both c =
     let p = c.requires in
-    again _ _ p.0 _ p.1 p.2 _ (decided (goal.at.After-read-v c).Start) _ _ _ c.loop-v.invariant (λ e. omega arith) _ _ c.wide-w.ensures c.read-m.ensures _ _ _ c.make_move-c.ensures c.read-v.ensures
+    again _ _ p.0 _ p.1 p.2 _ (decided (goal.at.After-read-v c).Start) _ _ _ c.loop-v.invariant (λ e. omega arith) _ _ refl c.read-m.ensures _ _ _ c.make_move-c.ensures c.read-v.ensures
 
-pub narrow-v-requires : goal.narrow-v-requires
-narrow-v-requires c = let p = c.requires in omega (arith, p.0.admitted.few_nodes, p.1)
+pub overflow_cast-v : goal.overflow_cast-v
+overflow_cast-v c = let p = c.requires in omega (arith, p.0.admitted.few_nodes, p.1)
 
 pub loop-v-init : goal.loop-v-init
-loop-v-init c = let p = c.requires in begin _ _ p.0 _ p.1 p.2 _ _ c.narrow-v.ensures p.3
+loop-v-init c = let p = c.requires in begin _ _ p.0 _ p.1 p.2 _ _ refl p.3
 
 pub read-m-requires : goal.read-m-requires
-read-m-requires c = let p = c.requires in omega (arith, (c.loop-v.invariant.here (λ e. omega arith)).0, c.loop-v.invariant.mf.ordered.long, c.wide-w.ensures, p.1, p.0.admitted.few_nodes)
+read-m-requires c = let p = c.requires in omega (arith, (c.loop-v.invariant.here (λ e. omega arith)).0, c.loop-v.invariant.mf.ordered.long, p.1, p.0.admitted.few_nodes)
 
 pub make_move-c-requires : goal.make_move-c-requires
 make_move-c-requires c =
     let p = c.requires in
-    let l = c.loop-v in
-    let w = c.wide-w in (
+    let l = c.loop-v in (
       l.invariant.mf.ordered,
-      omega (arith, (l.invariant.here (λ e. omega arith)).0, w.ensures, p.1),
-      fits-now _ _ p.0 _ p.1 p.2 _ (decided (goal.at.make_move-c-requires c).Start) _ _ _ l.invariant (λ e. omega arith) _ _ w.ensures c.read-m.ensures,
+      omega (arith, (l.invariant.here (λ e. omega arith)).0, p.1),
+      fits-now _ _ p.0 _ p.1 p.2 _ (decided (goal.at.make_move-c-requires c).Start) _ _ _ l.invariant (λ e. omega arith) _ _ refl c.read-m.ensures,
       l.invariant.count,
       p.5,
     )
 
 pub read-v-requires : goal.read-v-requires
-read-v-requires c = let p = c.requires in omega (arith, (c.loop-v.invariant.here (λ e. omega arith)).0, c.wide-w.ensures, p.1, p.0.admitted.few_nodes, c.make_move-c.ensures.became.ordered.long)
+read-v-requires c = let p = c.requires in omega (arith, (c.loop-v.invariant.here (λ e. omega arith)).0, p.1, p.0.admitted.few_nodes, c.make_move-c.ensures.became.ordered.long)
 
 pub loop-v-smaller : goal.loop-v-smaller
 loop-v-smaller c = (loop-both (goal.at.loop-v-smaller c).After-read-v).1

@@ -9,7 +9,6 @@ use Rattle.moves.specs.Tree.{root_of}
 use Rattle.state.specs.State.{stands}
 use Rattle.trees.proofs.Falling.{bound_of}
 use Rattle.trees.proofs.MakePass.{MadeFrom}
-use Rattle.graph.specs.Literals.{graph_in}
 use Rattle.trees.proofs.making.make_moves.Given as goal
 use Rattle.graph.specs.Tables.{lent_graph}
 
