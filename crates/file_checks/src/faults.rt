@@ -83,7 +83,7 @@ pub fn check_locks(rest: &[u8], start: u32, top: u32) -> Result<(), Refusal>
 {
     let mut s = rest;
     let mut low = start;
-    while fields::tag(s) == 6 {
+    while let [6, ..] = s {
         check_lock(s, low, top)?;
         low = bytes::four(s, 3) + 1;
         s = &s[7..];

@@ -1,5 +1,5 @@
 // One field, at the front of the bytes that are left.
-ghost use Rattle.std.specs.Prelude.{◌≡◌, ◌+◌, ◌≤◌, length, get_or};
+ghost use Rattle.std.specs.Prelude.{◌≡◌, ◌+◌, ◌≤◌, length, get_or, MatchOption};
 ghost use Rattle.graph.specs.Answer.{refusal_number};
 ghost use Rattle.graph.specs.Finite.{if_equal};
 ghost use Rattle.graph.specs.Graph.{mark};
@@ -10,29 +10,19 @@ use crate::bytes;
 use graph::Refusal;
 use graph::literal::MARK;
 
-// The length of a tag's payload.
-pub fn payload(tag: u8) -> u32
-    ensures { (result ≡ payload_of tag) × (result ≤ 65536) }
+// The length of a tag's payload; none where there is no such tag.
+pub fn payload(tag: u8) -> Option<u16>
+    ensures { MatchOption result (payload_of tag ≡ 65536) (λ n. payload_of tag ≡ n) }
 {
     match tag {
-        1 => 12,
-        2 => 12,
-        3 => 8,
-        4 => 4,
-        5 => 0,
-        6 => 4,
-        _ => 65536,
+        1 => Some(12),
+        2 => Some(12),
+        3 => Some(8),
+        4 => Some(4),
+        5 => Some(0),
+        6 => Some(4),
+        _ => None,
     }
-}
-
-// The tag at the front, 0 where no byte is left.
-pub fn tag(s: &[u8]) -> u8
-    ensures { result ≡ get_or s.now 0 0 }
-{
-    if s.len() == 0 {
-        return 0;
-    }
-    s[0]
 }
 
 // Whether the field is whole, where a tag from low to high is due.
@@ -49,7 +39,9 @@ pub fn check_due(s: &[u8], low: u8, high: u8) -> Result<(), Refusal>
     if high < tag {
         return Err(Refusal::WrongField);
     }
-    let n = payload(tag);
+    let Some(n) = payload(tag) else {
+        return Err(Refusal::WrongField);
+    };
     if bytes::two(s, 1) != n {
         return Err(Refusal::WrongField);
     }

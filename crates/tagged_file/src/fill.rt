@@ -86,7 +86,7 @@ pub fn fill_locks(rest: &[u8], start: u32, locks: &mut [u8])
     ensures { locks.new ≡ locked_at start (lock_indices rest.now) locks.old }
 {
     let mut s = rest;
-    while fields::tag(s) == 6 {
+    while let [6, ..] = s {
         let at = (bytes::four(s, 3) - start) as usize;
         locks[at] = 1;
         s = &s[7..];
