@@ -54,6 +54,7 @@ pub fn check_gate(s: &[u8], index: u32) -> Result<usize, Refusal>
     Ok(size)
 }
 
+// The three loops that follow differ in the check of a line. One over a closure is no plainer: its contract would take each line's fault and bytes.
 pub fn check_gates(rest: &[u8], nodes: u32, start: u32) -> Result<(), Refusal>
     requires { start + nodes ≤ 104097 }
     ensures { refusal_number result ≡ gate_lines_number rest.now nodes start }

@@ -33,18 +33,22 @@ pub fn digits_at(s: &[u8]) -> Digits
     ensures { DigitsRead s.now result.value result.count }
 {
     let mut value: u64 = 0;
-    let mut count: usize = 0;
-    while count < s.len() {
-        let Some(d) = digit(s[count]) else {
+    for (count, b) in s.iter().enumerate() {
+        let Some(d) = digit(*b) else {
             return Digits { value, count };
         };
         value = 10 * value + d;
-        count += 1;
         if 4294967296 <= value {
-            return Digits { value, count };
+            return Digits {
+                value,
+                count: count + 1,
+            };
         }
     }
-    Digits { value, count }
+    Digits {
+        value,
+        count: s.len(),
+    }
 }
 
 // The number at the front, which the byte `end` has to follow, with no zero before its other digits.
@@ -92,7 +96,7 @@ pub fn read_line(s: &[u8], k: usize, numbers: &mut [u32]) -> Result<usize, Refus
     Ok(at + n.size)
 }
 
-// The number at the front, which the check pass has accepted: one test a byte.
+// The number at the front, which the check pass has accepted: one test a byte, where a `for` over the slice would test for its end too.
 pub fn known_number(s: &[u8]) -> Number
     requires { NumberThere s.now }
     ensures { (result.value ≡ number s.now) × (result.size ≡ suc (digits s.now)) }

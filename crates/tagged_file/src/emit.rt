@@ -13,6 +13,7 @@ use graph::Lent;
 use graph::literal::MARK;
 use graph::table::Table;
 
+// Byte by byte: the file's fixed format over lent bytes.
 pub fn put_number(buffer: &mut [u8], at: usize, number: u32)
     requires { at + 4 ≤ length buffer.old }
     ensures { buffer.new ≡ sets buffer.old at (big 4 number) }
@@ -103,6 +104,7 @@ pub fn put_node(buffer: &mut [u8], at: usize, node_table: &Table, v: usize) -> u
     last + 4
 }
 
+// The three loops that follow differ in what is put. One over a closure is no plainer: its contract would say again what each field is.
 pub fn put_nodes(buffer: &mut [u8], start: usize, nodes: u32, node_table: &Table) -> usize
     requires { let ns = lent_table node_table.now in
         AllReadable nodes ns × (start + length (in_order (node_field_at ns) 0 nodes) ≤ length buffer.old) }
