@@ -296,15 +296,15 @@ module _ (g : Graph) (wanted words : List ℕ) where
       left j h ∙ ap clean (all_in g wanted (assignment_at words j) top t) ∙ ap clean (by_place g wanted words b j e few h)
 
 -- no more nodes are asked for than there are
-pub few_reached : (g : Graph) (wanted : List ℕ) (s o known x want next : ℕ) → Searchable g wanted s → o < g.O → known ≤ g.N → x ≡ output g o
+pub few_reached : (g : Graph) (wanted : List ℕ) (o known x want next : ℕ) → Searchable g wanted → o < g.O → known ≤ g.N → x ≡ output g o
     → Reached g.I known x want next → next ≤ g.N
-few_reached g wanted s o known x want next r h k e f = f.needed g.N k (rw e (r.admitted.output_below o h))
+few_reached g wanted o known x want next r h k e f = f.needed g.N k (rw e (r.admitted.output_below o h))
 
-pub top_more : (g : Graph) (wanted : List ℕ) (s o top x next : ℕ) → Searchable g wanted s → o < g.O → Top g wanted o top → x ≡ output g o
+pub top_more : (g : Graph) (wanted : List ℕ) (o top x next : ℕ) → Searchable g wanted → o < g.O → Top g wanted o top → x ≡ output g o
     → Reached g.I top x (get_or wanted o 0) next → Top g wanted (o + 1) next
-top_more g wanted s o top x next r h t e f =
+top_more g wanted o top x next r h t e f =
     record {
-      few = few_reached g wanted s o top x (get_or wanted o 0) next r h t.few e f;
+      few = few_reached g wanted o top x (get_or wanted o 0) next r h t.few e f;
       enough = λ i l d.
           ⊎_elim
           (λ (q : i ≡ o). rw q (rw e at (f.enough (rw q at d))))
@@ -315,8 +315,8 @@ top_more g wanted s o top x next r h t e f =
 pub rest_none : (j left : ℕ) → bit j left ≡ min (bit j left) (clean 0)
 rest_none j left = let d = clean_none in let l = bit_le j left in omega arith
 
-pub pattern_of : (g : Graph) (wanted : List ℕ) (s : ℕ) → Searchable g wanted s → Pattern g.O g.outputs wanted
-pattern_of g wanted s r =
+pub pattern_of : (g : Graph) (wanted : List ℕ) → Searchable g wanted → Pattern g.O g.outputs wanted
+pattern_of g wanted r =
     record {
       there = r.admitted.held_outputs;
       long = r.long;

@@ -55,13 +55,12 @@ pub record Pattern (n : ℕ) (os wanted : List ℕ) : Type 0 where
   pub small : (o : ℕ) → o < n → get_or wanted o 0 ≤ 2
   pub low : (o : ℕ) → o < n → index (get_or os o 0) < 2147483647
 
--- what a search asks of the graph, the pattern and s words of scratch
-pub record Searchable (g : Graph) (wanted : List ℕ) (s : ℕ) : Type 0 where
+-- what a search asks of the graph and the pattern
+pub record Searchable (g : Graph) (wanted : List ℕ) : Type 0 where
   pub admitted : Admitted g
   pub few : g.I ≤ 16
   pub long : g.O ≤ length wanted
   pub small : (o : ℕ) → o < g.O → get_or wanted o 0 ≤ 2
-  pub scratch : g.N ≤ s
 
 -- output o is missed and names an index from low on and below high
 unfoldable pub misses_in : Graph → List ℕ → Assignment → ℕ → ℕ → ℕ → ℕ

@@ -1,15 +1,15 @@
-// The wanted outputs: how many nodes they ask for, and the places that they leave.
+// The wanted outputs: how many nodes they ask for, and the places that they leave. Loops go by place, since only crate graph reads a table's slice.
 ghost use Rattle.std.specs.Prelude.{◌≡◌, List, ℕ, ◌+◌, ◌*◌, ◌/◌, ◌≤◌, ◌<◌, min, length, get_or};
 ghost use Rattle.graph.specs.Finite.{first_of};
 ghost use Rattle.graph.specs.Graph.{index};
 ghost use Rattle.graph.specs.Literals.{bit};
 ghost use Rattle.evaluation.specs.Inner.{by_index, literal_word};
-ghost use Rattle.assignment.specs.Inner.{fits, clean, want_in, lacks, Reached, Top, Pattern, Searchable};
+ghost use Rattle.assignment.specs.Inner.{fits, clean, want_in, lacks, Reached, Top};
 ghost use Rattle.graph.specs.Tables.{lent_graph, lent_table};
 
+use crate::Question;
 use crate::words::narrowed;
 use evaluation::values::{Apart, Words, turned};
-use graph::Lent;
 
 // How many nodes' words the literal x asks for, where those of the first `known` are asked for already.
 fn reached(inputs: u32, known: usize, x: u32, want: u8) -> usize
@@ -28,15 +28,14 @@ fn reached(inputs: u32, known: usize, x: u32, want: u8) -> usize
 }
 
 // How many nodes' words the wanted outputs ask for.
-pub fn top_of(lent: &Lent, wanted: &[u8], words: usize) -> usize
-    requires { let g = lent_graph lent.now in
-        Searchable g wanted.now words }
-    ensures { let g = lent_graph lent.now in
-        Top g wanted.now lent.now.outputs result }
+pub fn top_of(question: &Question) -> usize
+    ensures { let g = lent_graph question.now.lent in
+        Top g question.now.wanted.now question.now.lent.outputs result }
 {
     let mut top: usize = 0;
-    for o in 0..lent.outputs as usize {
-        top = reached(lent.inputs, top, lent.output_table.edge_at(o), wanted[o]);
+    for o in 0..question.lent.outputs as usize {
+        let x = question.lent.output_table.edge_at(o);
+        top = reached(question.lent.inputs, top, x, question.wanted[o]);
     }
     top
 }
@@ -69,21 +68,20 @@ fn left_by(words: &Apart, left: u64, x: u32, want: u8) -> u64
 }
 
 // The places that are left by the outputs that name an index from `low` on, of which the words are there.
-pub fn left_from(lent: &Lent, wanted: &[u8], words: &Apart, low: usize, left: u64) -> u64
-    requires { let l = lent_table lent.now.output_table in
-        let w = words.now in
-        (w.inputs ≤ 16) × (w.inputs ≤ length w.of_inputs.now) × (length w.of_nodes.now ≤ 100000) × Pattern lent.now.outputs l wanted.now }
-    ensures { let l = lent_table lent.now.output_table in
+pub fn left_from(question: &Question, words: &Apart, low: usize, left: u64) -> u64
+    requires { let w = words.now in
+        (w.inputs ≤ 16) × (w.inputs ≤ length w.of_inputs.now) × (length w.of_nodes.now ≤ 100000) }
+    ensures { let l = lent_table question.now.lent.output_table in
         let w = words.now in
         let ws = by_index w.inputs w.of_inputs.now w.of_nodes.now in
         let high = w.inputs + 1 + length w.of_nodes.now in
-        ((j : ℕ) → j < 64 → bit j result ≡ min (bit j left) (clean (first_of lent.now.outputs (lacks ws l wanted.now low high j)))) }
+        ((j : ℕ) → j < 64 → bit j result ≡ min (bit j left) (clean (first_of question.now.lent.outputs (lacks ws l question.now.wanted.now low high j)))) }
 {
     let high = words.inputs as usize + 1 + words.of_nodes.len();
     let mut rest = left;
-    for o in 0..lent.outputs as usize {
-        let x = lent.output_table.edge_at(o);
-        let want = want_in(x, wanted[o], low, high);
+    for o in 0..question.lent.outputs as usize {
+        let x = question.lent.output_table.edge_at(o);
+        let want = want_in(x, question.wanted[o], low, high);
         rest = left_by(words, rest, x, want);
     }
     rest

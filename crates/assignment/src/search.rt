@@ -1,12 +1,10 @@
 // Block after block, until one has a place that gives the pattern.
 ghost use Rattle.std.specs.Prelude.{option_to_list, ◌≡◌, ◌*◌, ◌^◌, ◌≤◌, length};
 ghost use Rattle.assignment.specs.Assignment.{least_assignment};
-ghost use Rattle.assignment.specs.Inner.{Searchable};
 ghost use Rattle.graph.specs.Tables.{lent_graph};
 
 use crate::outputs::top_of;
-use crate::{block, words};
-use graph::Lent;
+use crate::{Question, block, words};
 
 // Enough blocks for every assignment.
 fn block_count(inputs: u32) -> u32
@@ -17,15 +15,14 @@ fn block_count(inputs: u32) -> u32
 }
 
 // The number of the least assignment that gives the pattern.
-pub fn search(lent: &Lent, wanted: &[u8], scratch: &mut [u64]) -> Option<u32>
-    requires { let g = lent_graph lent.now in
-        Searchable g wanted.now (length scratch.old) }
-    ensures { option_to_list result ≡ least_assignment (lent_graph lent.now) wanted.now }
+pub fn search(question: &Question, scratch: &mut [u64]) -> Option<u32>
+    requires { question.now.lent.nodes ≤ length scratch.old }
+    ensures { option_to_list result ≡ least_assignment (lent_graph question.now.lent) question.now.wanted.now }
 {
-    let end = block_count(lent.inputs);
-    let top = top_of(lent, wanted, scratch.len());
+    let end = block_count(question.lent.inputs);
+    let top = top_of(question);
     for b in 0..end {
-        let places = block::block_places(lent, wanted, top, b, scratch);
+        let places = block::block_places(question, top, b, scratch);
         if places != 0 {
             return Some(64 * b + words::first_place(places));
         }

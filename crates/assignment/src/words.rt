@@ -4,14 +4,12 @@ ghost use Rattle.graph.specs.Finite.{tab};
 ghost use Rattle.graph.specs.Literals.{bit};
 ghost use Rattle.assignment.specs.Inner.{input_word, fits, FirstPlace};
 
-const ONES: u64 = 18446744073709551615;
-
 // All ones where the bit of b that `power` stands for is 1, else all zeros.
 fn all(b: u32, power: u32) -> u64
     requires { 1 ≤ power }
     ensures { result ≡ b / power % 2 * 18446744073709551615 }
 {
-    (b / power % 2) as u64 * ONES
+    (b / power % 2) as u64 * u64::MAX
 }
 
 // The words of sixteen inputs in block b.
@@ -44,12 +42,12 @@ fn fitting(word: u64, want: u8) -> u64
     ensures { (j : ℕ) → j < 64 → bit j result ≡ fits (bit j word) want }
 {
     if want == 2 {
-        return ONES;
+        return u64::MAX;
     }
     if want == 1 {
         return word;
     }
-    word ^ ONES
+    word ^ u64::MAX
 }
 
 // Those among the places that are left.

@@ -11,7 +11,7 @@ use crate::values;
 use crate::values::Apart;
 use graph::Lent;
 
-// Fills the outputs' words into the front of `results`, from the words of the inputs and of all nodes.
+// Fills the outputs' words into the front of `results`, from the words of the inputs and of all nodes. By place: only crate graph reads a table's slice.
 fn fill_results(lent: &Lent, words: &Apart, results: &mut [u64])
     requires { let l = lent_table lent.now.output_table in
         let w = words.now in

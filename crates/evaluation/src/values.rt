@@ -10,14 +10,12 @@ use crate::front;
 use graph::Lent;
 use graph::table::Table;
 
-const ONES: u64 = 18446744073709551615;
-
 // All bits of `word` turned where b is 1.
 pub fn turned(word: u64, b: u32) -> u64
     requires { b ≤ 1 }
     ensures { result ≡ gather (λ j. (bit j word + b) % 2) 64 }
 {
-    word ^ (b as u64) * ONES
+    word ^ (b as u64) * u64::MAX
 }
 
 fn majority_word(x: u64, y: u64, z: u64) -> u64
@@ -92,7 +90,7 @@ pub fn literal_word<W: Words>(words: &W, table: &Table, j: usize, b: u32) -> u64
     turned(words.word(table.index_at(j)), b)
 }
 
-// The first of two indices where `xor` holds, else the second.
+// The first of two indices where `xor` holds, else the second. A function of its own, so that no caller jumps by the kind.
 pub fn either_index(xor: bool, u: u32, v: u32) -> u32
     ensures { result ≡ cond xor u v }
 {
@@ -122,7 +120,7 @@ pub fn joined_word(xor: bool, x: u64, y: u64, z: u64) -> u64
 {
     let a = majority_word(x, y, z);
     let e = exclusive_word(x, y);
-    a ^ (a ^ e) & xor as u64 * ONES
+    a ^ (a ^ e) & xor as u64 * u64::MAX
 }
 
 // The word of node v, from those of the indices that its words name.

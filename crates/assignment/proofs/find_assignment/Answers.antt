@@ -12,10 +12,15 @@ pub returns-in_err-check_assignment : goal.returns-in_err-check_assignment
 unfolding assignment_call
 returns-in_err-check_assignment c = record { call = ends_call _ _ _ _ _ c.from_residual.ensures.1 c.in_err-check_assignment.ensures; scratch = λ z. refl }
 
+pub invariant_of-question : goal.invariant_of-question
+invariant_of-question c =
+    let a = c.args in
+    record { searchable = (searchable (lent_graph a.lent.now) a.lent.now.locks.now a.wanted.now (length a.scratch.now) (sym c.in_ok-check_assignment.ensures)).0 }
+
 pub search-requires : goal.search-requires
 search-requires c =
     let a = c.args in
-    searchable (lent_graph a.lent.now) a.lent.now.locks.now a.wanted.now (length a.scratch.now) (sym c.in_ok-check_assignment.ensures)
+    (searchable (lent_graph a.lent.now) a.lent.now.locks.now a.wanted.now (length a.scratch.now) (sym c.in_ok-check_assignment.ensures)).1
 
 pub returns : goal.returns
 unfolding assignment_call

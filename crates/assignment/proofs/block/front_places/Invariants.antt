@@ -11,8 +11,8 @@ use Rattle.graph.specs.Tables.{lent_graph, lent_table}
 abbrev pub invariant-loop-known : goal.invariant-loop-known
 invariant-loop-known l =
     (l.known ≤ l.many) × (length l.scratch ≡ length l.initial.scratch)
-    × Front (nodes_of l.lent.inputs l.lent.nodes (lent_table l.lent.node_table)) l.input_words l.scratch l.known
-    × Left (lent_graph l.lent) l.wanted l.input_words (l.lent.inputs + 1 + l.known) l.rest
+    × Front (nodes_of l.question.lent.inputs l.question.lent.nodes (lent_table l.question.lent.node_table)) l.input_words l.scratch l.known
+    × Left (lent_graph l.question.lent) l.question.wanted.now l.input_words (l.question.lent.inputs + 1 + l.known) l.rest
 
 abbrev pub decreases-loop-known : goal.decreases-loop-known
 decreases-loop-known l = l.many - l.known

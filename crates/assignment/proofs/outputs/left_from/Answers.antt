@@ -6,7 +6,7 @@ use native.Mathlib.Omega.{arith}
 use lib.ListN.{length, get_or}
 use Rattle.graph.specs.Finite.{first_of}
 use Rattle.evaluation.specs.Inner.{by_index}
-use Rattle.assignment.proofs.Blocks.{rest_none, next_rest, want_le, want_there}
+use Rattle.assignment.proofs.Blocks.{pattern_of, rest_none, next_rest, want_le, want_there}
 use Rattle.assignment.proofs.outputs.left_from.Goals as goal
 use Rattle.graph.specs.Tables.{lent_table}
 
@@ -19,31 +19,31 @@ loop-o-init c = let a = c.args in (omega arith, λ j h. rest_none j a.left)
 
 pub edge_at-x-requires : goal.edge_at-x-requires
 edge_at-x-requires c =
-    (omega (arith, c.requires.3.there), c.requires.3.low c.loop-o.o (omega arith))
+    (omega (arith, (pattern_of _ _ c.args.question.now.searchable).there), (pattern_of _ _ c.args.question.now.searchable).low c.loop-o.o (omega arith))
 
-pub bounds-wanted-o : goal.bounds-wanted-o
-bounds-wanted-o c = omega (arith, c.requires.3.long)
+pub bounds-question-o : goal.bounds-question-o
+bounds-question-o c = omega (arith, (pattern_of _ _ c.args.question.now.searchable).long)
 
 pub left_by-rest-requires : goal.left_by-rest-requires
 left_by-rest-requires c =
     let a = c.args in
     let e = c.want_in-want.ensures in
     let x = c.edge_at-x.result in
-    let want = get_or a.wanted.now c.loop-o.o 0 in
+    let want = get_or a.question.now.wanted.now c.loop-o.o 0 in
     let high = a.words.now.inputs + 1 + length a.words.now.of_nodes.now in
-    (rw e (want_le x want a.low high (c.requires.3.small c.loop-o.o (omega arith))), c.requires.1, λ d. want_there x want a.low high (λ z. d (e ∙ z)))
+    (rw e (want_le x want a.low high ((pattern_of _ _ c.args.question.now.searchable).small c.loop-o.o (omega arith))), c.requires.1, λ d. want_there x want a.low high (λ z. d (e ∙ z)))
 
 pub loop-o-preserved : goal.loop-o-preserved
 loop-o-preserved c =
     let a = c.args in
     let ws : List ℕ = by_index a.words.now.inputs a.words.now.of_inputs.now a.words.now.of_nodes.now in (
       omega arith,
-      λ j h. next_rest ws (lent_table a.lent.now.output_table) a.wanted.now a.low (a.words.now.inputs + 1 + length a.words.now.of_nodes.now) j c.loop-o.o a.left c.loop-o.rest c.left_by-rest.result
+      λ j h. next_rest ws (lent_table a.question.now.lent.output_table) a.question.now.wanted.now a.low (a.words.now.inputs + 1 + length a.words.now.of_nodes.now) j c.loop-o.o a.left c.loop-o.rest c.left_by-rest.result
           c.edge_at-x.result c.want_in-want.result c.edge_at-x.ensures c.want_in-want.ensures (c.loop-o.invariant.1 j h) (c.left_by-rest.ensures j h),
     )
 
 pub returns : goal.returns
 returns c =
     let a = c.args in
-    let e : c.loop-o.o ≡ a.lent.now.outputs = omega arith in
+    let e : c.loop-o.o ≡ a.question.now.lent.outputs = omega arith in
     rw e at c.loop-o.invariant.1

@@ -11,5 +11,5 @@ use Rattle.graph.specs.Tables.{lent_table}
 
 abbrev pub invariant-loop-o : goal.invariant-loop-o
 invariant-loop-o l =
-    (l.o ≤ l.lent.outputs)
-    × ((j : ℕ) → j < 64 → bit j l.rest ≡ min (bit j l.left) (clean (first_of l.o (lacks (by_index l.words.inputs l.words.of_inputs.now l.words.of_nodes.now) (lent_table l.lent.output_table) l.wanted l.low (l.words.inputs + 1 + length l.words.of_nodes.now) j))))
+    (l.o ≤ l.question.lent.outputs)
+    × ((j : ℕ) → j < 64 → bit j l.rest ≡ min (bit j l.left) (clean (first_of l.o (lacks (by_index l.words.inputs l.words.of_inputs.now l.words.of_nodes.now) (lent_table l.question.lent.output_table) l.question.wanted.now l.low (l.words.inputs + 1 + length l.words.of_nodes.now) j))))

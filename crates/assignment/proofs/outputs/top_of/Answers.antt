@@ -9,25 +9,25 @@ use Rattle.graph.specs.Tables.{lent_graph}
 pub loop-o-init : goal.loop-o-init
 loop-o-init c = (omega arith, record { few = omega arith; enough = λ o h d. absurd (not-suc-le-zero h) })
 
-pub edge_at-requires : goal.edge_at-requires
-edge_at-requires c =
-    let p = pattern_of _ _ _ c.requires in
+pub edge_at-x-requires : goal.edge_at-x-requires
+edge_at-x-requires c =
+    let p = pattern_of _ _ c.args.question.now.searchable in
     (omega (arith, p.there), p.low c.loop-o.o (omega arith))
 
-pub bounds-wanted-o : goal.bounds-wanted-o
-bounds-wanted-o c = omega (arith, c.requires.long)
+pub bounds-question-o : goal.bounds-question-o
+bounds-question-o c = omega (arith, c.args.question.now.searchable.long)
 
 pub reached-top-requires : goal.reached-top-requires
 reached-top-requires c =
-    (c.requires.few, omega (arith, c.loop-o.invariant.1.few, c.requires.admitted.few_nodes))
+    (c.args.question.now.searchable.few, omega (arith, c.loop-o.invariant.1.few, c.args.question.now.searchable.admitted.few_nodes))
 
 pub loop-o-preserved : goal.loop-o-preserved
 loop-o-preserved c =
     let a = c.args in
-    (omega arith, top_more (lent_graph a.lent.now) a.wanted.now a.words c.loop-o.o c.loop-o.top _ _ c.requires (omega arith) c.loop-o.invariant.1 c.edge_at.ensures c.reached-top.ensures)
+    (omega arith, top_more (lent_graph a.question.now.lent) a.question.now.wanted.now c.loop-o.o c.loop-o.top _ _ a.question.now.searchable (omega arith) c.loop-o.invariant.1 c.edge_at-x.ensures c.reached-top.ensures)
 
 pub returns : goal.returns
 returns c =
     let a = c.args in
-    let e : c.loop-o.o ≡ a.lent.now.outputs = omega arith in
+    let e : c.loop-o.o ≡ a.question.now.lent.outputs = omega arith in
     rw e at c.loop-o.invariant.1

@@ -6,4 +6,4 @@ use Rattle.graph.specs.Tables.{lent_graph}
 
 abbrev pub invariant-loop-o : goal.invariant-loop-o
 invariant-loop-o l =
-    (l.o ≤ l.lent.outputs) × Top (lent_graph l.lent) l.wanted l.o l.top
+    (l.o ≤ l.question.lent.outputs) × Top (lent_graph l.question.lent) l.question.wanted.now l.o l.top

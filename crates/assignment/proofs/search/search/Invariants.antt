@@ -8,4 +8,4 @@ use Rattle.graph.specs.Tables.{lent_graph}
 
 abbrev pub invariant-loop-b : goal.invariant-loop-b
 invariant-loop-b l =
-    (l.b ≤ l.end) × (l.end ≤ 1024) × (length l.scratch ≡ length l.initial.scratch) × NoneBelow (lent_graph l.lent) l.wanted (64 * l.b)
+    (l.b ≤ l.end) × (l.end ≤ 1024) × (length l.scratch ≡ length l.initial.scratch) × NoneBelow (lent_graph l.question.lent) l.question.wanted.now (64 * l.b)
