@@ -9,7 +9,7 @@ ghost use Rattle.moves.specs.Pair.{pair_saving, saving_numbered, GreatestBelow, 
 use crate::rows;
 use graph::signed;
 
-// x where f is 0, else y.
+// x where f is 0, else y. That f counts turns and is added to indices shows that a bool would be no plainer.
 pub fn either(f: u32, x: u32, y: u32) -> u32
     ensures { result ≡ if_equal f 0 x y }
 {

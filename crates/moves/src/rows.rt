@@ -1,29 +1,18 @@
 // Document 01's table of moves, and the kind of a node.
-ghost use Rattle.std.specs.Prelude.{◌≡◌, ℕ, ◌+◌, ◌<◌, ◌≤◌, List, [], length, slice_index, slice_index_or};
+ghost use Rattle.std.specs.Prelude.{◌≡◌, ℕ, ◌+◌, ◌<◌, ◌≤◌, List, length};
 ghost use Rattle.graph.specs.Graph.{graph_of, is_xor};
 ghost use Rattle.graph.specs.Inner.{Readable};
-ghost use Rattle.moves.specs.Rows.{rows, first_row, arity, flag, moves_at};
+ghost use Rattle.moves.specs.Rows.{arity, flag, moves_at};
 ghost use Rattle.graph.specs.Tables.{lent_table};
 
 use graph::table;
 use graph::table::Table;
 
-// Whether words 1 to 3, and every reader, are turned: a majority's two rows, then an XOR's four.
-const ROWS: [[u32; 4]; 6] = [
-    [0, 0, 0, 0],
-    [1, 1, 1, 1],
-    [0, 0, 0, 0],
-    [1, 1, 0, 0],
-    [1, 0, 0, 1],
-    [0, 1, 0, 1],
-];
+// Whether words 1 to 3, and every reader, are turned by each move of a majority.
+const MAJORITY: [[u32; 4]; 2] = [[0, 0, 0, 0], [1, 1, 1, 1]];
 
-pub fn row_flag(row: usize, k: usize) -> u32
-    requires { (row < 6) × (k < 4) }
-    ensures { result ≡ slice_index (slice_index_or rows row []) k }
-{
-    ROWS[row][k]
-}
+// And of an XOR.
+const XOR: [[u32; 4]; 4] = [[0, 0, 0, 0], [1, 1, 0, 0], [1, 0, 0, 1], [0, 1, 0, 1]];
 
 // A third word that is the mark makes an XOR.
 pub fn is_xor(node_table: &Table, v: usize) -> bool
@@ -49,19 +38,14 @@ pub fn moves_at(node_table: &Table, locks: &[u8], v: usize) -> u32
     2
 }
 
-pub fn first_row(xor: bool) -> usize
-    ensures { result ≡ first_row xor }
-{
-    if xor {
-        return 2;
-    }
-    0
-}
-
 // Whether move m of a kind turns word k + 1, or every reader (k = 3).
 pub fn flag_of(xor: bool, m: u32, k: usize) -> u32
     requires { (m < arity xor) × (k < 4) }
     ensures { (result ≡ flag xor m k) × (result ≤ 1) }
 {
-    row_flag(first_row(xor) + m as usize, k)
+    let row = m as usize;
+    if xor {
+        return XOR[row][k];
+    }
+    MAJORITY[row][k]
 }

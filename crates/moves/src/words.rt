@@ -40,10 +40,7 @@ pub fn names_at(table: &Table, j: usize, u: u32) -> u32
     requires { (j < held (lent_table table.now)) × (u < 2147483647) }
     ensures { result ≡ if_equal (index (slice_index (lent_table table.now) j)) u 1 0 }
 {
-    if table.index_at(j) == u {
-        return 1;
-    }
-    0
+    u32::from(table.index_at(j) == u)
 }
 
 // Which words of node v name index u.

@@ -32,13 +32,11 @@ fn turn_reader(table: &[u32], bits: &mut [u64], j: usize, u: u32, t: u32)
     ensures { let l = literals table.now bits.old in
         literals table.now bits.new ≡ turned_table l (only j (read_turns u t j (get_or l j 0))) }
 {
-    if (Table {
+    let read = Table {
         indices: table,
         bits,
-    })
-    .index_at(j)
-        == u
-    {
+    };
+    if read.index_at(j) == u {
         table::turn_word(table, bits, j, t);
     }
 }

@@ -81,6 +81,7 @@ pub fn fill_choices(lent: &Lent, root: usize, scratch: &mut [u32])
     ensures { let g = lent_graph lent.now in
         StillDecided g lent.now.locks.now (lent.now.inputs + 1 + root) scratch.new × CostsOnly scratch.old scratch.new }
 {
+    // Along the links in scratch: no range or slice has these nodes in their order.
     let mut v = root as u32;
     while v != MARK {
         let w = v as usize;

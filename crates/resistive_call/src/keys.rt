@@ -35,6 +35,7 @@ pub fn fill_keys(lent: &Lent, root: usize, scratch: &mut [u32])
     ensures { let g = lent_graph lent.now in
         KeyedBelow g lent.now.locks.now scratch.new (lent.now.inputs + 1 + root) root × CostsOnly scratch.old scratch.new }
 {
+    // Along the links in scratch: no range or slice has these nodes in their order.
     let mut v = read(scratch, root, 7) as usize;
     while v != root {
         let key = node_key(lent, v, scratch);

@@ -24,7 +24,7 @@ pub fn stored_cost(x: u32, t: u32) -> u32
     x / 2
 }
 
-// Whether move m of a kind turns the readers: 1 of a majority, 2 and 3 of an XOR, and none that the kind lacks.
+// Whether move m of a kind turns the readers: 1 of a majority, 2 and 3 of an XOR, and none that the kind lacks, of which `flag_of` tells nothing.
 pub fn turns_readers(xor: bool, m: u32) -> u32
     ensures { (result ≡ flag xor m 3) × (result ≤ 1) }
 {

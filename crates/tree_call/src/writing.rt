@@ -116,6 +116,7 @@ pub fn write_tree(
         let h = graph_in inputs nodes outputs node_table.now node_bits.new output_table.now output_bits.new in
         h ≡ stored_moved g (inputs + 1 + root) scratch.now }
 {
+    // Along the links in scratch: no range or slice has these nodes in their order.
     let mut v = root as u32;
     while v != MARK {
         let w = v as usize;

@@ -11,9 +11,6 @@ pub returns-in_err-check_pair : goal.returns-in_err-check_pair
 unfolding pair_call
 returns-in_err-check_pair c = ends_outcome _ _ _ _ _ _ c.from_residual.ensures.1 c.in_err-check_pair.ensures
 
-pub rewrite_named-requires : goal.rewrite_named-requires
-rewrite_named-requires c = sym c.in_ok-check_pair.ensures
-
 pub returns : goal.returns
 unfolding pair_call
 returns c =

@@ -16,9 +16,6 @@ pub returns-in_err-check_trial : goal.returns-in_err-check_trial
 unfolding trial_call
 returns-in_err-check_trial c = ends_call _ _ _ _ _ c.from_residual.ensures.1 c.in_err-check_trial.ensures
 
-pub named_saving-requires : goal.named_saving-requires
-named_saving-requires c = sym c.in_ok-check_trial.ensures
-
 pub returns : goal.returns
 unfolding trial_call
 returns c =

@@ -19,13 +19,6 @@ loop-c-init c =
     let l = combinations a.pair.named a.pair.node a.pair.which c.requires.named c.requires.node in
     (l.0, l.1, started a.pair.named a.pair.node a.pair.which c.requires.named c.requires.node _ c.saving_numbered-saving.ensures)
 
-pub if_more-best-requires : goal.if_more-best-requires
-if_more-best-requires c =
-    (c.requires, c.loop-c-test.true, c.loop-c.invariant.2)
-
-pub loop-c-preserved : goal.loop-c-preserved
-loop-c-preserved c = (omega arith, omega arith, c.if_more-best.ensures)
-
 pub returns : goal.returns
 returns c =
     let a = c.args in

@@ -1,14 +1,6 @@
 -- `best_pair` meets its contract. From the laws on combinations by number.
-use Rattle.moves.proofs.Pair.{some_moves, not_negative, won, won_saving}
+use Rattle.moves.proofs.Pair.{not_negative, won, won_saving}
 use Rattle.moves.proofs.decide.best_pair.Goals as goal
-
-pub nonzero_div-result : goal.nonzero_div-result
-nonzero_div-result c =
-    some_moves c.args.pair.named c.args.pair.node c.args.pair.which c.requires.named c.requires.node
-
-pub nonzero_rem-result : goal.nonzero_rem-result
-nonzero_rem-result c =
-    some_moves c.args.pair.named c.args.pair.node c.args.pair.which c.requires.named c.requires.node
 
 pub count_of-requires : goal.count_of-requires
 count_of-requires c =

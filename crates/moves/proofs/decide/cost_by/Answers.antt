@@ -23,12 +23,6 @@ low_sum c =
       either_le c.flag_of-3.result c.args.w.still c.args.w.turned,
     )
 
-pub overflow_add-result : goal.overflow_add-result
-overflow_add-result c = omega (arith, low_sum (goal.at.overflow_add-result c).After-either-shown)
-
-pub overflow_add-result-2 : goal.overflow_add-result-2
-overflow_add-result-2 c = omega (arith, low_sum (goal.at.overflow_add-result-2 c).After-either-shown)
-
 pub overflow_add-result-3 : goal.overflow_add-result-3
 overflow_add-result-3 c = omega (arith, low_sum (goal.at.overflow_add-result-3 c).After-either-shown)
 

@@ -2,11 +2,8 @@
 use Rattle.std.proofs.Common.{◌∙◌}
 use Rattle.graph.proofs.Difference.{read_as_lem}
 use Rattle.moves.specs.Pair.{saving_numbered}
-use Rattle.moves.proofs.Pair.{some_moves, numbered_fits}
+use Rattle.moves.proofs.Pair.{numbered_fits}
 use Rattle.moves.proofs.decide.saving_numbered.Goals as goal
-
-pub nonzero_div-c : goal.nonzero_div-c
-nonzero_div-c c = some_moves c.args.pair.named c.args.pair.node c.args.pair.which c.requires.0.named c.requires.0.node
 
 pub pair_saving-requires : goal.pair_saving-requires
 pair_saving-requires c =

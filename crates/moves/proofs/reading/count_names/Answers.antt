@@ -13,9 +13,6 @@ tally_at-t-requires c =
     let p = c.requires in
     (omega (arith, c.loop-j-test.true, p.0), omega (arith, c.loop-j-test.true, p.1), p.2, l.invariant.1)
 
-pub loop-j-preserved : goal.loop-j-preserved
-loop-j-preserved c = (omega (arith, c.loop-j-test.true), c.tally_at-t.ensures)
-
 pub returns : goal.returns
 returns c =
     let e : c.loop-j.j ≡ c.args.n = omega arith in

@@ -1,31 +1,10 @@
 -- `own_costs` meets its contract. From the law of a node's bits.
-use Rattle.std.proofs.Common.{◌∙◌, arith}
+use Rattle.std.proofs.Common.{◌∙◌}
 use Rattle.graph.specs.Graph.{Graph, graph_of}
 use Rattle.graph.proofs.Words.{edge_bit_lem}
 use Rattle.moves.proofs.Deciding.{first_place, own_costs_are, third_low}
 use Rattle.moves.proofs.words.own_costs.Goals as goal
 use Rattle.graph.specs.Tables.{lent_table}
-
-pub overflow_mul-at : goal.overflow_mul-at
-overflow_mul-at c = omega (arith, c.requires.few)
-
-pub odd_at-x-requires : goal.odd_at-x-requires
-odd_at-x-requires c = omega (arith, c.requires.there)
-
-pub overflow_add-at : goal.overflow_add-at
-overflow_add-at c = omega (arith, c.requires.few)
-
-pub odd_at-y-requires : goal.odd_at-y-requires
-odd_at-y-requires c = omega (arith, c.requires.there)
-
-pub overflow_add-at-2 : goal.overflow_add-at-2
-overflow_add-at-2 c = omega (arith, c.requires.few)
-
-pub odd_at-z-requires : goal.odd_at-z-requires
-odd_at-z-requires c = omega (arith, c.requires.there)
-
-pub costs_of-requires : goal.costs_of-requires
-costs_of-requires c = (c.odd_at-x.ensures.1, c.odd_at-y.ensures.1, c.odd_at-z.ensures.1)
 
 pub returns : goal.returns
 returns c i n o os =

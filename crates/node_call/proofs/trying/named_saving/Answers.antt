@@ -29,9 +29,6 @@ returns-then-named-lent c =
     let a = c.args in
     no_gain (graph (goal.at.returns-then-named-lent c).Start) c.args.lent.now.locks.now a.node a.word _ (c.named_by-named.ensures a.lent.now.nodes a.lent.now.outputs (lent_table a.lent.now.output_table)) a.a a.k c.if-named-lent.true
 
-pub overflow_add-p : goal.overflow_add-p
-overflow_add-p c = let d = (known (goal.at.overflow_add-p c).Start).at_word.at_node in omega (arith, d.admitted.few_inputs)
-
 pub overflow_sub-v : goal.overflow_sub-v
 overflow_sub-v c = let d = (known (goal.at.overflow_sub-v c).Start).at_word.at_node in omega (arith, d.after)
 

@@ -13,12 +13,6 @@ use Rattle.node_call.proofs.write.turn_own.Goals.{Start}
 abbrev table : Start → List ℕ
 table s = literals s.args.node_table.now s.args.node_bits.now
 
-pub overflow_mul-at : goal.overflow_mul-at
-overflow_mul-at c = omega (arith, c.requires.0.few)
-
-pub overflow_add-at : goal.overflow_add-at
-overflow_add-at c = omega (arith, c.requires.0.few)
-
 pub turn_word-requires-2 : goal.turn_word-requires-2
 turn_word-requires-2 c =
     let k = turned_index (table (goal.at.turn_word-requires-2 c).Start) _ _ c.turn_word.ensures (3 * c.args.v + 1) (omega (arith, c.requires.0.there)) in

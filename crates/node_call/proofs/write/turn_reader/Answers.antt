@@ -1,5 +1,4 @@
 -- `turn_reader` meets its contract. From what the index table tells, and the laws of turned tables.
-use native.Mathlib.Omega.{arith}
 use mathlib.Core.Path.{refl, sym, ap, ◌∙◌}
 use mathlib.Core.List.{List}
 use Prim.Native.Nat.{ℕ}
@@ -12,10 +11,6 @@ use Rattle.graph.proofs.Places.{unturned}
 use Rattle.graph.proofs.Tests.{equal, unequal}
 use Rattle.node_call.specs.Write.{read_turns}
 use Rattle.node_call.proofs.write.turn_reader.Goals as goal
-
-pub turn_word-requires : goal.turn_word-requires
-turn_word-requires c =
-    (c.requires.2, c.requires.0, λ p. omega (arith, c.requires.1, names_yes c.index_at.ensures c.args.u c.requires.1 c.if-index_at-u.true))
 
 pub returns-then-index_at-u : goal.returns-then-index_at-u
 unfolding read_turns

@@ -29,9 +29,6 @@ loop-j-preserved c =
       swept_next (read_turns a.u a.t) (literals a.table.now a.bits.now) c.loop-j.j _ _ (literals a.table.now c.loop-j.bits) _ (omega (arith, c.loop-j-test.true, c.requires.0)) c.loop-j.invariant.2 refl refl c.turn_reader.ensures,
     )
 
-pub shape_of-bits : goal.shape_of-bits
-shape_of-bits c = c.loop-j.invariant.1
-
 pub returns : goal.returns
 unfolding readers_after
 returns c =

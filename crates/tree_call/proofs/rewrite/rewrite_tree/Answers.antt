@@ -38,10 +38,6 @@ write_tree-requires c =
     let e = c.decide_tree.ensures.0 in
     (k.ordered, n.0, n.1, (decided_kept _ _ _ _ _ k.kept (rw c.fill_scratch.ensures.1 at e)).permitted)
 
-pub shape_of-scratch : goal.shape_of-scratch
-shape_of-scratch c =
-    c.decided_step-step.auto.scratch ∙ c.decide_tree.auto.scratch ∙ c.fill_scratch.auto.scratch
-
 pub returns : goal.returns
 returns c =
     let z = stands_costs (graph (start (goal.at.returns c).After-complemented-before)) _ _ c.decide_tree.ensures.1 ∙ c.fill_scratch.ensures.1 in

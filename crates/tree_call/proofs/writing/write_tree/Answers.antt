@@ -5,18 +5,12 @@ use native.Mathlib.Omega.{arith}
 use Rattle.graph.specs.Graph.{Graph}
 use Rattle.graph.specs.Literals.{graph_in}
 use Rattle.trees.proofs.Falling.{bound_of}
-use Rattle.tree_call.proofs.Written.{WrittenTo, written_none, written_all, next_node, next_asks, next_written}
+use Rattle.tree_call.proofs.Written.{WrittenTo, written_none, written_all, next_asks, next_written}
 use Rattle.tree_call.proofs.writing.write_tree.Goals as goal
 use Rattle.tree_call.proofs.writing.write_tree.Goals.{After-read-v, In-loop-v, Start}
 
 abbrev graph : Start → Graph
 graph s = let a = s.args in graph_in a.inputs a.nodes a.outputs a.node_table.now a.node_bits.now a.output_table.now a.output_bits.now
-
--- the node that is read stands in scratch
-
-in-scratch : (c : In-loop-v) → c.loop-v.v < c.args.nodes
-in-scratch c =
-    omega (arith, next_node (graph (goal.at.In-loop-v c).Start) c.args.scratch.now c.requires.0 c.args.root c.requires.1 c.requires.2 c.args.locks.now c.requires.3 c.loop-v.v _ c.loop-v.invariant.0 c.loop-v-test.true)
 
 -- what a turn makes
 
@@ -24,25 +18,13 @@ loop-both : (c : After-read-v) → WrittenTo (graph (goal.at.After-read-v c).Sta
 loop-both c =
     next_written (graph (goal.at.After-read-v c).Start) c.args.scratch.now c.requires.0 c.args.root c.requires.1 c.requires.2 c.args.locks.now c.requires.3 c.loop-v.v _ c.loop-v.invariant.0 c.loop-v-test.true _ _ _ c.read-m.ensures c.read-v.ensures c.write_at.ensures
 
-pub overflow_cast-v : goal.overflow_cast-v
-overflow_cast-v c = let p = c.requires in omega (arith, p.0.admitted.few_nodes, p.1)
-
 pub loop-v-init : goal.loop-v-init
 loop-v-init c =
     (written_none (graph (goal.at.loop-v-init c).Start) c.args.scratch.now c.requires.0 c.args.root c.requires.1 c.requires.2 _ refl, refl, refl)
 
-pub read-p-requires : goal.read-p-requires
-read-p-requires c = let p = c.requires in omega (arith, in-scratch (goal.at.read-p-requires c).In-loop-v, p.0.long, p.0.admitted.few_nodes)
-
-pub read-m-requires : goal.read-m-requires
-read-m-requires c = let p = c.requires in omega (arith, in-scratch (goal.at.read-m-requires c).In-loop-v, p.0.long, p.0.admitted.few_nodes)
-
 pub write_at-requires : goal.write_at-requires
 write_at-requires c =
     next_asks (graph (goal.at.write_at-requires c).Start) c.args.scratch.now c.requires.0 c.args.root c.requires.1 c.requires.2 c.args.locks.now c.requires.3 c.loop-v.v _ c.loop-v.invariant.0 c.loop-v-test.true _ _ c.read-p.ensures c.read-m.ensures
-
-pub read-v-requires : goal.read-v-requires
-read-v-requires c = let p = c.requires in omega (arith, in-scratch (goal.at.read-v-requires c).In-loop-v, p.0.long, p.0.admitted.few_nodes)
 
 pub loop-v-smaller : goal.loop-v-smaller
 loop-v-smaller c = (loop-both (goal.at.loop-v-smaller c).After-read-v).1
@@ -50,12 +32,6 @@ loop-v-smaller c = (loop-both (goal.at.loop-v-smaller c).After-read-v).1
 pub loop-v-preserved : goal.loop-v-preserved
 loop-v-preserved c =
     ((loop-both (goal.at.loop-v-preserved c).After-read-v).0, c.write_at.auto.node_bits ∙ c.loop-v.invariant.1, c.write_at.auto.output_bits ∙ c.loop-v.invariant.2)
-
-pub shape_of-node_bits : goal.shape_of-node_bits
-shape_of-node_bits c = c.loop-v.invariant.1
-
-pub shape_of-output_bits : goal.shape_of-output_bits
-shape_of-output_bits c = c.loop-v.invariant.2
 
 pub returns : goal.returns
 returns c =
