@@ -2,37 +2,17 @@
 -- From the laws on runs of stores.
 use mathlib.Core.Path.{◌≡◌, refl, sym, ap, ◌∙◌}
 use mathlib.Core.List.{List, [], ◌∷◌, ◌++◌}
-use Prim.Native.Nat.{ℕ, suc, ◌+◌, ◌≤◌, ◌<◌}
+use Prim.Native.Nat.{ℕ, ◌+◌, ◌-◌, ◌≤◌, ◌<◌}
 use native.Mathlib.Omega.{arith}
 use lib.ListN.{length, get_or, set, drop, length-set, length-append}
-use lib.Seq.{sets, drop-cons, drop-length}
+use lib.Seq.{sets, sets-eq, drop-drop}
+use borrow.Rule.Slice.PartMut.{put_mid}
 use Rattle.tagged_file.proofs.Stores.{in_a_row}
+use Rattle.tagged_file.proofs.Emitted.{Left, left_more}
 
--- a text half copied to place i: what is left of it, from place k on, comes to the whole
-pub record Copying (b₀ : List ℕ) (i : ℕ) (text b : List ℕ) (k : ℕ) : Type 0 where
-  pub passed : k ≤ length text
-  pub same : length b ≡ length b₀
-  pub left : sets b (i + k) (drop k text) ≡ sets b₀ i text
-
-pub copy_start : (b : List ℕ) (i : ℕ) (text : List ℕ) → Copying b i text b 0
-copy_start b i text = let e : i + 0 ≡ i = omega arith in record { passed = omega arith; same = refl; left = rw e }
-
-module _ (b₀ : List ℕ) (i : ℕ) (text b : List ℕ) (k : ℕ) (h : Copying b₀ i text b k) where
-  pub copy_more : k < length text → Copying b₀ i text (set b (i + k) (get_or text k 0)) (k + 1)
-  copy_more l =
-      let e : i + (k + 1) ≡ suc (i + k) = omega arith in
-      let s : k + 1 ≡ suc k = omega arith in
-      record {
-        passed = omega arith;
-        same = length-set b (i + k) (get_or text k 0) ∙ h.same;
-        left = rw (e, s) (ap (sets b (i + k)) (sym (drop-cons text k 0 l)) ∙ h.left);
-      }
-
-  pub copy_end : length text ≤ k → (i + k ≡ i + length text) × (b ≡ sets b₀ i text)
-  copy_end l =
-      let e : k ≡ length text = omega (arith, h.passed) in
-      let d : drop k text ≡ [] = ap (λ (j : ℕ). drop j text) e ∙ drop-length text in
-      (omega arith, ap (sets b (i + k)) (sym d) ∙ h.left)
+-- a text copied to place i
+pub copied : (b : List ℕ) (i n : ℕ) (text ys : List ℕ) → ys ≡ text → n ≡ length text → i + length text ≤ length b → put_mid i n b ys ≡ sets b i text
+copied b i n text ys e l h = rw (e, l, drop-drop) (sym (sets-eq text b i h))
 
 -- room for two is room for each
 pub room_first : (a b : List ℕ) (at n : ℕ) → at + length (a ++ b) ≤ n → at + length a ≤ n
@@ -69,3 +49,10 @@ pub three_parts : (t t₁ t₂ t₃ a b c : List ℕ) (first middle end : ℕ) �
 three_parts t t₁ t₂ t₃ a b c first middle end e₁ s₁ e₂ s₂ h =
     put_front t t₃ (a ++ (b ++ c)) (a ++ (b ++ c)) end refl
     (in_a_row t t₁ t₃ a (b ++ c) 0 first end (omega arith, s₁) (in_a_row t₁ t₂ t₃ b c first middle end (e₂, s₂) h))
+
+-- of n lines in a row one more is put
+pub left_next : (f : ℕ → List ℕ) (n start : ℕ) (t₀ t : List ℕ) (at v : ℕ) → Left f n start t₀ t at v (n - v) → v < n → (t' : List ℕ) (at' : ℕ) → t' ≡ sets t at (f v) → at' ≡ at + length (f v)
+    → Left f n start t₀ t' at' (v + 1) (n - (v + 1))
+left_next f n start t₀ t at v i h t' at' et ea =
+    let e : n - (v + 1) ≡ n - v - 1 = omega arith in
+    rw e (left_more f n start t₀ t at v (n - v) i (omega arith) t' at' et ea)

@@ -46,22 +46,16 @@ pub fn put_nodes(
         (result ≡ start + length (in_order (node_line_at inputs ns) 0 nodes)) × (result ≤ start + 54 * nodes) × (buffer.new ≡ sets buffer.old start (in_order (node_line_at inputs ns) 0 nodes)) }
 {
     let mut at = start;
-    let mut index = inputs + 1;
-    let mut v = 0;
-    let mut left = nodes;
-    while 0 < left {
-        let word = 3 * v;
+    for v in 0..nodes {
+        let word = 3 * v as usize;
         at = put_node(
             buffer,
             at,
-            index,
+            inputs + 1 + v,
             node_table.word_at(word),
             node_table.word_at(word + 1),
             node_table.word_at(word + 2),
         );
-        index += 1;
-        v += 1;
-        left -= 1;
     }
     at
 }
@@ -74,12 +68,8 @@ pub fn put_outputs(buffer: &mut [u8], start: usize, outputs: u32, output_table: 
         (result ≡ start + length (in_order (output_line_at os) 0 outputs)) × (result ≤ start + 15 * outputs) × (buffer.new ≡ sets buffer.old start (in_order (output_line_at os) 0 outputs)) }
 {
     let mut at = start;
-    let mut v = 0;
-    let mut left = outputs;
-    while 0 < left {
-        at = put_output(buffer, at, output_table.word_at(v));
-        v += 1;
-        left -= 1;
+    for j in 0..outputs {
+        at = put_output(buffer, at, output_table.word_at(j as usize));
     }
     at
 }

@@ -7,12 +7,9 @@ pub fn put_text(buffer: &mut [u8], at: usize, text: &[u8]) -> usize
     requires { at + length text.now ≤ length buffer.old }
     ensures { (result ≡ at + length text.now) × (buffer.new ≡ sets buffer.old at text.now) }
 {
-    let mut k = 0;
-    while k < text.len() {
-        buffer[at + k] = text[k];
-        k += 1;
-    }
-    at + k
+    let end = at + text.len();
+    buffer[at..end].copy_from_slice(text);
+    end
 }
 
 pub fn put_numbered(buffer: &mut [u8], at: usize, text: &[u8], a: u32) -> usize

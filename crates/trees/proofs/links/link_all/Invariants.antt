@@ -15,6 +15,3 @@ pub record Inv (n : ℕ) (sc₀ sc : List ℕ) (v : ℕ) : Type 0 where
 
 abbrev pub invariant-loop-v : goal.invariant-loop-v
 invariant-loop-v l = Inv l.nodes l.initial.scratch l.scratch l.v
-
-abbrev pub decreases-loop-v : goal.decreases-loop-v
-decreases-loop-v l = l.v
