@@ -31,7 +31,9 @@ use Rattle.hidden.specs.Inner.{Rising}
 use Rattle.hidden.proofs.Ways.{way_leaks, reader_leaks}
 use Rattle.finder.specs.Living.{NodeNames}
 use Rattle.finder.specs.Ways.{Open}
-use Rattle.finder.specs.Meeting.{three_of, Apart, Rises, Places, PlacesOf, Lacks, Unmet, AtLeast, Allows, Bars, AllBar, Missed, NamesOr, Ends, Tells, Listed, Followed, Comes, Come, Put, Added}
+use Rattle.std.proofs.Common.{Option, None, Some}
+use Rattle.finder.specs.declared.following.Head.{Head}
+use Rattle.finder.specs.Meeting.{three_of, Apart, Rises, Places, PlacesOf, Lacks, Unmet, AtLeast, Allows, Bars, AllBar, Missed, NamesOr, Ends, Tells, Listed, Followed, Comes, HeadComes, Come, Put, Added}
 use Rattle.finder.proofs.Barring.{In}
 use Rattle.finder.proofs.Named.{word_named}
 use Rattle.finder.proofs.Near.{place_low, places_rise, three_rise}
@@ -192,28 +194,28 @@ pub come_one : (g : Graph) (v m : ℕ) (list : List ℕ) → Listed g v m list �
 come_one g v m list f hs ms a b p q =
     record { listed = a; words = b; each = λ k h. let e : k ≡ 0 = omega arith in rw (e, p, q) (comes_none g v m list f) }
 
-pub come_put : (g : Graph) (v m : ℕ) (list : List ℕ) (n x mask r : ℕ) (hs hs' ms ms' : List ℕ) → n < length hs → n < length ms → Come g v m list n hs ms → (0 < x → Comes g v m list x mask)
-    → Put n x mask r hs hs' ms ms' → Come g v m list r hs' ms' × (n ≤ r) × (r ≤ n + 1)
-come_put g v m list n x mask r hs hs' ms ms' a b c new p =
-    ⊎_elim
-    (λ (q : (r ≡ n) × (x ≡ 0)). (
-      record { listed = omega (arith, q.0, p.same); words = omega (arith, q.0, p.same_words); each = λ k h. old k (omega (arith, q.0)) },
-      omega (arith, q.0),
-      omega (arith, q.0),
-    ))
-    (λ (q : (r ≡ n + 1) × (0 < x) × (get_or hs' n 0 ≡ x) × (get_or ms' n 0 ≡ mask)). (
-      record {
-        listed = omega (arith, q.0, p.same);
-        words = omega (arith, q.0, p.same_words);
-        each = λ k h. ⊎_elim (λ (z : k < n). old k z) (λ (z : n ≤ k). let e : k ≡ n = omega (arith, q.0) in rw (e, q.2, q.3) (new q.1)) (lt_or_le k n);
-      },
-      omega (arith, q.0),
-      omega (arith, q.0),
-    ))
-    p.many
-  where
-    old : (k : ℕ) → k < n → Comes g v m list (get_or hs' k 0) (get_or ms' k 0)
-    old k h = rw ((p.kept k h).0, (p.kept k h).1) (c.each k h)
+module _ (g : Graph) (v m : ℕ) (list : List ℕ) (n : ℕ) where
+  still : (r : ℕ) (head : Option Head) (hs hs' ms ms' : List ℕ) → Come g v m list n hs ms → Put n head r hs hs' ms ms' → (k : ℕ) → k < n → Comes g v m list (get_or hs' k 0) (get_or ms' k 0)
+  still r head hs hs' ms ms' c p k h = rw ((p.kept k h).0, (p.kept k h).1) (c.each k h)
+
+  pub come_put : (head : Option Head) (r : ℕ) (hs hs' ms ms' : List ℕ) → n < length hs → n < length ms → Come g v m list n hs ms → HeadComes g v m list head
+      → Put n head r hs hs' ms ms' → Come g v m list r hs' ms' × (n ≤ r) × (r ≤ n + 1)
+  come_put None r hs hs' ms ms' a b c new p =
+      let q : r ≡ n = p.behind in (
+        record { listed = omega (arith, q, p.same); words = omega (arith, q, p.same_words); each = λ k h. still r None hs hs' ms ms' c p k (omega (arith, q)) },
+        omega (arith, q),
+        omega (arith, q),
+      )
+  come_put (Some x) r hs hs' ms ms' a b c new p =
+      let q = p.behind in (
+        record {
+          listed = omega (arith, q.0, p.same);
+          words = omega (arith, q.0, p.same_words);
+          each = λ k h. ⊎_elim (λ (z : k < n). still r (Some x) hs hs' ms ms' c p k z) (λ (z : n ≤ k). let e : k ≡ n = omega (arith, q.0) in rw (e, q.1, q.2) new) (lt_or_le k n);
+        },
+        omega (arith, q.0),
+        omega (arith, q.0),
+      )
 
 -- what is read of a node
 module _ (g : Graph) (adm : Admitted g) (w : ℕ) (h : w < g.N) where

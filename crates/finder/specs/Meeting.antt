@@ -1,6 +1,6 @@
 -- Ways down from a node, each as the places of a rising list that it meets, the bits of a word. A triple that some way misses is left out. What the
 -- inner functions ask of each other, and no promise to a caller.
-use Rattle.std.specs.Prelude.{◌≡◌, false, ◌⊎◌, List, ℕ, ◌+◌, ◌*◌, ◌/◌, ◌≤◌, ◌<◌, length, get_or, take}
+use Rattle.std.specs.Prelude.{◌≡◌, false, ◌⊎◌, ⊤, Option, None, Some, List, ℕ, ◌+◌, ◌*◌, ◌/◌, ◌≤◌, ◌<◌, length, get_or, take}
 use Rattle.graph.specs.Admission.{Admitted}
 use Rattle.graph.specs.Graph.{Graph, node}
 use Rattle.graph.specs.Literals.{bit}
@@ -10,6 +10,7 @@ use Rattle.hidden.specs.Majority.{is_majority}
 use Rattle.hidden.specs.Ways.{Misses}
 use Rattle.hidden.specs.Inner.{Between}
 use Rattle.majority_call.specs.Valuing.{Facts}
+use Rattle.finder.specs.declared.following.Head.{Head}
 use Rattle.finder.specs.Living.{NodeNames}
 use Rattle.finder.specs.Ways.{Open}
 
@@ -94,6 +95,10 @@ pub record Comes (g : Graph) (v m : ℕ) (list : List ℕ) (x mask : ℕ) : Type
   pub below : x < node g g.N
   pub leads : Leads g list m mask (node g v) x
 
+abbrev pub HeadComes : Graph → ℕ → ℕ → List ℕ → Option Head → Type 0
+HeadComes g v m list None = ⊤
+HeadComes g v m list (Some h) = Comes g v m list h.index h.mask
+
 -- so many ways: where each has come to, and by which places
 pub record Come (g : Graph) (v m : ℕ) (list : List ℕ) (n : ℕ) (heads met : List ℕ) : Type 0 where
   pub listed : n ≤ length heads
@@ -101,11 +106,15 @@ pub record Come (g : Graph) (v m : ℕ) (list : List ℕ) (n : ℕ) (heads met :
   pub each : (k : ℕ) → k < n → Comes g v m list (get_or heads k 0) (get_or met k 0)
 
 -- one is put behind the first n, or there is none
-pub record Put (n x mask r : ℕ) (heads heads' met met' : List ℕ) : Type 0 where
+abbrev pub Behind : ℕ → ℕ → List ℕ → List ℕ → Option Head → Type 0
+Behind n r heads' met' None = r ≡ n
+Behind n r heads' met' (Some h) = (r ≡ n + 1) × (get_or heads' n 0 ≡ h.index) × (get_or met' n 0 ≡ h.mask)
+
+pub record Put (n : ℕ) (head : Option Head) (r : ℕ) (heads heads' met met' : List ℕ) : Type 0 where
   pub same : length heads' ≡ length heads
   pub same_words : length met' ≡ length met
   pub kept : (k : ℕ) → k < n → (get_or heads' k 0 ≡ get_or heads k 0) × (get_or met' k 0 ≡ get_or met k 0)
-  pub many : ((r ≡ n) × (x ≡ 0)) ⊎ ((r ≡ n + 1) × (0 < x) × (get_or heads' n 0 ≡ x) × (get_or met' n 0 ≡ mask))
+  pub behind : Behind n r heads' met' head
 
 -- the word mask is put behind the first n, or it has every place
 pub record Added (n mask r : ℕ) (ws ws' : List ℕ) : Type 0 where

@@ -36,21 +36,6 @@ pub fn words_from(inputs: u32, scratch: &[u32], index: u32) -> u32
     read(scratch, wide(index - inputs - 1), 6)
 }
 
-// One more; past a million it would not matter.
-fn more(words: u32) -> u32 {
-    if words < 1000000 {
-        return words + 1;
-    }
-    words
-}
-
-fn at_most(most: u32, words: u32) -> u32 {
-    if words < most {
-        return words;
-    }
-    most
-}
-
 // The one of two indices, of which 0 is none, from which fewer words lead to an input; where many do from both, the lower, so that what is near is left soon.
 fn nearer(inputs: u32, scratch: &[u32], best: u32, index: u32) -> u32
     requires { (inputs ≤ 4096) × (best ≤ inputs + 100000) × (8 * (best - inputs) ≤ length scratch.now) × (index ≤ inputs + 100000) × (8 * (index - inputs) ≤ length scratch.now) }
@@ -59,8 +44,8 @@ fn nearer(inputs: u32, scratch: &[u32], best: u32, index: u32) -> u32
     if best == 0 {
         return index;
     }
-    let d = at_most(MANY, words_from(inputs, scratch, best));
-    let e = at_most(MANY, words_from(inputs, scratch, index));
+    let d = words_from(inputs, scratch, best).min(MANY);
+    let e = words_from(inputs, scratch, index).min(MANY);
     if d < e {
         return best;
     }
@@ -107,7 +92,7 @@ pub fn set_down(inputs: u32, nodes: u32, node_table: &Table, scratch: &mut [u32]
         Led g v scratch.old scratch.new }
 {
     let low = nearest_open(inputs, nodes, node_table, scratch, v);
-    let words = more(words_from(inputs, scratch, low));
+    let words = words_from(inputs, scratch, low).saturating_add(1);
     store(scratch, v, 0, 2 * low);
     store(scratch, v, 6, words);
 }

@@ -4,7 +4,7 @@ ghost use Rattle.std.specs.Prelude.{◌≡◌, true, ℕ, ◌+◌, ◌-◌, ◌*
 ghost use Rattle.graph.specs.Admission.{Admitted};
 ghost use Rattle.graph.specs.Graph.{node};
 ghost use Rattle.evaluation.specs.Inner.{nodes_of};
-ghost use Rattle.finder.specs.Meeting.{Bars, AllBar, NamesOr, Ends, Listed, Followed, Comes, Come, Put, Added};
+ghost use Rattle.finder.specs.Meeting.{Bars, AllBar, NamesOr, Ends, Listed, Followed, Comes, HeadComes, Come, Put, Added};
 ghost use Rattle.graph.specs.Tables.{lent_table};
 
 use crate::down::{is_open, words_from};
@@ -93,7 +93,7 @@ fn follow(
     ALL
 }
 
-// Where a way has come to, and by which places; 0 where there is none.
+// Where a way has come to, and by which places.
 #[derive(Clone, Copy)]
 pub struct Head {
     pub index: u32,
@@ -111,38 +111,41 @@ fn step(
     from: u32,
     by: u64,
     k: usize,
-) -> Head
+) -> Option<Head>
     requires { let g = nodes_of inputs nodes (lent_table node_table.now) in
         Listed g v m list.now × Comes g v m list.now from by × (k < 3) }
     ensures { let g = nodes_of inputs nodes (lent_table node_table.now) in
-        (0 < result.index → Comes g v m list.now result.index result.mask) }
+        HeadComes g v m list.now result }
 {
     if from <= inputs {
         if k == 1 {
-            return Head {
+            return Some(Head {
                 index: from,
                 mask: by,
-            };
+            });
         }
-        return Head { index: 0, mask: 0 };
+        return None;
     }
     let x = named_at(inputs, nodes, node_table, wide(from - inputs - 1), k);
-    Head {
+    if x == 0 {
+        return None;
+    }
+    Some(Head {
         index: x,
         mask: by | place_of(list, m, x),
-    }
+    })
 }
 
-fn put(heads: &mut [u32], met: &mut [u64], n: usize, head: Head) -> usize
+fn put(heads: &mut [u32], met: &mut [u64], n: usize, found: Option<Head>) -> usize
     requires { (n < length heads.old) × (n < length met.old) × (n < 1000) }
-    ensures { Put n head.index head.mask result heads.old heads.new met.old met.new }
+    ensures { Put n found result heads.old heads.new met.old met.new }
 {
-    if head.index == 0 {
-        return n;
+    if let Some(head) = found {
+        heads[n] = head.index;
+        met[n] = head.mask;
+        return n + 1;
     }
-    heads[n] = head.index;
-    met[n] = head.mask;
-    n + 1
+    n
 }
 
 // The ways at places from up to n one word further, put behind these.
@@ -199,13 +202,13 @@ fn way(
     ensures { let g = nodes_of inputs nodes (lent_table node_table.now) in
         Bars g list.now m result (node g v) }
 {
-    let head = step(inputs, nodes, node_table, list, m, v, from, by, k);
-    if head.index == 0 {
-        return ALL;
+    let found = step(inputs, nodes, node_table, list, m, v, from, by, k);
+    if let Some(head) = found {
+        return follow(
+            inputs, nodes, node_table, scratch, list, m, v, head.index, head.mask,
+        );
     }
-    follow(
-        inputs, nodes, node_table, scratch, list, m, v, head.index, head.mask,
-    )
+    ALL
 }
 
 fn add_way(ways: &mut [u64], n: usize, mask: u64) -> usize

@@ -27,4 +27,4 @@ store-requires-2 c = room c.args.nodes c.args.v 6 _ c.requires.0.few_nodes c.req
 pub returns : goal.returns
 returns c =
     let o = c.nearest_open-low in
-    record { low = o.result; leading = o.ensures; words = c.more-words.result; between = _; stored = c.store.ensures; counted = c.store-2.ensures }
+    record { low = o.result; leading = o.ensures; words = c.saturating_add-words.result; between = _; stored = c.store.ensures; counted = c.store-2.ensures }

@@ -57,7 +57,7 @@ loop-j-preserved c =
     let a = c.args in
     let i = l.invariant.0 in
     let r = room _ _ _ _ _ _ _ _ i t c.requires.3 c.requires.4 c.requires.5 in
-    let k = come_put (graph (goal.at.loop-j-preserved c).Start) a.v a.m a.list.now l.t h.result.index h.result.mask o.result _ _ _ _ r.0 r.1 l.invariant.1 h.ensures o.ensures in (
+    let k = come_put (graph (goal.at.loop-j-preserved c).Start) a.v a.m a.list.now l.t h.result o.result _ _ _ _ r.0 r.1 l.invariant.1 h.ensures o.ensures in (
       record {
         low = omega (arith, i.low);
         high = omega (arith, t);

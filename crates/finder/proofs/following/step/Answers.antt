@@ -24,4 +24,5 @@ returns c =
     let x = c.named_at-x in
     let w = c.wide in
     let a = c.args in
-    λ z. comes_on (graph (goal.at.returns c).Start) a.v a.m a.list.now c.requires.0 a.from a.by (omega (arith, c.if-from-inputs.false)) c.requires.1 w.result w.ensures x.result x.ensures z c.place_of.result c.place_of.ensures.all
+    let s = (goal.at.returns c).Start in
+    comes_on (graph s) a.v a.m a.list.now c.requires.0 a.from a.by (omega (arith, c.if-from-inputs.false)) c.requires.1 w.result w.ensures x.result x.ensures (omega (arith, c.if-x-eq0.false)) c.place_of.result c.place_of.ensures.all

@@ -10,8 +10,8 @@ use Rattle.graph.specs.Tables.{lent_table}
 abbrev graph : Start → Graph
 graph s = nodes_of s.args.inputs s.args.nodes (lent_table s.args.node_table.now)
 
-pub returns-then-head-eq0 : goal.returns-then-head-eq0
-returns-then-head-eq0 c = bars_all (graph (goal.at.returns-then-head-eq0 c).Start) c.args.list.now c.args.m (node (graph (goal.at.returns-then-head-eq0 c).Start) c.args.v) c.requires.0.near.few
-
 pub follow-requires : goal.follow-requires
-follow-requires c = (c.requires.0, c.step-head.ensures (omega (arith, c.if-head-eq0.false)))
+follow-requires c = (c.requires.0, c.in-Some.ensures)
+
+pub returns : goal.returns
+returns c = let s = (goal.at.returns c).Start in bars_all (graph s) c.args.list.now c.args.m (node (graph s) c.args.v) c.requires.0.near.few
