@@ -19,28 +19,16 @@ pub fn complements_of(byte: u32) -> u32
     requires { (byte < 256) × (is_majority byte ≡ true) }
     ensures { (result ≡ complements byte) × (result < 8) }
 {
-    if byte == 232 {
-        return 0;
+    match byte {
+        232 => 0,
+        212 => 1,
+        178 => 2,
+        113 => 3,
+        142 => 4,
+        77 => 5,
+        43 => 6,
+        _ => 7,
     }
-    if byte == 212 {
-        return 1;
-    }
-    if byte == 178 {
-        return 2;
-    }
-    if byte == 113 {
-        return 3;
-    }
-    if byte == 142 {
-        return 4;
-    }
-    if byte == 77 {
-        return 5;
-    }
-    if byte == 43 {
-        return 6;
-    }
-    7
 }
 
 // Stores the three literals at node v.

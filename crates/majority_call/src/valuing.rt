@@ -15,6 +15,7 @@ use graph::table::Table;
 use moves::words::{narrow, wide};
 use trees::fields::{read, store};
 
+// What is known of an index is a number, since a word of scratch holds it: a byte, this, or 512 and the index of a node that it waits for.
 pub const LEAK: u32 = 256;
 
 pub const UNKNOWN: u32 = 512;
