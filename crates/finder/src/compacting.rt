@@ -139,7 +139,7 @@ pub fn compact(
     t
 }
 
-// The words from a to b are 0.
+// The words from a to b are 0. Not by fill: their bits lie in words that others share.
 pub fn clear_words(table: &mut [u32], bits: &mut [u64], a: usize, b: usize)
     requires { let xs = literals table.old bits.old in
         (a ≤ b) × (b ≤ 300000) × (b ≤ held xs) }

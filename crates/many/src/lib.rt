@@ -14,7 +14,7 @@ mod walk;
 use graph::table::Table;
 use graph::{Lent, Refusal};
 
-// Entry k is the node list[k] with the move bytes[k]; bytes past the list are not read. The whole list is tested before a word is
+// Entry k is the node list[k] with the move bytes[k]; bytes past the list are not read: two slices, as the C interface has them. The whole list is tested before a word is
 // turned.
 pub fn many<'x>(
     inputs: u32,

@@ -1,5 +1,4 @@
 -- `way` meets its contract. From the laws on ways.
-use native.Mathlib.Omega.{arith}
 use Rattle.graph.specs.Graph.{Graph, node}
 use Rattle.evaluation.specs.Inner.{nodes_of}
 use Rattle.finder.proofs.Meets.{bars_all}

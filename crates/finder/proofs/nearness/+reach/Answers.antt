@@ -1,9 +1,8 @@
 -- `through` and `reach` meet their contracts. From the laws on insertion.
 use mathlib.Core.Path.{sym, ◌∙◌}
-use Prim.Native.Nat.{ℕ, ◌+◌, ◌-◌, ◌*◌}
+use Prim.Native.Nat.{◌+◌, ◌-◌, ◌*◌}
 use native.Mathlib.Omega.{arith}
 use borrow.Author.Rules.{rules}
-use Rattle.graph.specs.Graph.{Graph}
 use Rattle.graph.specs.Tables.{lent_table}
 use Rattle.graph.proofs.Words.{is_word}
 use Rattle.evaluation.specs.Inner.{nodes_of}

@@ -1,12 +1,11 @@
 -- `make_found` meets its contract. From the law on the table of a node made.
 use Prim.Native.Nat.{ℕ, ◌+◌, ◌*◌, ◌≤◌, ◌<◌}
 use native.Mathlib.Omega.{arith}
-use Rattle.graph.specs.Graph.{Graph}
 use Rattle.graph.specs.Literals.{literals}
 use Rattle.evaluation.specs.Inner.{nodes_of}
 use Rattle.hidden.specs.Truth.{Triple, triple}
 use Rattle.majority_call.proofs.Decided.{made_table}
-use Rattle.finder.proofs.Below.{becomes_none, becomes_made}
+use Rattle.finder.proofs.Below.{becomes_made}
 use Rattle.finder.proofs.passing.make_found.Goals as goal
 use Rattle.finder.proofs.passing.make_found.Goals.{Start}
 

@@ -1,5 +1,5 @@
 -- `try_triples` meets its contract: what is left to be tried gives the same. From the laws on trials.
-use mathlib.Core.Path.{refl, ◌∙◌}
+use mathlib.Core.Path.{refl}
 use mathlib.Core.List.{List, []}
 use Prim.Native.Nat.{ℕ, suc}
 use native.Mathlib.Omega.{arith}
