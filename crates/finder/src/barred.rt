@@ -11,10 +11,7 @@ use graph::table::Table;
 fn is_input(inputs: u32, index: u32) -> bool
     ensures { result ≡ true → (0 < index) × (index ≤ inputs) }
 {
-    if index == 0 {
-        return false;
-    }
-    index <= inputs
+    index != 0 && index <= inputs
 }
 
 pub fn nothing_to_find(inputs: u32, nodes: u32, node_table: &Table, v: usize) -> bool

@@ -21,22 +21,7 @@ use trees::fields::store;
 fn differ(x: u32, y: u32, z: u32) -> bool
     ensures { result ≡ not (eqb x 0 || eqb y 0 || eqb z 0 || eqb x y || eqb x z || eqb y z) }
 {
-    if x == 0 {
-        return false;
-    }
-    if y == 0 {
-        return false;
-    }
-    if z == 0 {
-        return false;
-    }
-    if x == y {
-        return false;
-    }
-    if x == z {
-        return false;
-    }
-    y != z
+    x != 0 && y != 0 && z != 0 && x != y && x != z && y != z
 }
 
 // Whether node v is a majority of such.
