@@ -1,5 +1,5 @@
 // Moves told by the words of nodes that differ in two graphs of one wiring. A node's words name indices below its own, so that it is known by rising index of
-// each of them whether its readers are turned; words 1 and 2 then tell the node's move.
+// each of them whether its readers are turned; words 1 and 2 then tell the node's move. Loops go by place, since only crate graph reads a table's slice.
 ghost use Rattle.std.specs.Prelude.{◌≡◌, Bool, cond, false, ℕ, ◌+◌, ◌*◌, ◌%◌, ◌≤◌, ◌<◌, eqb, length, get_or};
 ghost use Rattle.graph.specs.Admission.{Admitted};
 ghost use Rattle.graph.specs.Finite.{tab, if_less};
