@@ -100,14 +100,7 @@ pub fn rewrite_pair<'x>(
     };
     let named = reading::numbers_of(&lent, p);
     let node = reading::numbers_of(&lent, v);
-    let which = words::which_name(
-        &Table {
-            indices: node_table,
-            bits: node_bits,
-        },
-        v as usize,
-        inputs + 1 + p,
-    );
+    let which = words::which_name(&lent.node_table, v as usize, inputs + 1 + p);
     let pair = Pair { named, node, which };
     let best = decide::best_pair(pair);
     let k = best.named;
