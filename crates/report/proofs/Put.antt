@@ -4,15 +4,16 @@ use mathlib.Core.Path.{◌≡◌, refl, sym, ap, ◌∙◌}
 use mathlib.Core.List.{List, [], ◌∷◌, ◌++◌}
 use Prim.Native.Nat.{ℕ, ◌+◌, ◌-◌, ◌≤◌, ◌<◌}
 use native.Mathlib.Omega.{arith}
-use lib.ListN.{length, get_or, set, drop, length-set, length-append}
+use lib.ListN.{length, drop, length-append}
 use lib.Seq.{sets, sets-eq, drop-drop}
 use borrow.Rule.Slice.PartMut.{put_mid}
+use Rattle.std.proofs.Common.{append_assoc, take}
 use Rattle.tagged_file.proofs.Stores.{in_a_row}
 use Rattle.tagged_file.proofs.Emitted.{Left, left_more}
 
 -- a text copied to place i
 pub copied : (b : List ℕ) (i n : ℕ) (text ys : List ℕ) → ys ≡ text → n ≡ length text → i + length text ≤ length b → put_mid i n b ys ≡ sets b i text
-copied b i n text ys e l h = rw (e, l, drop-drop) (sym (sets-eq text b i h))
+copied b i n text ys e l h = rw (e, l, drop-drop) (sym (sets-eq text b i h ∙ append_assoc (take i b) text (drop (i + length text) b)))
 
 -- room for two is room for each
 pub room_first : (a b : List ℕ) (at n : ℕ) → at + length (a ++ b) ≤ n → at + length a ≤ n

@@ -1,5 +1,4 @@
 -- `put_nodes` meets its contract: the lines that are left come to the whole. From the laws on fields in a row.
-use mathlib.Core.Path.{◌≡◌}
 use Prim.Native.Nat.{◌+◌, ◌-◌, ◌*◌, ◌≤◌}
 use Rattle.tagged_file.proofs.Emitted.{Left}
 use Rattle.report.specs.Report.{node_line_at}
