@@ -8,6 +8,7 @@ use std::io;
 use std::io::{Input, Read, Write};
 
 // Reads until the file is full, the input ends or a read fails, and answers how many bytes it read.
+// A loop by hand, as there is no heap: `read_to_end` reads into a Vec, and `read_exact` does not tell how much a short input has.
 fn read_file<R: Read>(input: &mut R, file: &mut [u8]) -> usize
     ensures { result ≤ length file.new }
 {

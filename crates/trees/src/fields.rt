@@ -1,4 +1,5 @@
 // The eight fields of a node in scratch.
+// Functions over the slice, no plainer as a struct over it: one that holds a `&mut` needs ghost names in each contract.
 ghost use Rattle.std.specs.Prelude.{◌≡◌, ◌+◌, ◌*◌, ◌≤◌, ◌<◌, length};
 ghost use Rattle.state.specs.State.{field};
 ghost use Rattle.trees.specs.Filling.{Stored, Cleared};
