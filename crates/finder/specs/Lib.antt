@@ -1,3 +1,4 @@
+pub mod Nodes
 pub mod Living
 pub mod Numbering
 pub mod Compacting

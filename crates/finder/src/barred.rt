@@ -5,7 +5,9 @@ ghost use Rattle.graph.specs.Admission.{Admitted};
 ghost use Rattle.evaluation.specs.Inner.{nodes_of};
 ghost use Rattle.finder.specs.Barred.{NoMajority};
 ghost use Rattle.graph.specs.Tables.{lent_table};
+ghost use Rattle.finder.specs.Nodes.{nodes_in};
 
+use crate::nodes::Nodes;
 use graph::table::Table;
 
 fn is_input(inputs: u32, index: u32) -> bool
@@ -14,21 +16,21 @@ fn is_input(inputs: u32, index: u32) -> bool
     index != 0 && index <= inputs
 }
 
-pub fn nothing_to_find(inputs: u32, nodes: u32, node_table: &Table, v: usize) -> bool
-    requires { let g = nodes_of inputs nodes (lent_table node_table.now) in
-        Admitted g × (v < nodes) }
-    ensures { let g = nodes_of inputs nodes (lent_table node_table.now) in
+pub fn nothing_to_find(graph: &Nodes, v: usize) -> bool
+    requires { let g = nodes_in graph.now in
+        Admitted g × (v < graph.now.nodes) }
+    ensures { let g = nodes_in graph.now in
         (result ≡ true → NoMajority g v) }
 {
     let at = 3 * v;
-    if node_table.is_mark_at(at + 2) {
+    if graph.table.is_mark_at(at + 2) {
         return false;
     }
-    if node_table.index_at(at) != 0 {
+    if graph.table.index_at(at) != 0 {
         return false;
     }
-    if is_input(inputs, node_table.index_at(at + 1)) {
+    if is_input(graph.inputs, graph.table.index_at(at + 1)) {
         return true;
     }
-    is_input(inputs, node_table.index_at(at + 2))
+    is_input(graph.inputs, graph.table.index_at(at + 2))
 }

@@ -5,6 +5,7 @@ ghost use Rattle.graph.specs.Literals.{held, literals};
 ghost use Rattle.finder.specs.Compacting.{renumber_by, moved_word, moved_node, Holds, NodeHolds, OutputsMoved, Shifted, Moves, Compacted, Cleared};
 ghost use Rattle.graph.specs.Tables.{lent_table};
 
+use crate::nodes::Nodes;
 use graph::literal::MARK;
 use graph::table::{Table, set_word};
 use moves::words::wide;

@@ -4,7 +4,9 @@ ghost use Rattle.graph.specs.Admission.{Admitted};
 ghost use Rattle.evaluation.specs.Inner.{nodes_of};
 ghost use Rattle.finder.specs.Ways.{Open, Chosen, Leading, Led};
 ghost use Rattle.graph.specs.Tables.{lent_table};
+ghost use Rattle.finder.specs.Nodes.{nodes_in};
 
+use crate::nodes::Nodes;
 use graph::table::Table;
 use moves::words::wide;
 use trees::fields::{read, store};
@@ -69,30 +71,30 @@ fn nearer_open(inputs: u32, scratch: &[u32], best: u32, index: u32) -> u32
 }
 
 // The index that node v names from which the way is to lead on.
-fn nearest_open(inputs: u32, nodes: u32, node_table: &Table, scratch: &[u32], v: usize) -> u32
-    requires { let g = nodes_of inputs nodes (lent_table node_table.now) in
-        Admitted g × (v < nodes) × (8 * nodes ≤ length scratch.now) }
-    ensures { let g = nodes_of inputs nodes (lent_table node_table.now) in
+fn nearest_open(graph: &Nodes, scratch: &[u32], v: usize) -> u32
+    requires { let g = nodes_in graph.now in
+        Admitted g × (v < graph.now.nodes) × (8 * graph.now.nodes ≤ length scratch.now) }
+    ensures { let g = nodes_in graph.now in
         Leading g scratch.now v result }
 {
     let at = 3 * v;
-    let a = nearer_open(inputs, scratch, 0, node_table.index_at(at));
-    let b = nearer_open(inputs, scratch, a, node_table.index_at(at + 1));
-    if node_table.is_mark_at(at + 2) {
+    let a = nearer_open(graph.inputs, scratch, 0, graph.table.index_at(at));
+    let b = nearer_open(graph.inputs, scratch, a, graph.table.index_at(at + 1));
+    if graph.table.is_mark_at(at + 2) {
         return b;
     }
-    nearer_open(inputs, scratch, b, node_table.index_at(at + 2))
+    nearer_open(graph.inputs, scratch, b, graph.table.index_at(at + 2))
 }
 
 // Stores it, and how many words lead on from node v.
-pub fn set_down(inputs: u32, nodes: u32, node_table: &Table, scratch: &mut [u32], v: usize)
-    requires { let g = nodes_of inputs nodes (lent_table node_table.now) in
-        Admitted g × (v < nodes) × (8 * nodes ≤ length scratch.old) }
-    ensures { let g = nodes_of inputs nodes (lent_table node_table.now) in
+pub fn set_down(graph: &Nodes, scratch: &mut [u32], v: usize)
+    requires { let g = nodes_in graph.now in
+        Admitted g × (v < graph.now.nodes) × (8 * graph.now.nodes ≤ length scratch.old) }
+    ensures { let g = nodes_in graph.now in
         Led g v scratch.old scratch.new }
 {
-    let low = nearest_open(inputs, nodes, node_table, scratch, v);
-    let words = words_from(inputs, scratch, low).saturating_add(1);
+    let low = nearest_open(graph, scratch, v);
+    let words = words_from(graph.inputs, scratch, low).saturating_add(1);
     store(scratch, v, 0, 2 * low);
     store(scratch, v, 6, words);
 }

@@ -6,9 +6,11 @@ ghost use Rattle.graph.specs.Graph.{node};
 ghost use Rattle.evaluation.specs.Inner.{nodes_of};
 ghost use Rattle.finder.specs.Meeting.{Bars, AllBar, NamesOr, Ends, Listed, Followed, Comes, HeadComes, Come, Put, Added};
 ghost use Rattle.graph.specs.Tables.{lent_table};
+ghost use Rattle.finder.specs.Nodes.{nodes_in};
 
 use crate::down::{is_open, words_from};
 use crate::masks::{ALL, place_of, spread};
+use crate::nodes::Nodes;
 use graph::table::Table;
 use moves::words::{narrow, wide};
 use trees::fields::read;
@@ -17,17 +19,17 @@ use trees::fields::read;
 const FAR: u32 = 40;
 
 // The index that word k of node w names, 0 for the mark.
-fn named_at(inputs: u32, nodes: u32, node_table: &Table, w: usize, k: usize) -> u32
-    requires { let g = nodes_of inputs nodes (lent_table node_table.now) in
-        Admitted g × (w < nodes) × (k < 3) }
-    ensures { let g = nodes_of inputs nodes (lent_table node_table.now) in
+fn named_at(graph: &Nodes, w: usize, k: usize) -> u32
+    requires { let g = nodes_in graph.now in
+        Admitted g × (w < graph.now.nodes) × (k < 3) }
+    ensures { let g = nodes_in graph.now in
         NamesOr g w result }
 {
     let at = 3 * w + k;
-    if node_table.is_mark_at(at) {
+    if graph.table.is_mark_at(at) {
         return 0;
     }
-    node_table.index_at(at)
+    graph.table.index_at(at)
 }
 
 // Whether a way may end at an index other than 0.
@@ -56,9 +58,7 @@ fn is_far(inputs: u32, scratch: &[u32], list: &[u32], index: u32) -> bool
 
 // The way that has come to an index by the places of a mask, and on from there as each node tells.
 fn follow(
-    inputs: u32,
-    nodes: u32,
-    node_table: &Table,
+    graph: &Nodes,
     scratch: &[u32],
     list: &[u32],
     m: usize,
@@ -66,24 +66,24 @@ fn follow(
     from: u32,
     by: u64,
 ) -> u64
-    requires { let g = nodes_of inputs nodes (lent_table node_table.now) in
+    requires { let g = nodes_in graph.now in
         Followed g v m list.now scratch.now × Comes g v m list.now from by }
-    ensures { let g = nodes_of inputs nodes (lent_table node_table.now) in
+    ensures { let g = nodes_in graph.now in
         Bars g list.now m result (node g v) }
 {
-    if is_far(inputs, scratch, list, from) {
+    if is_far(graph.inputs, scratch, list, from) {
         return ALL;
     }
     let mut x = from;
     let mut mask = by;
     for far in 0..FAR {
-        if ends(inputs, scratch, list, x) {
+        if ends(graph.inputs, scratch, list, x) {
             return mask;
         }
-        if x <= inputs {
+        if x <= graph.inputs {
             return ALL;
         }
-        let w = wide(x - inputs - 1);
+        let w = wide(x - graph.inputs - 1);
         x = read(scratch, w, 0) / 2;
         if x == 0 {
             return ALL;
@@ -102,9 +102,7 @@ pub struct Head {
 
 // A way one word further, by word k. One that has come to an input stays, for one of the words.
 fn step(
-    inputs: u32,
-    nodes: u32,
-    node_table: &Table,
+    graph: &Nodes,
     list: &[u32],
     m: usize,
     v: usize,
@@ -112,12 +110,12 @@ fn step(
     by: u64,
     k: usize,
 ) -> Option<Head>
-    requires { let g = nodes_of inputs nodes (lent_table node_table.now) in
+    requires { let g = nodes_in graph.now in
         Listed g v m list.now × Comes g v m list.now from by × (k < 3) }
-    ensures { let g = nodes_of inputs nodes (lent_table node_table.now) in
+    ensures { let g = nodes_in graph.now in
         HeadComes g v m list.now result }
 {
-    if from <= inputs {
+    if from <= graph.inputs {
         if k == 1 {
             return Some(Head {
                 index: from,
@@ -126,7 +124,7 @@ fn step(
         }
         return None;
     }
-    let x = named_at(inputs, nodes, node_table, wide(from - inputs - 1), k);
+    let x = named_at(graph, wide(from - graph.inputs - 1), k);
     if x == 0 {
         return None;
     }
@@ -150,9 +148,7 @@ fn put(heads: &mut [u32], met: &mut [u64], n: usize, found: Option<Head>) -> usi
 
 // The ways at places from up to n one word further, put behind these.
 fn further(
-    inputs: u32,
-    nodes: u32,
-    node_table: &Table,
+    graph: &Nodes,
     list: &[u32],
     m: usize,
     v: usize,
@@ -161,24 +157,14 @@ fn further(
     from: usize,
     n: usize,
 ) -> usize
-    requires { let g = nodes_of inputs nodes (lent_table node_table.now) in
+    requires { let g = nodes_in graph.now in
         Listed g v m list.now × Come g v m list.now n heads.old met.old × (from ≤ n) × (n ≤ 4) × (n + 3 * (n - from) ≤ length heads.old) × (n + 3 * (n - from) ≤ length met.old) }
-    ensures { let g = nodes_of inputs nodes (lent_table node_table.now) in
+    ensures { let g = nodes_in graph.now in
         Come g v m list.now result heads.new met.new × (n ≤ result) × (result ≤ n + 3 * (n - from)) × (length heads.new ≡ length heads.old) × (length met.new ≡ length met.old) }
 {
     let mut t = n;
     for j in 3 * from..3 * n {
-        let head = step(
-            inputs,
-            nodes,
-            node_table,
-            list,
-            m,
-            v,
-            heads[j / 3],
-            met[j / 3],
-            j % 3,
-        );
+        let head = step(graph, list, m, v, heads[j / 3], met[j / 3], j % 3);
         t = put(heads, met, t, head);
     }
     t
@@ -186,9 +172,7 @@ fn further(
 
 // A way by word k and on from there.
 fn way(
-    inputs: u32,
-    nodes: u32,
-    node_table: &Table,
+    graph: &Nodes,
     scratch: &[u32],
     list: &[u32],
     m: usize,
@@ -197,16 +181,14 @@ fn way(
     by: u64,
     k: usize,
 ) -> u64
-    requires { let g = nodes_of inputs nodes (lent_table node_table.now) in
+    requires { let g = nodes_in graph.now in
         Followed g v m list.now scratch.now × Comes g v m list.now from by × (k < 3) }
-    ensures { let g = nodes_of inputs nodes (lent_table node_table.now) in
+    ensures { let g = nodes_in graph.now in
         Bars g list.now m result (node g v) }
 {
-    let found = step(inputs, nodes, node_table, list, m, v, from, by, k);
+    let found = step(graph, list, m, v, from, by, k);
     if let Some(head) = found {
-        return follow(
-            inputs, nodes, node_table, scratch, list, m, v, head.index, head.mask,
-        );
+        return follow(graph, scratch, list, m, v, head.index, head.mask);
     }
     ALL
 }
@@ -224,9 +206,7 @@ fn add_way(ways: &mut [u64], n: usize, mask: u64) -> usize
 
 // All that go on by word k, put behind n words.
 fn ways_by(
-    inputs: u32,
-    nodes: u32,
-    node_table: &Table,
+    graph: &Nodes,
     scratch: &[u32],
     list: &[u32],
     m: usize,
@@ -239,16 +219,14 @@ fn ways_by(
     ways: &mut [u64],
     n: usize,
 ) -> usize
-    requires { let g = nodes_of inputs nodes (lent_table node_table.now) in
+    requires { let g = nodes_in graph.now in
         Followed g v m list.now scratch.now × Come g v m list.now to heads.now met.now × (from ≤ to) × (to ≤ 13) × (k < 3) × (n ≤ 27) × (n + (to - from) ≤ length ways.old) × AllBar g list.now m n ways.old (node g v) }
-    ensures { let g = nodes_of inputs nodes (lent_table node_table.now) in
+    ensures { let g = nodes_in graph.now in
         AllBar g list.now m result ways.new (node g v) × (result ≤ n + (to - from)) × (length ways.new ≡ length ways.old) }
 {
     let mut t = n;
     for e in from..to {
-        let mask = way(
-            inputs, nodes, node_table, scratch, list, m, v, heads[e], met[e], k,
-        );
+        let mask = way(graph, scratch, list, m, v, heads[e], met[e], k);
         t = add_way(ways, t, mask);
     }
     t
@@ -256,9 +234,7 @@ fn ways_by(
 
 // All of them, or so many that no three places meet them. A first word is often the constant, so that the second is taken first.
 fn ways_from(
-    inputs: u32,
-    nodes: u32,
-    node_table: &Table,
+    graph: &Nodes,
     scratch: &[u32],
     list: &[u32],
     m: usize,
@@ -270,30 +246,22 @@ fn ways_from(
     allowed: u64,
     ways: &mut [u64],
 ) -> usize
-    requires { let g = nodes_of inputs nodes (lent_table node_table.now) in
+    requires { let g = nodes_in graph.now in
         Followed g v m list.now scratch.now × Come g v m list.now to heads.now met.now × (from ≤ to) × (to ≤ 13) × (to - from ≤ 9) × (27 ≤ length ways.old) }
-    ensures { let g = nodes_of inputs nodes (lent_table node_table.now) in
+    ensures { let g = nodes_in graph.now in
         AllBar g list.now m result ways.new (node g v) × (result ≤ 27) × (length ways.new ≡ length ways.old) }
 {
-    let n = ways_by(
-        inputs, nodes, node_table, scratch, list, m, v, heads, met, from, to, 1, ways, 0,
-    );
+    let n = ways_by(graph, scratch, list, m, v, heads, met, from, to, 1, ways, 0);
     if spread(ways, n, allowed) {
         return n;
     }
-    let o = ways_by(
-        inputs, nodes, node_table, scratch, list, m, v, heads, met, from, to, 2, ways, n,
-    );
-    ways_by(
-        inputs, nodes, node_table, scratch, list, m, v, heads, met, from, to, 0, ways, o,
-    )
+    let o = ways_by(graph, scratch, list, m, v, heads, met, from, to, 2, ways, n);
+    ways_by(graph, scratch, list, m, v, heads, met, from, to, 0, ways, o)
 }
 
 // The ways down from node v by each three words and on from there, a word each; or so many of them that no three places meet them.
 pub fn gather_ways(
-    inputs: u32,
-    nodes: u32,
-    node_table: &Table,
+    graph: &Nodes,
     scratch: &[u32],
     list: &[u32],
     m: usize,
@@ -301,21 +269,17 @@ pub fn gather_ways(
     allowed: u64,
     ways: &mut [u64],
 ) -> usize
-    requires { let g = nodes_of inputs nodes (lent_table node_table.now) in
+    requires { let g = nodes_in graph.now in
         Followed g v m list.now scratch.now × (27 ≤ length ways.old) }
-    ensures { let g = nodes_of inputs nodes (lent_table node_table.now) in
+    ensures { let g = nodes_in graph.now in
         AllBar g list.now m result ways.new (node g v) × (result ≤ 27) × (length ways.new ≡ length ways.old) }
 {
     let mut heads = [0u32; 13];
     let mut met = [0u64; 13];
-    heads[0] = inputs + 1 + narrow(v);
-    let p = further(
-        inputs, nodes, node_table, list, m, v, &mut heads, &mut met, 0, 1,
-    );
-    let q = further(
-        inputs, nodes, node_table, list, m, v, &mut heads, &mut met, 1, p,
-    );
+    heads[0] = graph.inputs + 1 + narrow(v);
+    let p = further(graph, list, m, v, &mut heads, &mut met, 0, 1);
+    let q = further(graph, list, m, v, &mut heads, &mut met, 1, p);
     ways_from(
-        inputs, nodes, node_table, scratch, list, m, v, &heads, &met, p, q, allowed, ways,
+        graph, scratch, list, m, v, &heads, &met, p, q, allowed, ways,
     )
 }

@@ -17,6 +17,7 @@ mod following;
 mod living;
 mod masks;
 mod nearness;
+mod nodes;
 mod numbering;
 mod passing;
 mod signs;

@@ -6,7 +6,9 @@ ghost use Rattle.graph.specs.Literals.{bit};
 ghost use Rattle.evaluation.specs.Inner.{nodes_of};
 ghost use Rattle.finder.specs.Meeting.{Rises, PlacesOf, Lacks, Allows, Higher, Unmet, Listed};
 ghost use Rattle.graph.specs.Tables.{lent_table};
+ghost use Rattle.finder.specs.Nodes.{nodes_in};
 
+use crate::nodes::Nodes;
 use graph::table::Table;
 
 // Every place.
@@ -59,30 +61,23 @@ fn higher(x: u32, y: u32) -> u32
 
 // The places that three indices of a majority at node v may have: none of what an AND names, as its value is constant over one of that index's values, and not that of the
 // higher index that an XOR names, as its value turns with it.
-pub fn allowed_places(
-    inputs: u32,
-    nodes: u32,
-    node_table: &Table,
-    list: &[u32],
-    m: usize,
-    v: usize,
-) -> u64
-    requires { let g = nodes_of inputs nodes (lent_table node_table.now) in
+pub fn allowed_places(graph: &Nodes, list: &[u32], m: usize, v: usize) -> u64
+    requires { let g = nodes_in graph.now in
         Listed g v m list.now }
-    ensures { let g = nodes_of inputs nodes (lent_table node_table.now) in
+    ensures { let g = nodes_in graph.now in
         Allows g v m list.now result }
 {
     let at = 3 * v;
-    let i = node_table.index_at(at);
-    let j = node_table.index_at(at + 1);
-    if node_table.is_mark_at(at + 2) {
+    let i = graph.table.index_at(at);
+    let j = graph.table.index_at(at + 1);
+    if graph.table.is_mark_at(at + 2) {
         return ALL ^ place_of(list, m, higher(i, j));
     }
     if i != 0 {
         return ALL;
     }
     let y = place_of(list, m, j);
-    let z = place_of(list, m, node_table.index_at(at + 2));
+    let z = place_of(list, m, graph.table.index_at(at + 2));
     ALL ^ (y | z)
 }
 

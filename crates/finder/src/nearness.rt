@@ -6,7 +6,9 @@ ghost use Rattle.evaluation.specs.Inner.{nodes_of};
 ghost use Rattle.hidden.specs.Find.{reaches};
 ghost use Rattle.finder.specs.Nearness.{Carried, Inserted, Grown, reach_room, through};
 ghost use Rattle.graph.specs.Tables.{lent_table};
+ghost use Rattle.finder.specs.Nodes.{nodes_in};
 
+use crate::nodes::Nodes;
 use graph::table::Table;
 use moves::words::wide;
 
@@ -52,53 +54,37 @@ fn add(list: &mut [u32], n: usize, index: u32) -> usize
 
 // What the word at place j names, and what that index reaches.
 #[cycle(reach)]
-fn through(
-    inputs: u32,
-    nodes: u32,
-    node_table: &Table,
-    list: &mut [u32],
-    n: usize,
-    j: usize,
-    far: u32,
-) -> usize
-    requires { let g = nodes_of inputs nodes (lent_table node_table.now) in
-        Admitted g × (j < 3 * nodes) × (is_edge g j ≡ true) × (n + (reach_room far + 1) ≤ length list.old) × (length list.old ≤ 1000) }
-    ensures { let g = nodes_of inputs nodes (lent_table node_table.now) in
-        Grown (reach_room far + 1) (inputs + 1 + j / 3) (through g far j) n result list.old list.new }
+fn through(graph: &Nodes, list: &mut [u32], n: usize, j: usize, far: u32) -> usize
+    requires { let g = nodes_in graph.now in
+        Admitted g × (j < 3 * graph.now.nodes) × (is_edge g j ≡ true) × (n + (reach_room far + 1) ≤ length list.old) × (length list.old ≤ 1000) }
+    ensures { let g = nodes_in graph.now in
+        Grown (reach_room far + 1) (graph.now.inputs + 1 + j / 3) (through g far j) n result list.old list.new }
 {
-    let x = node_table.index_at(j);
+    let x = graph.table.index_at(j);
     let m = add(list, n, x);
-    reach(inputs, nodes, node_table, list, m, x, far)
+    reach(graph, list, m, x, far)
 }
 
 // What an index reaches within so many words.
 #[cycle(reach)]
-pub fn reach(
-    inputs: u32,
-    nodes: u32,
-    node_table: &Table,
-    list: &mut [u32],
-    n: usize,
-    u: u32,
-    far: u32,
-) -> usize
-    requires { let g = nodes_of inputs nodes (lent_table node_table.now) in
-        Admitted g × (u < inputs + 1 + nodes) × (n + reach_room far ≤ length list.old) × (length list.old ≤ 1000) }
-    ensures { let g = nodes_of inputs nodes (lent_table node_table.now) in
+pub fn reach(graph: &Nodes, list: &mut [u32], n: usize, u: u32, far: u32) -> usize
+    requires { let g = nodes_in graph.now in
+        Admitted g × (u < graph.now.inputs + 1 + graph.now.nodes) × (n + reach_room far ≤ length list.old) × (length list.old ≤ 1000) }
+    ensures { let g = nodes_in graph.now in
         Grown (reach_room far) u (reaches g far u) n result list.old list.new }
 {
     if far == 0 {
         return n;
     }
-    if u <= inputs {
+    if u <= graph.inputs {
         return n;
     }
     let on = far - 1;
-    let at = 3 * wide(u - inputs - 1);
-    let a = through(inputs, nodes, node_table, list, n, at, on);
-    let b = through(inputs, nodes, node_table, list, a, at + 1, on);
-    if node_table.is_mark_at(at + 2) {
+    let at = 3 * wide(u - graph.inputs - 1);
+    let a = through(graph, list, n, at, on);
+    let b = through(graph, list, a, at + 1, on);
+    if graph.table.is_mark_at(at + 2) {
         return b;
     }
-    through(inputs, nodes, node_table, list, b, at + 2, on)
+    through(graph, list, b, at + 2, on)
 }

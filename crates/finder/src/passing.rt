@@ -8,8 +8,10 @@ ghost use Rattle.finder.specs.Signs.{Signed};
 ghost use Rattle.finder.specs.Trying.{Gives, trial_byte, trial_three};
 ghost use Rattle.finder.specs.Passing.{Clean, Becomes, Changed, Stepped};
 ghost use Rattle.graph.specs.Tables.{lent_table};
+ghost use Rattle.finder.specs.Nodes.{nodes_in};
 
 use crate::down::set_down;
+use crate::nodes::Nodes;
 use crate::signs::set_sign;
 use crate::trying::{Trial, try_near};
 use graph::table::Table;
@@ -25,19 +27,19 @@ fn differ(x: u32, y: u32, z: u32) -> bool
 }
 
 // Whether node v is a majority of such.
-fn is_plain(inputs: u32, nodes: u32, node_table: &Table, v: usize) -> bool
-    requires { let g = nodes_of inputs nodes (lent_table node_table.now) in
-        Admitted g × (v < nodes) }
-    ensures { let g = nodes_of inputs nodes (lent_table node_table.now) in
+fn is_plain(graph: &Nodes, v: usize) -> bool
+    requires { let g = nodes_in graph.now in
+        Admitted g × (v < graph.now.nodes) }
+    ensures { let g = nodes_in graph.now in
         result ≡ is_plain g v }
 {
     let at = 3 * v;
-    if node_table.is_mark_at(at + 2) {
+    if graph.table.is_mark_at(at + 2) {
         return false;
     }
-    let x = node_table.index_at(at);
-    let y = node_table.index_at(at + 1);
-    let z = node_table.index_at(at + 2);
+    let x = graph.table.index_at(at);
+    let y = graph.table.index_at(at + 1);
+    let z = graph.table.index_at(at + 2);
     differ(x, y, z)
 }
 
@@ -85,18 +87,22 @@ fn change_node<'x>(
         let ns' = literals node_table.new node_bits.new in
         Changed g locks.now v ns' scratch.new }
 {
-    let table = Table {
-        indices: node_table,
-        bits: node_bits,
+    let graph = Nodes {
+        inputs,
+        nodes,
+        table: Table {
+            indices: node_table,
+            bits: node_bits,
+        },
     };
     let w = wide(v);
     if locks[w] == 1 {
         return;
     }
-    if is_plain(inputs, nodes, &table, w) {
+    if is_plain(&graph, w) {
         return;
     }
-    let found = try_near(inputs, nodes, &table, scratch, v);
+    let found = try_near(&graph, scratch, v);
     make_found(inputs, nodes, node_table, node_bits, w, found);
     store(scratch, w, 2, 0);
 }
@@ -122,13 +128,23 @@ fn pass_node<'x>(
         indices: node_table,
         bits: node_bits,
     };
-    set_sign(inputs, nodes, &before, scratch, w);
+    let graph = Nodes {
+        inputs,
+        nodes,
+        table: before,
+    };
+    set_sign(&graph, scratch, w);
     change_node(inputs, nodes, node_table, node_bits, locks, scratch, v);
     let after = Table {
         indices: node_table,
         bits: node_bits,
     };
-    set_down(inputs, nodes, &after, scratch, w);
+    let graph = Nodes {
+        inputs,
+        nodes,
+        table: after,
+    };
+    set_down(&graph, scratch, w);
 }
 
 // All of them, by rising index.

@@ -7,7 +7,9 @@ ghost use Rattle.graph.specs.Value.{majority};
 ghost use Rattle.evaluation.specs.Inner.{nodes_of};
 ghost use Rattle.finder.specs.Signs.{input_sign, sign_of, TurnedWord, NodeSign, SignSet, Never₃, Votes};
 ghost use Rattle.graph.specs.Tables.{lent_table};
+ghost use Rattle.finder.specs.Nodes.{nodes_in};
 
+use crate::nodes::Nodes;
 use graph::literal::{MARK, index_of};
 use graph::table::Table;
 use trees::fields::{read, store};
@@ -62,31 +64,31 @@ fn majority_sign(x: u32, y: u32, z: u32) -> u32
 }
 
 // The signature of node v, from those of the indices that it names.
-fn node_sign(inputs: u32, nodes: u32, node_table: &Table, scratch: &[u32], v: usize) -> u32
-    requires { let g = nodes_of inputs nodes (lent_table node_table.now) in
-        Admitted g × (8 * nodes ≤ length scratch.now) × (v < nodes) }
-    ensures { let g = nodes_of inputs nodes (lent_table node_table.now) in
+fn node_sign(graph: &Nodes, scratch: &[u32], v: usize) -> u32
+    requires { let g = nodes_in graph.now in
+        Admitted g × (8 * graph.now.nodes ≤ length scratch.now) × (v < graph.now.nodes) }
+    ensures { let g = nodes_in graph.now in
         NodeSign g v scratch.now result }
 {
     let at = 3 * v;
-    let third = node_table.word_at(at + 2);
-    let x = literal_sign(inputs, scratch, node_table.edge_at(at));
-    let y = literal_sign(inputs, scratch, node_table.edge_at(at + 1));
+    let third = graph.table.word_at(at + 2);
+    let x = literal_sign(graph.inputs, scratch, graph.table.edge_at(at));
+    let y = literal_sign(graph.inputs, scratch, graph.table.edge_at(at + 1));
     if third == MARK {
         return x ^ y;
     }
-    let z = literal_sign(inputs, scratch, third);
+    let z = literal_sign(graph.inputs, scratch, third);
     majority_sign(x, y, z)
 }
 
 // Stores it.
-pub fn set_sign(inputs: u32, nodes: u32, node_table: &Table, scratch: &mut [u32], v: usize)
-    requires { let g = nodes_of inputs nodes (lent_table node_table.now) in
-        Admitted g × (8 * nodes ≤ length scratch.old) × (v < nodes) }
-    ensures { let g = nodes_of inputs nodes (lent_table node_table.now) in
+pub fn set_sign(graph: &Nodes, scratch: &mut [u32], v: usize)
+    requires { let g = nodes_in graph.now in
+        Admitted g × (8 * graph.now.nodes ≤ length scratch.old) × (v < graph.now.nodes) }
+    ensures { let g = nodes_in graph.now in
         SignSet g v scratch.old scratch.new }
 {
-    let w = node_sign(inputs, nodes, node_table, scratch, v);
+    let w = node_sign(graph, scratch, v);
     store(scratch, v, 7, w);
 }
 

@@ -5,17 +5,16 @@ use native.Mathlib.Omega.{arith}
 use borrow.Author.Tests.{eqb-false}
 use lib.ListN.{length}
 use Rattle.graph.specs.Graph.{Graph, mark, node, word}
-use Rattle.evaluation.specs.Inner.{nodes_of}
 use Rattle.graph.proofs.Edge.{edge_third}
 use Rattle.graph.proofs.Words.{is_word}
 use Rattle.finder.proofs.Named.{first_named, second_named, third_named}
 use Rattle.finder.proofs.Opens.{leading_more, leading_first, leading_second}
 use Rattle.finder.proofs.down.nearest_open.Goals as goal
 use Rattle.finder.proofs.down.nearest_open.Goals.{Start}
-use Rattle.graph.specs.Tables.{lent_table}
+use Rattle.finder.specs.Nodes.{nodes_in}
 
 abbrev graph : Start → Graph
-graph s = nodes_of s.args.inputs s.args.nodes (lent_table s.args.node_table.now)
+graph s = nodes_in s.args.graph.now
 
 inside : (v n k h : ℕ) → k < 3 → v < n → 3 * n ≤ h → 3 * v + k < h
 inside v n k h b l e = omega arith
@@ -24,8 +23,8 @@ room : (i n v w u l : ℕ) → i ≤ 4096 → n ≤ 100000 → v < n → w < i +
 room i n v w u l a b h q k e = (a, omega arith, omega arith, omega arith, omega arith)
 
 rooms : (s : Start) (w u : ℕ) → w < node (graph s) s.args.v → u < node (graph s) s.args.v
-    → (s.args.inputs ≤ 4096) × (w ≤ s.args.inputs + 100000) × (8 * (w - s.args.inputs) ≤ length s.args.scratch.now) × (u ≤ s.args.inputs + 100000) × (8 * (u - s.args.inputs) ≤ length s.args.scratch.now)
-rooms s w u h k = room s.args.inputs s.args.nodes s.args.v w u _ s.requires.0.few_inputs s.requires.0.few_nodes s.requires.1 h k s.requires.2
+    → (s.args.graph.now.inputs ≤ 4096) × (w ≤ s.args.graph.now.inputs + 100000) × (8 * (w - s.args.graph.now.inputs) ≤ length s.args.scratch.now) × (u ≤ s.args.graph.now.inputs + 100000) × (8 * (u - s.args.graph.now.inputs) ≤ length s.args.scratch.now)
+rooms s w u h k = room s.args.graph.now.inputs s.args.graph.now.nodes s.args.v w u _ s.requires.0.few_inputs s.requires.0.few_nodes s.requires.1 h k s.requires.2
 
 pub index_at-requires : goal.index_at-requires
 index_at-requires c = omega (arith, c.requires.1, c.requires.0.held_nodes)
@@ -34,7 +33,7 @@ pub nearer_open-a-requires : goal.nearer_open-a-requires
 nearer_open-a-requires c = rooms (goal.at.nearer_open-a-requires c).Start 0 c.index_at.result (omega arith) (first_named (graph (goal.at.nearer_open-a-requires c).Start) c.requires.0 c.args.v _ c.requires.1 c.index_at.ensures).1
 
 pub index_at-requires-2 : goal.index_at-requires-2
-index_at-requires-2 c = inside c.args.v c.args.nodes 1 _ (omega arith) c.requires.1 c.requires.0.held_nodes
+index_at-requires-2 c = inside c.args.v c.args.graph.now.nodes 1 _ (omega arith) c.requires.1 c.requires.0.held_nodes
 
 pub nearer_open-b-requires : goal.nearer_open-b-requires
 nearer_open-b-requires c =
@@ -44,7 +43,7 @@ nearer_open-b-requires c =
 
 pub is_mark_at-requires : goal.is_mark_at-requires
 is_mark_at-requires c =
-    (inside c.args.v c.args.nodes 2 _ (omega arith) c.requires.1 c.requires.0.held_nodes, is_word (graph (goal.at.is_mark_at-requires c).Start) c.requires.0 (3 * c.args.v + 2) (omega (arith, c.requires.1)))
+    (inside c.args.v c.args.graph.now.nodes 2 _ (omega arith) c.requires.1 c.requires.0.held_nodes, is_word (graph (goal.at.is_mark_at-requires c).Start) c.requires.0 (3 * c.args.v + 2) (omega (arith, c.requires.1)))
 
 pub returns-then-is_mark_at : goal.returns-then-is_mark_at
 returns-then-is_mark_at c =
@@ -55,7 +54,7 @@ returns-then-is_mark_at c =
     leading_second (graph (goal.at.returns-then-is_mark_at c).Start) c.requires.0 c.args.scratch.now c.args.v c.requires.1 x.result y.result p.result q.result x.ensures p.ensures y.ensures q.ensures
 
 pub index_at-requires-3 : goal.index_at-requires-3
-index_at-requires-3 c = inside c.args.v c.args.nodes 2 _ (omega arith) c.requires.1 c.requires.0.held_nodes
+index_at-requires-3 c = inside c.args.v c.args.graph.now.nodes 2 _ (omega arith) c.requires.1 c.requires.0.held_nodes
 
 pub nearer_open-requires : goal.nearer_open-requires
 nearer_open-requires c =

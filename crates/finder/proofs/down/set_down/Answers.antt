@@ -19,10 +19,10 @@ pub overflow_mul-low : goal.overflow_mul-low
 overflow_mul-low c = record { fits = low _ _ _ _ c.requires.0.few_inputs c.requires.0.few_nodes c.requires.1 c.nearest_open-low.ensures.below }
 
 pub store-requires : goal.store-requires
-store-requires c = room c.args.nodes c.args.v 0 _ c.requires.0.few_nodes c.requires.1 (omega arith) c.requires.2
+store-requires c = room c.args.graph.now.nodes c.args.v 0 _ c.requires.0.few_nodes c.requires.1 (omega arith) c.requires.2
 
 pub store-requires-2 : goal.store-requires-2
-store-requires-2 c = room c.args.nodes c.args.v 6 _ c.requires.0.few_nodes c.requires.1 (omega arith) (omega (arith, c.store.ensures.same, c.requires.2))
+store-requires-2 c = room c.args.graph.now.nodes c.args.v 6 _ c.requires.0.few_nodes c.requires.1 (omega arith) (omega (arith, c.store.ensures.same, c.requires.2))
 
 pub returns : goal.returns
 returns c =

@@ -2,15 +2,14 @@
 use Prim.Native.Nat.{ℕ, ◌+◌, ◌-◌, ◌*◌, ◌/◌, ◌≤◌, ◌<◌}
 use native.Mathlib.Omega.{arith}
 use Rattle.graph.specs.Graph.{Graph, node}
-use Rattle.evaluation.specs.Inner.{nodes_of}
 use Rattle.finder.specs.Meeting.{Bars}
 use Rattle.finder.proofs.Meets.{bars_all, listed_rise, inside, comes_on, comes_end, told_or}
 use Rattle.finder.proofs.following.follow.Goals as goal
 use Rattle.finder.proofs.following.follow.Goals.{Start}
-use Rattle.graph.specs.Tables.{lent_table}
+use Rattle.finder.specs.Nodes.{nodes_in}
 
 abbrev graph : Start → Graph
-graph s = nodes_of s.args.inputs s.args.nodes (lent_table s.args.node_table.now)
+graph s = nodes_in s.args.graph.now
 
 none : (s : Start) → Bars (graph s) s.args.list.now s.args.m 18446744073709551615 (node (graph s) s.args.v)
 none s = bars_all (graph s) s.args.list.now s.args.m (node (graph s) s.args.v) s.requires.0.near.few
@@ -24,7 +23,7 @@ held n w l b h k = (omega arith, omega arith, omega arith)
 pub is_far-requires : goal.is_far-requires
 is_far-requires c =
     let f = c.requires.0 in
-    room c.args.inputs c.args.nodes _ _ f.near.admitted.few_inputs f.near.admitted.few_nodes c.requires.1.some c.requires.1.below f.room f.near.some
+    room c.args.graph.now.inputs c.args.graph.now.nodes _ _ f.near.admitted.few_inputs f.near.admitted.few_nodes c.requires.1.some c.requires.1.below f.room f.near.some
 
 pub returns-then-is_far : goal.returns-then-is_far
 returns-then-is_far c = none (goal.at.returns-then-is_far c).Start
@@ -36,7 +35,7 @@ pub ends-requires : goal.ends-requires
 ends-requires c =
     let k = c.loop-far.invariant in
     let f = c.requires.0 in
-    room c.args.inputs c.args.nodes _ _ f.near.admitted.few_inputs f.near.admitted.few_nodes k.some k.below f.room f.near.some
+    room c.args.graph.now.inputs c.args.graph.now.nodes _ _ f.near.admitted.few_inputs f.near.admitted.few_nodes k.some k.below f.room f.near.some
 
 pub returns-then-ends : goal.returns-then-ends
 returns-then-ends c =
@@ -44,21 +43,21 @@ returns-then-ends c =
     let a = c.args in
     comes_end (graph (goal.at.returns-then-ends c).Start) a.v a.m a.list.now a.scratch.now c.requires.0 l.x l.mask l.invariant (c.ends.ensures c.if-ends.true)
 
-pub returns-then-x-inputs : goal.returns-then-x-inputs
-returns-then-x-inputs c = none (goal.at.returns-then-x-inputs c).Start
+pub returns-then-x-graph : goal.returns-then-x-graph
+returns-then-x-graph c = none (goal.at.returns-then-x-graph c).Start
 
 pub overflow_sub-x : goal.overflow_sub-x
-overflow_sub-x c = omega (arith, c.if-x-inputs.false)
+overflow_sub-x c = omega (arith, c.if-x-graph.false)
 
 pub overflow_sub-x-in-loop-far : goal.overflow_sub-x-in-loop-far
-overflow_sub-x-in-loop-far c = omega (arith, c.if-x-inputs.false)
+overflow_sub-x-in-loop-far c = omega (arith, c.if-x-graph.false)
 
 pub read-x-requires : goal.read-x-requires
 read-x-requires c =
     let l = c.loop-far in
     let a = c.args in
     let f = c.requires.0 in
-    held a.nodes _ _ f.near.admitted.few_nodes (inside (graph (goal.at.read-x-requires c).Start) a.v a.m a.list.now f.near l.x l.mask (omega (arith, c.if-x-inputs.false)) l.invariant _ c.wide-w.ensures) f.room
+    held a.graph.now.nodes _ _ f.near.admitted.few_nodes (inside (graph (goal.at.read-x-requires c).Start) a.v a.m a.list.now f.near l.x l.mask (omega (arith, c.if-x-graph.false)) l.invariant _ c.wide-w.ensures) f.room
 
 pub returns-then-x-eq0 : goal.returns-then-x-eq0
 returns-then-x-eq0 c = none (goal.at.returns-then-x-eq0 c).Start
@@ -73,7 +72,7 @@ loop-far-preserved c =
     let z = c.if-x-eq0.false in
     let x = c.read-x in
     let w = c.wide-w in
-    let h = c.if-x-inputs.false in
+    let h = c.if-x-graph.false in
     let l = c.loop-far in
     let a = c.args in
     let f = c.requires.0 in

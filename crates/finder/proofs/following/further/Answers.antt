@@ -3,15 +3,14 @@ use mathlib.Core.Path.{refl, ◌∙◌}
 use Prim.Native.Nat.{ℕ, ◌+◌, ◌-◌, ◌*◌, ◌/◌, ◌≤◌, ◌<◌}
 use native.Mathlib.Omega.{arith}
 use Rattle.graph.specs.Graph.{Graph}
-use Rattle.evaluation.specs.Inner.{nodes_of}
 use Rattle.finder.proofs.Meets.{come_put}
 use Rattle.finder.proofs.following.further.Goals as goal
 use Rattle.finder.proofs.following.further.Goals.{Start}
 use Rattle.finder.proofs.following.further.Invariants.{Inv}
-use Rattle.graph.specs.Tables.{lent_table}
+use Rattle.finder.specs.Nodes.{nodes_in}
 
 abbrev graph : Start → Graph
-graph s = nodes_of s.args.inputs s.args.nodes (lent_table s.args.node_table.now)
+graph s = nodes_in s.args.graph.now
 
 third : (n j t : ℕ) → j < 3 * n → n ≤ t → j / 3 < t
 third n j t h k = omega arith

@@ -2,10 +2,9 @@
 use mathlib.Core.Path.{◌≡◌}
 use Prim.Native.Nat.{ℕ, ◌+◌, ◌-◌, ◌*◌, ◌≤◌}
 use lib.ListN.{length}
-use Rattle.evaluation.specs.Inner.{nodes_of}
 use Rattle.finder.specs.Meeting.{Come}
 use Rattle.finder.proofs.following.further.Given as goal
-use Rattle.graph.specs.Tables.{lent_table}
+use Rattle.finder.specs.Nodes.{nodes_in}
 
 pub record Inv (from n j t k k₀ l l₀ : ℕ) : Type 0 where
   pub low : 3 * from ≤ j
@@ -17,4 +16,4 @@ pub record Inv (from n j t k k₀ l l₀ : ℕ) : Type 0 where
 
 abbrev pub invariant-loop-j : goal.invariant-loop-j
 invariant-loop-j l =
-    Inv l.from l.n l.j l.t (length l.heads) (length l.initial.heads) (length l.met) (length l.initial.met) × Come (nodes_of l.inputs l.nodes (lent_table l.node_table)) l.v l.m l.list l.t l.heads l.met
+    Inv l.from l.n l.j l.t (length l.heads) (length l.initial.heads) (length l.met) (length l.initial.met) × Come (nodes_in l.graph) l.v l.m l.list l.t l.heads l.met

@@ -3,14 +3,13 @@ use mathlib.Core.Path.{◌≡◌, refl, ap}
 use Prim.Native.Nat.{ℕ, ◌+◌, ◌-◌, ◌*◌, ◌≤◌}
 use native.Mathlib.Omega.{arith}
 use Rattle.graph.specs.Graph.{Graph}
-use Rattle.evaluation.specs.Inner.{nodes_of}
 use Rattle.finder.proofs.Meets.{come_one}
 use Rattle.finder.proofs.following.gather_ways.Goals as goal
 use Rattle.finder.proofs.following.gather_ways.Goals.{Start}
-use Rattle.graph.specs.Tables.{lent_table}
+use Rattle.finder.specs.Nodes.{nodes_in}
 
 abbrev graph : Start → Graph
-graph s = nodes_of s.args.inputs s.args.nodes (lent_table s.args.node_table.now)
+graph s = nodes_in s.args.graph.now
 
 room : (p l l₀ k k₀ : ℕ) → p ≤ 1 + 3 * (1 - 0) → 1 ≤ p → l ≡ l₀ → k ≡ k₀ → l₀ ≡ 13 → k₀ ≡ 13 → (1 ≤ p) × (p ≤ 4) × (p + 3 * (p - 1) ≤ l) × (p + 3 * (p - 1) ≤ k)
 room p l l₀ k k₀ h q e f i j = (q, omega arith, omega arith, omega arith)
@@ -19,7 +18,7 @@ pub further-p-requires : goal.further-p-requires
 further-p-requires c =
     let w = c.narrow in
     let a = c.args in
-    (c.requires.0.near, come_one (graph (goal.at.further-p-requires c).Start) a.v a.m a.list.now c.requires.0.near _ _ (omega arith) (omega arith) (ap (λ (x : ℕ). a.inputs + 1 + x) w.ensures) refl, omega arith, omega arith, omega arith, omega arith)
+    (c.requires.0.near, come_one (graph (goal.at.further-p-requires c).Start) a.v a.m a.list.now c.requires.0.near _ _ (omega arith) (omega arith) (ap (λ (x : ℕ). a.graph.now.inputs + 1 + x) w.ensures) refl, omega arith, omega arith, omega arith, omega arith)
 
 pub further-q-requires : goal.further-q-requires
 further-q-requires c =

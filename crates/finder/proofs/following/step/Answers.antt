@@ -1,19 +1,18 @@
 -- `step` meets its contract. From the laws on ways.
 use native.Mathlib.Omega.{arith}
 use Rattle.graph.specs.Graph.{Graph}
-use Rattle.evaluation.specs.Inner.{nodes_of}
 use Rattle.finder.proofs.Meets.{listed_rise, inside, comes_on}
 use Rattle.finder.proofs.following.step.Goals as goal
 use Rattle.finder.proofs.following.step.Goals.{Start}
-use Rattle.graph.specs.Tables.{lent_table}
+use Rattle.finder.specs.Nodes.{nodes_in}
 
 abbrev graph : Start → Graph
-graph s = nodes_of s.args.inputs s.args.nodes (lent_table s.args.node_table.now)
+graph s = nodes_in s.args.graph.now
 
 pub named_at-x-requires : goal.named_at-x-requires
 named_at-x-requires c =
     let a = c.args in
-    (c.requires.0.admitted, inside (graph (goal.at.named_at-x-requires c).Start) a.v a.m a.list.now c.requires.0 a.from a.by (omega (arith, c.if-from-inputs.false)) c.requires.1 _ c.wide.ensures, c.requires.2)
+    (c.requires.0.admitted, inside (graph (goal.at.named_at-x-requires c).Start) a.v a.m a.list.now c.requires.0 a.from a.by (omega (arith, c.if-from-graph.false)) c.requires.1 _ c.wide.ensures, c.requires.2)
 
 pub place_of-requires : goal.place_of-requires
 place_of-requires c =
@@ -25,4 +24,4 @@ returns c =
     let w = c.wide in
     let a = c.args in
     let s = (goal.at.returns c).Start in
-    comes_on (graph s) a.v a.m a.list.now c.requires.0 a.from a.by (omega (arith, c.if-from-inputs.false)) c.requires.1 w.result w.ensures x.result x.ensures (omega (arith, c.if-x-eq0.false)) c.place_of.result c.place_of.ensures.all
+    comes_on (graph s) a.v a.m a.list.now c.requires.0 a.from a.by (omega (arith, c.if-from-graph.false)) c.requires.1 w.result w.ensures x.result x.ensures (omega (arith, c.if-x-eq0.false)) c.place_of.result c.place_of.ensures.all

@@ -1,13 +1,12 @@
 -- `way` meets its contract. From the laws on ways.
 use Rattle.graph.specs.Graph.{Graph, node}
-use Rattle.evaluation.specs.Inner.{nodes_of}
 use Rattle.finder.proofs.Meets.{bars_all}
 use Rattle.finder.proofs.following.way.Goals as goal
 use Rattle.finder.proofs.following.way.Goals.{Start}
-use Rattle.graph.specs.Tables.{lent_table}
+use Rattle.finder.specs.Nodes.{nodes_in}
 
 abbrev graph : Start → Graph
-graph s = nodes_of s.args.inputs s.args.nodes (lent_table s.args.node_table.now)
+graph s = nodes_in s.args.graph.now
 
 pub follow-requires : goal.follow-requires
 follow-requires c = (c.requires.0, c.in-Some.ensures)

@@ -3,15 +3,14 @@ use mathlib.Core.Path.{refl, ◌∙◌}
 use Prim.Native.Nat.{ℕ, ◌+◌, ◌-◌, ◌≤◌, ◌<◌}
 use native.Mathlib.Omega.{arith}
 use Rattle.graph.specs.Graph.{Graph, node}
-use Rattle.evaluation.specs.Inner.{nodes_of}
 use Rattle.finder.proofs.Meets.{bars_added}
 use Rattle.finder.proofs.following.ways_by.Goals as goal
 use Rattle.finder.proofs.following.ways_by.Goals.{Start}
 use Rattle.finder.proofs.following.ways_by.Invariants.{Inv}
-use Rattle.graph.specs.Tables.{lent_table}
+use Rattle.finder.specs.Nodes.{nodes_in}
 
 abbrev graph : Start → Graph
-graph s = nodes_of s.args.inputs s.args.nodes (lent_table s.args.node_table.now)
+graph s = nodes_in s.args.graph.now
 
 room : (f o n e t k k₀ : ℕ) → Inv f o n e t k k₀ → e < o → o ≤ 13 → n ≤ 27 → n + (o - f) ≤ k₀ → (t < k) × (t < 1000)
 room f o n e t k k₀ i h q p r = (omega (arith, i.low, i.few, i.same), omega (arith, i.low, i.few))

@@ -5,17 +5,16 @@ use native.Mathlib.Omega.{arith}
 use lib.ListN.{length}
 use Rattle.graph.specs.Graph.{Graph}
 use Rattle.graph.proofs.Words.{is_word}
-use Rattle.evaluation.specs.Inner.{nodes_of}
 use Rattle.finder.specs.Meeting.{Rises}
 use Rattle.finder.proofs.Barring.{second_named_in, third_named_in}
 use Rattle.finder.proofs.Turning.{higher_in}
 use Rattle.finder.proofs.Meets.{allows_all, allows_one, allows_two, listed_rise}
 use Rattle.finder.proofs.masks.allowed_places.Goals as goal
 use Rattle.finder.proofs.masks.allowed_places.Goals.{Start}
-use Rattle.graph.specs.Tables.{lent_table}
+use Rattle.finder.specs.Nodes.{nodes_in}
 
 abbrev graph : Start → Graph
-graph s = nodes_of s.args.inputs s.args.nodes (lent_table s.args.node_table.now)
+graph s = nodes_in s.args.graph.now
 
 places : (s : Start) → (s.args.m ≤ 39) × (s.args.m ≤ length s.args.list.now) × Rises s.args.m s.args.list.now
 places s = (s.requires.few, s.requires.listed, listed_rise (graph s) s.args.v s.args.m s.args.list.now s.requires)

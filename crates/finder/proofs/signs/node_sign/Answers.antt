@@ -3,15 +3,14 @@ use mathlib.Core.Path.{◌∙◌}
 use native.Mathlib.Omega.{arith}
 use Rattle.graph.specs.Graph.{Graph}
 use Rattle.graph.proofs.Words.{readable, readable_below}
-use Rattle.evaluation.specs.Inner.{nodes_of}
 use Rattle.majority_call.proofs.Look.{first_below, second_below, third_below}
 use Rattle.finder.proofs.Signatures.{literal_room, signed_xor, signed_majority}
 use Rattle.finder.proofs.signs.node_sign.Goals as goal
 use Rattle.finder.proofs.signs.node_sign.Goals.{Start}
-use Rattle.graph.specs.Tables.{lent_table}
+use Rattle.finder.specs.Nodes.{nodes_in}
 
 abbrev graph : Start → Graph
-graph s = nodes_of s.args.inputs s.args.nodes (lent_table s.args.node_table.now)
+graph s = nodes_in s.args.graph.now
 
 pub word_at-third-requires : goal.word_at-third-requires
 word_at-third-requires c =

@@ -1,13 +1,12 @@
 -- `set_sign` meets its contract. From the laws on signatures.
 use Rattle.graph.specs.Graph.{Graph}
-use Rattle.evaluation.specs.Inner.{nodes_of}
 use Rattle.finder.proofs.Signatures.{sign_set}
 use Rattle.finder.proofs.signs.set_sign.Goals as goal
 use Rattle.finder.proofs.signs.set_sign.Goals.{Start}
-use Rattle.graph.specs.Tables.{lent_table}
+use Rattle.finder.specs.Nodes.{nodes_in}
 
 abbrev graph : Start → Graph
-graph s = nodes_of s.args.inputs s.args.nodes (lent_table s.args.node_table.now)
+graph s = nodes_in s.args.graph.now
 
 pub returns : goal.returns
 returns c =

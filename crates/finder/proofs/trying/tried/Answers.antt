@@ -3,16 +3,15 @@ use mathlib.Core.Path.{◌≡◌, sym, ◌∙◌}
 use Prim.Native.Nat.{ℕ, ◌≤◌, ◌<◌}
 use native.Mathlib.Omega.{arith}
 use Rattle.graph.specs.Graph.{Graph}
-use Rattle.evaluation.specs.Inner.{nodes_of}
 use Rattle.hidden.specs.Truth.{Triple, triple}
 use Rattle.hidden.proofs.Bytes.{truth_le}
 use Rattle.finder.proofs.Trials.{tried_leak, tried_other, tried_majority}
 use Rattle.finder.proofs.trying.tried.Goals as goal
 use Rattle.finder.proofs.trying.tried.Goals.{Start}
-use Rattle.graph.specs.Tables.{lent_table}
+use Rattle.finder.specs.Nodes.{nodes_in}
 
 abbrev graph : Start → Graph
-graph s = nodes_of s.args.inputs s.args.nodes (lent_table s.args.node_table.now)
+graph s = nodes_in s.args.graph.now
 
 abbrev three : Start → Triple
 three s = triple s.args.one s.args.two s.args.three

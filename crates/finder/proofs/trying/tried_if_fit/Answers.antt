@@ -1,16 +1,15 @@
 -- `tried_if_fit` meets its contract. From the laws on signatures.
 use native.Mathlib.Omega.{arith}
 use Rattle.graph.specs.Graph.{Graph}
-use Rattle.evaluation.specs.Inner.{nodes_of}
 use Rattle.hidden.specs.Truth.{Triple, triple}
 use Rattle.finder.proofs.Signatures.{sign_room}
 use Rattle.finder.proofs.Unfit.{unfit_read}
 use Rattle.finder.proofs.trying.tried_if_fit.Goals as goal
 use Rattle.finder.proofs.trying.tried_if_fit.Goals.{Start}
-use Rattle.graph.specs.Tables.{lent_table}
+use Rattle.finder.specs.Nodes.{nodes_in}
 
 abbrev graph : Start → Graph
-graph s = nodes_of s.args.inputs s.args.nodes (lent_table s.args.node_table.now)
+graph s = nodes_in s.args.graph.now
 
 abbrev three : Start → Triple
 three s = triple s.args.one s.args.two s.args.three

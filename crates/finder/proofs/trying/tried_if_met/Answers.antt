@@ -1,15 +1,14 @@
 -- `tried_if_met` meets its contract. From the laws on trials.
 use Rattle.graph.specs.Graph.{Graph}
 use Rattle.graph.specs.Literals.{bit}
-use Rattle.evaluation.specs.Inner.{nodes_of}
 use Rattle.hidden.specs.Truth.{triple}
 use Rattle.finder.proofs.Unfit.{none_tried}
 use Rattle.finder.proofs.trying.tried_if_met.Goals as goal
 use Rattle.finder.proofs.trying.tried_if_met.Goals.{Start}
-use Rattle.graph.specs.Tables.{lent_table}
+use Rattle.finder.specs.Nodes.{nodes_in}
 
 abbrev graph : Start → Graph
-graph s = nodes_of s.args.inputs s.args.nodes (lent_table s.args.node_table.now)
+graph s = nodes_in s.args.graph.now
 
 pub returns-then-met-c-eq0 : goal.returns-then-met-c-eq0
 unfolding bit

@@ -5,7 +5,6 @@ use native.Mathlib.Omega.{arith}
 use mathlib.Core.List.{List}
 use lib.ListN.{length}
 use Rattle.graph.specs.Graph.{Graph, node}
-use Rattle.evaluation.specs.Inner.{nodes_of}
 use Rattle.hidden.specs.Find.{reaches}
 use Rattle.finder.specs.Barred.{NoMajority}
 use Rattle.finder.specs.Meeting.{Followed}
@@ -16,10 +15,10 @@ use Rattle.finder.proofs.Trials.{near_ready, sought_near}
 use Rattle.finder.proofs.Unfit.{none_sought, unmet_passed}
 use Rattle.finder.proofs.trying.try_near.Goals as goal
 use Rattle.finder.proofs.trying.try_near.Goals.{Start}
-use Rattle.graph.specs.Tables.{lent_table}
+use Rattle.finder.specs.Nodes.{nodes_in}
 
 abbrev graph : Start → Graph
-graph s = nodes_of s.args.inputs s.args.nodes (lent_table s.args.node_table.now)
+graph s = nodes_in s.args.graph.now
 
 followed : (s : Start) (w : ℕ) → w ≡ s.args.v → (r : ℕ) (xs xs' : List ℕ) → Grown 39 (node (graph s) s.args.v) (reaches (graph s) 3 (node (graph s) s.args.v)) 0 r xs xs' → length xs ≡ 39
     → Followed (graph s) w r xs' s.args.scratch.now

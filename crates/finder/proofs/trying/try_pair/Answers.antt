@@ -4,16 +4,15 @@ use Prim.Native.Nat.{ℕ}
 use native.Mathlib.Omega.{arith}
 use Rattle.graph.specs.Graph.{Graph}
 use Rattle.graph.specs.Literals.{bit}
-use Rattle.evaluation.specs.Inner.{nodes_of}
 use Rattle.finder.specs.Meeting.{Unmet, ThirdsMet}
 use Rattle.finder.proofs.Meets.{none_above}
 use Rattle.finder.proofs.Unfit.{unmet_sought, unmet_passed}
 use Rattle.finder.proofs.trying.try_pair.Goals as goal
 use Rattle.finder.proofs.trying.try_pair.Goals.{Start}
-use Rattle.graph.specs.Tables.{lent_table}
+use Rattle.finder.specs.Nodes.{nodes_in}
 
 abbrev graph : Start → Graph
-graph s = nodes_of s.args.inputs s.args.nodes (lent_table s.args.node_table.now)
+graph s = nodes_in s.args.graph.now
 
 -- what the ways leave of thirds
 

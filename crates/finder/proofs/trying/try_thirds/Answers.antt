@@ -5,7 +5,6 @@ use Prim.Native.Nat.{ℕ, suc, ◌+◌, ◌*◌, ◌≤◌, ◌<◌}
 use native.Mathlib.Omega.{arith}
 use lib.ListN.{get_or, take}
 use Rattle.graph.specs.Graph.{Graph, node}
-use Rattle.evaluation.specs.Inner.{nodes_of}
 use Rattle.hidden.specs.Truth.{Triple, triple}
 use Rattle.hidden.specs.Inner.{left₂, left₃}
 use Rattle.finder.proofs.Signatures.{sign_here}
@@ -13,10 +12,10 @@ use Rattle.finder.proofs.Near.{three_rise}
 use Rattle.finder.proofs.Trials.{going_none, going_ready, going_read, tried_on, tried_found, going_end, third_step, thirds_begin, thirds_end, listed_room}
 use Rattle.finder.proofs.trying.try_thirds.Goals as goal
 use Rattle.finder.proofs.trying.try_thirds.Goals.{Start}
-use Rattle.graph.specs.Tables.{lent_table}
+use Rattle.finder.specs.Nodes.{nodes_in}
 
 abbrev graph : Start → Graph
-graph s = nodes_of s.args.inputs s.args.nodes (lent_table s.args.node_table.now)
+graph s = nodes_in s.args.graph.now
 
 abbrev near : Start → List ℕ
 near s = take s.args.m s.args.list.now
@@ -40,7 +39,7 @@ pub bounds-list-b : goal.bounds-list-b
 bounds-list-b c = low _ _ _ _ (self _) c.requires.2 c.requires.0.listed
 
 pub read-w-requires : goal.read-w-requires
-read-w-requires c = room c.args.nodes c.args.v _ c.requires.0.admitted.few_nodes c.requires.0.within c.requires.0.room
+read-w-requires c = room c.args.graph.now.nodes c.args.v _ c.requires.0.admitted.few_nodes c.requires.0.within c.requires.0.room
 
 pub sign_of-x-requires : goal.sign_of-x-requires
 sign_of-x-requires c =

@@ -5,17 +5,16 @@ use Prim.Native.Nat.{ℕ, suc}
 use native.Mathlib.Omega.{arith}
 use lib.ListN.{take}
 use Rattle.graph.specs.Graph.{Graph}
-use Rattle.evaluation.specs.Inner.{nodes_of}
 use Rattle.hidden.specs.Find.{triples}
 use Rattle.hidden.specs.Inner.{left₁}
 use Rattle.hidden.proofs.Order.{left_all}
 use Rattle.finder.proofs.Trials.{going_none, going_ready, going_on, going_found, going_end, firsts_next, firsts_end}
 use Rattle.finder.proofs.trying.try_triples.Goals as goal
 use Rattle.finder.proofs.trying.try_triples.Goals.{Start}
-use Rattle.graph.specs.Tables.{lent_table}
+use Rattle.finder.specs.Nodes.{nodes_in}
 
 abbrev graph : Start → Graph
-graph s = nodes_of s.args.inputs s.args.nodes (lent_table s.args.node_table.now)
+graph s = nodes_in s.args.graph.now
 
 abbrev near : Start → List ℕ
 near s = take s.args.m s.args.list.now
