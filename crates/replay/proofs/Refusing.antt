@@ -1,14 +1,28 @@
 -- What refuses one call of a list, the walk over all of them, and what refuses the list at each test. From the laws on tests.
-use mathlib.Core.Path.{◌≡◌, refl, sym, ◌∙◌}
+use Rattle.std.proofs.Common.{Result, Ok, Err}
+use Rattle.std.specs.Result.{IsErrAnd, IsOk}
+use Rattle.std.proofs.lemmas.Result.{err_from_is_err_and}
+use mathlib.Core.Path.{◌≡◌, refl, sym, ap, ◌∙◌, subst}
 use mathlib.Core.List.{List, [], ◌∷◌}
 use mathlib.Core.Logic.{⊎_elim, ◌≢◌}
-use Prim.Native.Nat.{ℕ, zero, suc, ◌+◌, ◌*◌, ◌/◌, ◌%◌, ◌≤◌, ◌<◌}
+use Prim.Native.Nat.{ℕ, ◌+◌, ◌*◌, ◌/◌, ◌%◌, ◌≤◌, ◌<◌, min}
 use native.Mathlib.Omega.{arith}
 use lib.ListN.{length, get_or, drop}
 use Rattle.graph.specs.Finite.{if_less, if_equal, first}
-use Rattle.graph.proofs.Cases.{lt_or_le, eq_or_ne}
-use Rattle.graph.proofs.Tests.{equal, unequal, less, no_less, fault, none}
-use Rattle.replay.specs.Replay.{part_number, call_number, words_number, code_number, lesser, usable}
+use Rattle.graph.proofs.Cases.{lt_or_le}
+use Rattle.graph.proofs.Tests.{equal, unequal, less, no_less, fault, none, stops}
+use Rattle.replay.specs.Replay.{calls_number, fault_number, part_number, call_number, words_number, code_number, lesser, usable}
+use Rattle.replay.specs.Kind.{word_of, Decodes}
+use Rattle.replay.specs.declared.kind.Kind.{Kind}
+use Rattle.replay.specs.declared.kind.Kind.TheVariants.{Node, Pair, Tree, Settling, Many, Majority, Finder, Resistive}
+use Rattle.replay.specs.declared.CallsFault.{CallsFault}
+use Rattle.replay.specs.declared.CallsFault.TheVariants.{LeftOver, UnknownKind, PartOutside}
+
+-- no fault has the number 0, and a row of checks that ends by one has its number
+pub calls_some : (f : CallsFault) → calls_number f ≡ 0 → ⊥
+calls_some LeftOver e = omega arith
+calls_some UnknownKind e = omega arith
+calls_some PartOutside e = omega arith
 
 -- what the tests of one call come to
 module _ (n k u w : ℕ) where
@@ -32,6 +46,45 @@ module _ (n k u w : ℕ) where
     unfolding call_number
     no_part m l = none _ _ kind_known (unequal k 4 _ _ m (unequal k 5 _ _ l refl))
 
+-- the same where the word is that of a known kind, or of none
+pub unknown_call : {T : Type 0} (n k u w : ℕ) (r : Result T CallsFault) (f : CallsFault) → IsErrAnd r (λ y. y ≡ f) → f ≡ UnknownKind → 7 < k → fault_number r ≡ call_number n k u w
+unknown_call n k u w r f e q l = let p = err_from_is_err_and r e in rw (p.1, p.2, q) (kind_unknown n k u w l)
+
+module _ (n k u w : ℕ) (c : Kind) (q : word_of c ≡ k) where
+  pub many_call_lem : {x : ℕ} → c ≡ Many → x ≡ part_number n (u + w) → x ≡ call_number n k u w
+  many_call_lem e h = let d : k ≡ 4 = sym q ∙ ap word_of e in of_many n k u w (omega arith) d h
+
+  pub three_call_lem : {x : ℕ} → c ≡ Majority → x ≡ part_number n (w + 3) → x ≡ call_number n k u w
+  three_call_lem e h = let d : k ≡ 5 = sym q ∙ ap word_of e in of_three n k u w (omega arith) (λ z. omega arith) d h
+
+-- and of any other kind
+other_word : (c : Kind) → (c ≡ Many → ⊥) → (c ≡ Majority → ⊥) → (word_of c ≤ 7) × (word_of c ≢ 4) × (word_of c ≢ 5)
+other_word Node m j = (omega arith, λ z. omega arith, λ z. omega arith)
+other_word Pair m j = (omega arith, λ z. omega arith, λ z. omega arith)
+other_word Tree m j = (omega arith, λ z. omega arith, λ z. omega arith)
+other_word Settling m j = (omega arith, λ z. omega arith, λ z. omega arith)
+other_word Many m j = absurd (m refl)
+other_word Majority m j = absurd (j refl)
+other_word Finder m j = (omega arith, λ z. omega arith, λ z. omega arith)
+other_word Resistive m j = (omega arith, λ z. omega arith, λ z. omega arith)
+
+pub other_call : (n k u w : ℕ) (c : Kind) → word_of c ≡ k → (c ≡ Many → ⊥) → (c ≡ Majority → ⊥) → 0 ≡ call_number n k u w
+other_call n k u w c q m j =
+    let o = other_word c m j in
+    no_part n k u w (omega (arith, o.0, q)) (λ z. o.1 (q ∙ z)) (λ z. o.2 (q ∙ z))
+
+-- a kind that no fault of its call keeps off is known
+pub known : (n w u v : ℕ) (r : Result Kind CallsFault) → Decodes w r → call_number n w u v ≡ 0 → IsOk r
+known n w u v (Ok c) d e = refl
+known n w u v (Err f) d e = absurd (omega (arith, kind_unknown n w u v d.1, e))
+
+pub decoded : (w : ℕ) (r : Result Kind CallsFault) (c : Kind) → Decodes w r → r ≡ Ok c → word_of c ≡ w
+decoded w r c d e = subst (Decodes w) e d
+
+-- a walk that stops at a fault
+pub stops_at : {T : Type 0} (r : Result T CallsFault) (f : CallsFault) {W D : ℕ} (a R : ℕ) → IsErrAnd r (λ y. y ≡ f) → calls_number f ≡ a → W ≡ D → W ≡ first a R → fault_number r ≡ D
+stops_at r f a R e n w s = let p = err_from_is_err_and r e in rw (p.1, p.2) (stops a R w s n (calls_some f))
+
 module _ (n : ℕ) where
   pub words_step : (s : List ℕ) → 3 ≤ length s → words_number n s ≡ first (call_number n (get_or s 0 0) (get_or s 1 0) (get_or s 2 0)) (words_number n (drop 3 s))
   words_step [] h = absurd (omega arith)
@@ -44,44 +97,6 @@ module _ (n : ℕ) where
   words_done (k ∷ []) h = refl
   words_done (k ∷ u ∷ []) h = refl
   words_done (k ∷ u ∷ w ∷ s) h = absurd (omega arith)
-
-  -- a number of the words that is neither 0 nor 102 is 105
-  part_cases : (end : ℕ) → part_number n end ≢ 0 → 105 ≡ part_number n end
-  unfolding part_number
-  part_cases end z =
-      ⊎_elim
-      (λ (l : n < end). less n end 105 0 l refl)
-      (λ (l : end ≤ n). absurd (z (sym (no_less n end 105 0 l refl))))
-      (lt_or_le n end)
-
-  at_part : (x end : ℕ) → part_number n end ≡ x → x ≢ 0 → 105 ≡ x
-  at_part x end e z = part_cases end (λ y. z (sym e ∙ y)) ∙ e
-
-  call_cases : (k u w : ℕ) → call_number n k u w ≢ 0 → call_number n k u w ≢ 102 → 105 ≡ call_number n k u w
-  call_cases k u w z m =
-      ⊎_elim
-      (λ (h : 7 < k). absurd (m (sym (kind_unknown n k u w h))))
-      (λ (h : k ≤ 7).
-      ⊎_elim
-      (λ (e : k ≡ 4). at_part _ (u + w) (of_many n k u w h e refl) z)
-      (λ (f : k ≢ 4).
-      ⊎_elim
-      (λ (e : k ≡ 5). at_part _ (w + 3) (of_three n k u w h f e refl) z)
-      (λ (e : k ≢ 5). absurd (z (sym (no_part n k u w h f e))))
-      (eq_or_ne k 5))
-      (eq_or_ne k 4))
-      (lt_or_le 7 k)
-
-  first_cases : (a b : ℕ) → first a b ≢ 0 → first a b ≢ 102 → (a ≢ 0 → a ≢ 102 → 105 ≡ a) → (b ≢ 0 → b ≢ 102 → 105 ≡ b) → 105 ≡ first a b
-  unfolding first
-  first_cases zero b z m p q = q z m
-  first_cases (suc a) b z m p q = p z m
-
-  words_cases : (s : List ℕ) → words_number n s ≢ 0 → words_number n s ≢ 102 → 105 ≡ words_number n s
-  words_cases [] z m = absurd (z refl)
-  words_cases (k ∷ []) z m = absurd (z refl)
-  words_cases (k ∷ u ∷ []) z m = absurd (z refl)
-  words_cases (k ∷ u ∷ w ∷ s) z m = first_cases (call_number n k u w) (words_number n s) z m (call_cases k u w) (words_cases s)
 
 module _ (ws : List ℕ) (n room : ℕ) where
   -- the number after each test
@@ -96,9 +111,6 @@ module _ (ws : List ℕ) (n room : ℕ) where
   unfolding code_number
   code_words k z e m = none (if_equal (length ws % 3) 0 0 101) _ (whole z) (fault (words_number n ws) _ e (λ y. m (e ∙ y)))
 
-  pub code_part : (k : ℕ) → length ws % 3 ≡ 0 → k ≡ words_number n ws → k ≢ 0 → k ≢ 102 → 105 ≡ code_number ws n room
-  code_part k z e m l = code_words 105 z (words_cases n ws (λ y. m (e ∙ y)) (λ y. l (e ∙ y))) (λ y. omega arith)
-
   pub code_short : length ws % 3 ≡ 0 → words_number n ws ≡ 0 → usable room < 3 * (length ws / 3) → 4 ≡ code_number ws n room
   unfolding code_number
   code_short z k h = none (if_equal (length ws % 3) 0 0 101) _ (whole z) (none (words_number n ws) _ k (less (usable room) (3 * (length ws / 3)) 4 0 h refl))
@@ -107,11 +119,11 @@ module _ (ws : List ℕ) (n room : ℕ) where
   unfolding code_number
   code_none z k h = sym (none (if_equal (length ws % 3) 0 0 101) _ (whole z) (none (words_number n ws) _ k (no_less (usable room) (3 * (length ws / 3)) 4 0 h refl)))
 
--- what is used is no more than there is, and not too much
-pub lesser_le : (a b : ℕ) → (lesser a b ≤ a) × (lesser a b ≤ b)
+-- the lesser of two numbers is their minimum
+pub lesser_min : (a b : ℕ) → lesser a b ≡ min a b
 unfolding lesser
-lesser_le a b =
+lesser_min a b =
     ⊎_elim
-    (λ (l : a < b). let e : lesser a b ≡ a = sym (less a b a b l refl) in (omega (arith, e), omega (arith, e)))
-    (λ (l : b ≤ a). let e : lesser a b ≡ b = sym (no_less a b a b l refl) in (omega (arith, e), omega (arith, e)))
+    (λ (l : a < b). let e : lesser a b ≡ a = sym (less a b a b l refl) in omega (arith, e))
+    (λ (l : b ≤ a). let e : lesser a b ≡ b = sym (no_less a b a b l refl) in omega (arith, e))
     (lt_or_le a b)

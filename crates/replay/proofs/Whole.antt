@@ -1,5 +1,8 @@
 -- What a refused replay and a whole one come to is its definition, and demand 3 holds of what is left. From the laws on answers, and
 -- demand 3 over lists.
+use Rattle.std.proofs.Common.{Result, Err}
+use Rattle.std.specs.Result.{IsErrAnd}
+use Rattle.std.proofs.lemmas.Result.{err_from_is_err_and}
 use mathlib.Core.Path.{◌≡◌, refl, sym, ap, ◌∙◌, subst}
 use mathlib.Core.List.{List, [], ◌∷◌, ◌++◌}
 use mathlib.Core.Bool.{Bool, true, false, cond}
@@ -14,11 +17,11 @@ use Rattle.graph.specs.Answer.{Answer, accepted, refused, number_of, own_of, oth
 use Rattle.graph.specs.declared.Refusal.{Refusal}
 use Rattle.graph.proofs.Tests.{equal, unequal, fault, none}
 use Rattle.graph.proofs.Answers.{number_some, refused_locked, accepted_locked}
-use Rattle.tagged_file.specs.Load.{blank, loaded_answer, loaded_graph, load_call}
-use Rattle.tagged_file.specs.declared.Loaded.{Loaded}
+use Rattle.tagged_file.specs.Load.{blank, load_call}
 use Rattle.promises.specs.Demand.{Call, Locked, with_locks, step, left, run, rewires, savings, Demand}
 use Rattle.promises.proofs.Calls.{saves_none}
 use Rattle.promises.proofs.Lists.{after_load}
+use Rattle.replay.specs.declared.ReplayFault.{ReplayFault}
 use Rattle.replay.specs.Replay.{Lent, decode, answers_of, value_of, code_number, replay_number, replay_call, answers_after, savings_in, DemandMet}
 
 guarded_left : (k : ℕ) (g : Graph) (ls : List ℕ) (o : LockedOutcome) → o.answer.number ≡ 0 → ((guarded_locks k g ls o).answer.number ≡ 0 → ⊥)
@@ -69,10 +72,9 @@ demand_met d h cs l rest m e f =
       demand = m;
     }
 
--- what a load answered, known by its case
-pub at_case : (a b : Loaded) (ns os ls : List ℕ) (o : LockedOutcome) → a ≡ b → locked_outcome (loaded_answer a) (loaded_graph a ns os) ls ≡ o
-    → locked_outcome (loaded_answer b) (loaded_graph b ns os) ls ≡ o
-at_case a b ns os ls o q e = sym (ap (λ (x : Loaded). locked_outcome (loaded_answer x) (loaded_graph x ns os) ls) q) ∙ e
+-- the fault by which a replay ends
+pub fault_is : {T : Type 0} (r : Result T ReplayFault) (x : ReplayFault) → IsErrAnd r (λ y. y ≡ x) → r ≡ Err x
+fault_is r x e = let p = err_from_is_err_and r e in p.1 ∙ ap Err p.2
 
 module _ (file ws ns os ls : List ℕ) (t : Lent) (l : List ℤ) where
   abbrev n₀ : ℕ

@@ -1,3 +1,4 @@
 pub mod Replay
 pub mod Inner
+pub mod Kind
 pub mod All

@@ -4,14 +4,15 @@
 -- word where its three indices begin among the lent nodes. A call's answer is three signed words: the number, and what it saved over the words of the nodes that
 -- it names and over all other edges. Settling's are the sums over its calls, and many moves' the whole saving and 0; the majority call and
 -- the finder have what they answer, and 0.
-use Rattle.std.specs.Prelude.{◌+◌, ◌*◌, ◌/◌, ◌%◌, ◌≤◌, ◌<◌, ◌≡◌, ◌∷◌, ◌++◌, ◌+ℤ◌}
+use Rattle.std.specs.Prelude.{◌+◌, ◌*◌, ◌/◌, ◌%◌, ◌≤◌, ◌<◌, ◌≡◌, ◌∷◌, ◌++◌, ◌+ℤ◌, Result, Ok, Err}
 use Rattle.graph.specs.All.{ℕ, cond, List, [], length, get_or, take, drop, ℤ, pos, if_less, if_equal, first, Graph, graph_of, wiring, Assignment, output_value, C, Answer, accepted, refused, number_of, own_of, others_of, LockedOutcome, locked_outcome, guarded_locks}
 use Rattle.tagged_file.specs.All.{blank, load_call}
 use Rattle.hidden.specs.All.{Triple, triple}
 use Rattle.promises.specs.All.{Call, node_at, pair_at, tree_at, settling, many_at, majority_at, finding, resistive_at, Locked, step, left, run, rewires, Quiet, Demand}
-use Rattle.replay.specs.{declared.CallsFault.CallsFault, declared.Replayed.Replayed}
+use Rattle.tagged_file.specs.declared.Sizes.{Sizes}
+use Rattle.replay.specs.{declared.CallsFault.CallsFault, declared.ReplayFault.ReplayFault}
 use Rattle.replay.specs.declared.CallsFault.TheVariants.{LeftOver, UnknownKind, PartOutside}
-use Rattle.replay.specs.declared.Replayed.TheVariants as replayed
+use Rattle.replay.specs.declared.ReplayFault.TheVariants.{NotCalls, Refused}
 
 -- what the calls are lent: scratch, and nodes with a move each
 pub record Lent : Type 0 where
@@ -77,6 +78,11 @@ calls_number LeftOver = 101
 calls_number UnknownKind = 102
 calls_number PartOutside = 105
 
+-- the number of what refuses words, 0 where nothing does
+abbrev pub fault_number : {T : Type 0} → Result T CallsFault → ℕ
+fault_number (Ok x) = 0
+fault_number (Err f) = calls_number f
+
 -- of entries up to a place, where n nodes are lent; of one call; and of the first call that has a fault
 unfoldable pub part_number : ℕ → ℕ → ℕ
 part_number n end = if_less n end 105 0
@@ -122,16 +128,15 @@ answers_after file words t ns os ls before =
     (answers_of (left (load_call file ns os ls)) (decode t words) ++ drop (3 * (length words / 3)) before)
     before
 
-abbrev pub replayed_answer : Replayed → Answer
-replayed_answer (replayed.Done i n o) = accepted (i ∷ n ∷ o ∷ [])
-replayed_answer (replayed.NotCalls f) = refused (calls_number f)
-replayed_answer (replayed.Refused r) = refused (number_of r)
+abbrev pub replayed_answer : Result Sizes ReplayFault → Answer
+replayed_answer (Ok z) = accepted (z.inputs ∷ z.nodes ∷ z.outputs ∷ [])
+replayed_answer (Err (NotCalls f)) = refused (calls_number f)
+replayed_answer (Err (Refused r)) = refused (number_of r)
 
 -- the graph that the tables hold after it: none where it is refused
-abbrev pub replayed_graph : Replayed → List ℕ → List ℕ → Graph
-replayed_graph (replayed.Done i n o) ns os = graph_of i n o ns os
-replayed_graph (replayed.NotCalls f) ns os = blank ns os
-replayed_graph (replayed.Refused r) ns os = blank ns os
+abbrev pub replayed_graph : Result Sizes ReplayFault → List ℕ → List ℕ → Graph
+replayed_graph (Ok z) ns os = graph_of z.inputs z.nodes z.outputs ns os
+replayed_graph (Err f) ns os = blank ns os
 
 -- the savings among the answers to calls: the second and third of every three words, but for calls that may rewire
 abbrev pub savings_in : List Call → List ℤ → ℤ

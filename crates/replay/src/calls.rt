@@ -1,16 +1,21 @@
 // One call of a list, and all of them.
-ghost use Rattle.std.specs.Prelude.{◌≡◌, ◌++◌, ◌*◌, ◌/◌, ◌≤◌, length, get_or, drop};
-ghost use Rattle.graph.specs.Answer.{own_of};
+ghost use Rattle.std.specs.Prelude.{◌≡◌, ◌++◌, ◌*◌, ◌/◌, ◌≤◌, length, get_or, take, drop};
+ghost use Rattle.graph.specs.Answer.{own_of, count_answer};
 ghost use Rattle.graph.specs.Literals.{graph_in};
 ghost use Rattle.moves.specs.Call.{saving_answer, gain_answer};
 ghost use Rattle.settling.specs.Settle.{settled_answer};
 ghost use Rattle.hidden.specs.Call.{majority_answer, found_answer, nodes_after_answer};
 ghost use Rattle.promises.specs.Demand.{many_at, majority_at, finding, resistive_at, with_locks, run};
-ghost use Rattle.replay.specs.Replay.{lent, part, three_at, moving_of, call_of, decode, value_of, answers_of};
+ghost use Rattle.replay.specs.Replay.{lent, part, three_at, words_number, moving_of, call_of, decode, value_of, answers_of};
+ghost use Rattle.replay.specs.Kind.{word_of};
 ghost use Rattle.replay.specs.Inner.{Answers, Tells};
 
-use crate::faults::lesser;
+use crate::kind::Kind;
+use graph::Refusal;
 use graph::table::Table;
+use hidden::Majority;
+use moves::Saving;
+use settling::Settled;
 
 // What a call of the list answers, and how many nodes it leaves. A call that may rewire has what it answers in `own`.
 #[derive(Clone, Copy)]
@@ -21,10 +26,10 @@ pub struct CallAnswer {
     pub nodes: u32,
 }
 
-pub fn saving_answer(answer: moves::Saving, nodes: u32) -> CallAnswer
+pub fn saving_answer(answer: Result<Saving, Refusal>, nodes: u32) -> CallAnswer
     ensures { Answers own_of (saving_answer answer) nodes result }
 {
-    let number = answers::told::saving_number(answer);
+    let number = answers::told::refusal_number(&answer);
     let saving = answers::told::saving_told(answer, [0; 2]);
     CallAnswer {
         number,
@@ -34,60 +39,55 @@ pub fn saving_answer(answer: moves::Saving, nodes: u32) -> CallAnswer
     }
 }
 
-pub fn settled_answer(answer: settling::Settled, nodes: u32) -> CallAnswer
+pub fn settled_answer(answer: Result<Settled, Refusal>, nodes: u32) -> CallAnswer
     ensures { Answers own_of (settled_answer answer) nodes result }
 {
-    let number = answers::told::settled_number(answer);
-    let saving = answers::told::settled_sums(answer, [0; 2]);
-    CallAnswer {
-        number,
-        own: saving[0],
-        others: saving[1],
-        nodes,
-    }
+    let saving = answer.map(|settled| Saving {
+        own: settled.own,
+        others: settled.others,
+    });
+    saving_answer(saving, nodes)
 }
 
 // A saving told in one number.
-pub fn gain_answer(answer: moves::Gain, nodes: u32) -> CallAnswer
+pub fn gain_answer(answer: Result<i64, Refusal>, nodes: u32) -> CallAnswer
     ensures { Answers own_of (gain_answer answer) nodes result }
 {
-    let number = answers::told::gain_number(answer);
-    let own = answers::told::gain_told(answer, 0);
-    CallAnswer {
-        number,
-        own,
+    let saving = answer.map(|own| Saving { own, others: 0 });
+    saving_answer(saving, nodes)
+}
+
+// A value told where a saving is.
+fn value_answer(answer: Result<u32, Refusal>, nodes: u32) -> CallAnswer
+    ensures { Answers value_of (count_answer answer) nodes result }
+{
+    let saving = answer.map(|value| Saving {
+        own: i64::from(value),
         others: 0,
-        nodes,
-    }
+    });
+    saving_answer(saving, nodes)
 }
 
 // What a majority call answers: 0, 1 or 2.
-pub fn majority_answer(answer: hidden::Majority, nodes: u32) -> CallAnswer
+pub fn majority_answer(answer: Result<Majority, Refusal>, nodes: u32) -> CallAnswer
     ensures { Answers value_of (majority_answer answer) nodes result }
 {
-    let number = answers::told::majority_number(answer);
-    let value = answers::told::majority_told(answer, 0);
-    CallAnswer {
-        number,
-        own: value as i64,
-        others: 0,
-        nodes,
-    }
+    value_answer(answer.map(|majority| majority as u32), nodes)
 }
 
 // What the finder answers: the new number of nodes, which it leaves.
-pub fn found_answer(answer: hidden::Found, nodes: u32) -> CallAnswer
+pub fn found_answer(answer: Result<u32, Refusal>, nodes: u32) -> CallAnswer
     ensures { Answers value_of (found_answer answer) (nodes_after_answer nodes (found_answer answer)) result }
 {
-    let number = answers::told::found_number(answer);
-    let value = answers::told::found_told(answer, 0);
-    let left = answers::told::found_told(answer, nodes);
-    CallAnswer {
-        number,
-        own: value as i64,
-        others: 0,
-        nodes: left,
-    }
+    value_answer(answer, answer.unwrap_or(nodes))
+}
+
+// So many entries of a slice from a place on, as far as it has them.
+fn part<T>(list: &[T], start: u32, count: u32) -> &[T]
+    ensures { result.now ≡ take count (drop start list.now) }
+{
+    let rest = &list[(start as usize).min(list.len())..];
+    &rest[..(count as usize).min(rest.len())]
 }
 
 // Many moves: `count` entries of the lent nodes and moves, from `start` on.
@@ -109,8 +109,6 @@ pub fn part_call(
         let k = graph_in inputs nodes outputs node_table.now node_bits.new output_table.now output_bits.new in
         Tells (with_locks g locks.now) (many_at (part start count list.now) (part start count bytes.now)) (with_locks k locks.now) result }
 {
-    let us = &list[lesser(start as usize, list.len())..];
-    let ms = &bytes[lesser(start as usize, bytes.len())..];
     gain_answer(
         many::many(
             inputs,
@@ -121,14 +119,14 @@ pub fn part_call(
             output_table,
             output_bits,
             locks,
-            &us[..lesser(count as usize, us.len())],
-            &ms[..lesser(count as usize, ms.len())],
+            part(list, start, count),
+            part(bytes, start, count),
         ),
         nodes,
     )
 }
 
-// A call that makes moves, of kind 0 to 4.
+// A call that makes moves.
 pub fn moving_call(
     inputs: u32,
     nodes: u32,
@@ -140,17 +138,17 @@ pub fn moving_call(
     locks: &[u8],
     list: &[u32],
     bytes: &[u8],
-    kind: u32,
+    kind: Kind,
     node: u32,
     word: u32,
     scratch: &mut [u32],
 ) -> CallAnswer
     ensures { let g = graph_in inputs nodes outputs node_table.now node_bits.old output_table.now output_bits.old in
         let k = graph_in inputs nodes outputs node_table.now node_bits.new output_table.now output_bits.new in
-        Tells (with_locks g locks.now) (moving_of (lent scratch.old list.now bytes.now) kind node word) (with_locks k locks.now) result }
+        Tells (with_locks g locks.now) (moving_of (lent scratch.old list.now bytes.now) (word_of kind) node word) (with_locks k locks.now) result }
 {
-    if kind == 0 {
-        return saving_answer(
+    match kind {
+        Kind::Node => saving_answer(
             node_call::node_call(
                 inputs,
                 nodes,
@@ -163,10 +161,8 @@ pub fn moving_call(
                 node,
             ),
             nodes,
-        );
-    }
-    if kind == 1 {
-        return saving_answer(
+        ),
+        Kind::Pair => saving_answer(
             node_call::pair_call(
                 inputs,
                 nodes,
@@ -180,10 +176,8 @@ pub fn moving_call(
                 word,
             ),
             nodes,
-        );
-    }
-    if kind == 2 {
-        return saving_answer(
+        ),
+        Kind::Tree => saving_answer(
             tree_call::tree_call(
                 inputs,
                 nodes,
@@ -197,10 +191,8 @@ pub fn moving_call(
                 scratch,
             ),
             nodes,
-        );
-    }
-    if kind == 3 {
-        return settled_answer(
+        ),
+        Kind::Settling => settled_answer(
             settling::settle(
                 inputs,
                 nodes,
@@ -213,50 +205,48 @@ pub fn moving_call(
                 scratch,
             ),
             nodes,
-        );
+        ),
+        _ => part_call(
+            inputs,
+            nodes,
+            outputs,
+            node_table,
+            node_bits,
+            output_table,
+            output_bits,
+            locks,
+            list,
+            bytes,
+            node,
+            word,
+        ),
     }
-    part_call(
-        inputs,
-        nodes,
-        outputs,
-        node_table,
-        node_bits,
-        output_table,
-        output_bits,
-        locks,
-        list,
-        bytes,
-        node,
-        word,
-    )
 }
 
 // The entry at a place, 0 past the end.
 pub fn entry_at(list: &[u32], place: usize) -> u32
     ensures { result ≡ get_or list.now place 0 }
 {
-    if place < list.len() {
-        return list[place];
-    }
-    0
+    list.get(place).copied().unwrap_or(0)
 }
 
 // A majority call of the three entries of `list` from `start` on.
-pub fn three_call<'x>(
+pub fn three_call(
     inputs: u32,
     nodes: u32,
     outputs: u32,
-    node_table: &'x mut [u32],
-    node_bits: &'x mut [u64],
-    output_table: &Table<'x>,
-    locks: &'x [u8],
+    node_table: &mut [u32],
+    node_bits: &mut [u64],
+    output_table: &[u32],
+    output_bits: &[u64],
+    locks: &[u8],
     list: &[u32],
     node: u32,
     start: u32,
     scratch: &mut [u32],
 ) -> CallAnswer
-    ensures { let g = graph_in inputs nodes outputs node_table.old node_bits.old output_table.now.indices.now output_table.now.bits.now in
-        let k = graph_in inputs nodes outputs node_table.new node_bits.new output_table.now.indices.now output_table.now.bits.now in
+    ensures { let g = graph_in inputs nodes outputs node_table.old node_bits.old output_table.now output_bits.now in
+        let k = graph_in inputs nodes outputs node_table.new node_bits.new output_table.now output_bits.now in
         let c = majority_at node (three_at start list.now) scratch.old in
         Tells (with_locks g locks.now) c (with_locks k locks.now) result }
 {
@@ -271,7 +261,10 @@ pub fn three_call<'x>(
             outputs,
             node_table,
             node_bits,
-            output_table,
+            &Table {
+                indices: output_table,
+                bits: output_bits,
+            },
             locks,
             node,
             one,
@@ -347,7 +340,7 @@ pub fn memory_call(
     saving_answer(answer, nodes)
 }
 
-// The call that three words say; kinds above 7 are refused before.
+// The call that a kind and two words say.
 pub fn one_call(
     inputs: u32,
     nodes: u32,
@@ -359,18 +352,55 @@ pub fn one_call(
     locks: &mut [u8],
     list: &[u32],
     bytes: &[u8],
-    kind: u32,
+    kind: Kind,
     node: u32,
     word: u32,
     scratch: &mut [u32],
 ) -> CallAnswer
     ensures { let g = graph_in inputs nodes outputs node_table.old node_bits.old output_table.old output_bits.old in
         let k = graph_in inputs result.nodes outputs node_table.new node_bits.new output_table.new output_bits.new in
-        let c = call_of (lent scratch.old list.now bytes.now) kind node word in
+        let c = call_of (lent scratch.old list.now bytes.now) (word_of kind) node word in
         Tells (with_locks g locks.old) c (with_locks k locks.new) result }
 {
-    if kind < 5 {
-        return moving_call(
+    match kind {
+        Kind::Majority => three_call(
+            inputs,
+            nodes,
+            outputs,
+            node_table,
+            node_bits,
+            output_table,
+            output_bits,
+            locks,
+            list,
+            node,
+            word,
+            scratch,
+        ),
+        Kind::Finder => find_call(
+            inputs,
+            nodes,
+            outputs,
+            node_table,
+            node_bits,
+            output_table,
+            output_bits,
+            locks,
+            scratch,
+        ),
+        Kind::Resistive => memory_call(
+            inputs,
+            nodes,
+            outputs,
+            node_table,
+            node_bits,
+            output_table,
+            output_bits,
+            locks,
+            node,
+            scratch,
+        ),
+        _ => moving_call(
             inputs,
             nodes,
             outputs,
@@ -385,51 +415,8 @@ pub fn one_call(
             node,
             word,
             scratch,
-        );
+        ),
     }
-    if kind == 5 {
-        return three_call(
-            inputs,
-            nodes,
-            outputs,
-            node_table,
-            node_bits,
-            &Table {
-                indices: output_table,
-                bits: output_bits,
-            },
-            locks,
-            list,
-            node,
-            word,
-            scratch,
-        );
-    }
-    if kind == 6 {
-        return find_call(
-            inputs,
-            nodes,
-            outputs,
-            node_table,
-            node_bits,
-            output_table,
-            output_bits,
-            locks,
-            scratch,
-        );
-    }
-    memory_call(
-        inputs,
-        nodes,
-        outputs,
-        node_table,
-        node_bits,
-        output_table,
-        output_bits,
-        locks,
-        node,
-        scratch,
-    )
 }
 
 // Every call of the list, on what the one before left; the answers go in front. Answers how many nodes are left.
@@ -448,7 +435,7 @@ pub fn make_calls(
     scratch: &mut [u32],
     answers: &mut [i64],
 ) -> u32
-    requires { (3 * (length calls.now / 3) ≤ length answers.old) × (3 * (length calls.now / 3) ≤ 1152921504606846976) }
+    requires { (3 * (length calls.now / 3) ≤ length answers.old) × (3 * (length calls.now / 3) ≤ 1152921504606846976) × (words_number (length list.now) calls.now ≡ 0) }
     ensures graph { let g = graph_in inputs nodes outputs node_table.old node_bits.old output_table.old output_bits.old in
         let k = graph_in inputs result outputs node_table.new node_bits.new output_table.new output_bits.new in
         let cs = decode (lent scratch.old list.now bytes.now) calls.now in
@@ -458,9 +445,10 @@ pub fn make_calls(
         answers.new ≡ answers_of (with_locks g locks.old) cs ++ drop (3 * (length calls.now / 3)) answers.old }
 {
     let mut s = calls;
+    // Counted, which is no plainer otherwise: the calls and their answers are two slices, each walked by three, and the nodes left are a number.
     let mut at = 0;
     let mut left = nodes;
-    while 3 <= s.len() {
+    while let [kind, node, word, rest @ ..] = s {
         let answer = one_call(
             inputs,
             left,
@@ -472,9 +460,9 @@ pub fn make_calls(
             locks,
             list,
             bytes,
-            s[0],
-            s[1],
-            s[2],
+            Kind::try_from(*kind).unwrap(),
+            *node,
+            *word,
             scratch,
         );
         let number = answer.number as i64;
@@ -484,7 +472,7 @@ pub fn make_calls(
         answers[at + 1] = own;
         answers[at + 2] = others;
         left = answer.nodes;
-        s = &s[3..];
+        s = rest;
         at += 3;
     }
     left

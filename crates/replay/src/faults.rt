@@ -1,52 +1,37 @@
-// Which number refuses the words of a list of calls, 0 being none; and the lesser of two numbers.
+// Whether the words of a list of calls are refused.
 ghost use Rattle.std.specs.Prelude.{◌≡◌};
-ghost use Rattle.replay.specs.Replay.{lesser, part_number, call_number, words_number};
+ghost use Rattle.replay.specs.Replay.{part_number, call_number, words_number, fault_number};
 
-pub fn lesser(a: usize, b: usize) -> usize
-    ensures { result ≡ lesser a b }
-{
-    if a < b {
-        return a;
-    }
-    b
-}
+use crate::CallsFault;
+use crate::kind::Kind;
 
-// Of entries up to the place `end`, where `length` nodes are lent.
-pub fn part_number(length: usize, end: usize) -> u32
-    ensures { result ≡ part_number length end }
+// Entries up to the place `end`, where `length` nodes are lent.
+pub fn check_part(length: usize, end: usize) -> Result<(), CallsFault>
+    ensures { fault_number result ≡ part_number length end }
 {
     if length < end {
-        return 105;
+        return Err(CallsFault::PartOutside);
     }
-    0
+    Ok(())
 }
 
-// Of one call.
-pub fn call_number(length: usize, kind: u32, node: u32, word: u32) -> u32
-    ensures { result ≡ call_number length kind node word }
+pub fn check_call(length: usize, kind: u32, node: u32, word: u32) -> Result<(), CallsFault>
+    ensures { fault_number result ≡ call_number length kind node word }
 {
-    if 7 < kind {
-        return 102;
+    match Kind::try_from(kind)? {
+        Kind::Many => check_part(length, node as usize + word as usize),
+        Kind::Majority => check_part(length, word as usize + 3),
+        _ => Ok(()),
     }
-    if kind == 4 {
-        return part_number(length, node as usize + word as usize);
-    }
-    if kind == 5 {
-        return part_number(length, word as usize + 3);
-    }
-    0
 }
 
-pub fn words_number(length: usize, calls: &[u32]) -> u32
-    ensures { result ≡ words_number length calls.now }
+pub fn check_words(length: usize, calls: &[u32]) -> Result<(), CallsFault>
+    ensures { fault_number result ≡ words_number length calls.now }
 {
     let mut s = calls;
-    while 3 <= s.len() {
-        let number = call_number(length, s[0], s[1], s[2]);
-        if number != 0 {
-            return number;
-        }
-        s = &s[3..];
+    while let [kind, node, word, rest @ ..] = s {
+        check_call(length, *kind, *node, *word)?;
+        s = rest;
     }
-    0
+    Ok(())
 }

@@ -6,13 +6,16 @@ ghost use Rattle.graph.specs.Answer.{locked_outcome, ScratchKept};
 ghost use Rattle.graph.specs.Literals.{before, literals};
 ghost use Rattle.tagged_file.specs.Load.{load_call};
 ghost use Rattle.promises.specs.Demand.{with_locks, left};
+ghost use Rattle.replay.specs.declared.ReplayFault.TheVariants.{NotCalls, Refused};
 ghost use Rattle.replay.specs.Replay.{lent, decode, replay_call, answers_after, replayed_answer, replayed_graph, DemandMet};
 
 mod calls;
 mod faults;
+mod kind;
 pub mod told;
 
-use tagged_file::Loaded;
+use graph::Refusal;
+use tagged_file::Sizes;
 
 // Why words are no list of calls.
 #[derive(Clone, Copy)]
@@ -22,16 +25,27 @@ pub enum CallsFault {
     PartOutside,
 }
 
-// What a replay answers.
+// Why a replay is not made.
 #[derive(Clone, Copy)]
-pub enum Replayed {
-    Done {
-        inputs: u32,
-        nodes: u32,
-        outputs: u32,
-    },
+pub enum ReplayFault {
     NotCalls(CallsFault),
-    Refused(graph::Refusal),
+    Refused(Refusal),
+}
+
+impl From<CallsFault> for ReplayFault {
+    ghost from_gives = { λ f r. r ≡ NotCalls f };
+
+    fn from(fault: CallsFault) -> ReplayFault {
+        ReplayFault::NotCalls(fault)
+    }
+}
+
+impl From<Refusal> for ReplayFault {
+    ghost from_gives = { λ f r. r ≡ Refused f };
+
+    fn from(refusal: Refusal) -> ReplayFault {
+        ReplayFault::Refused(refusal)
+    }
 }
 
 // Each call is three words of `calls`: kind (0 node, 1 pair, 2 tree, 3 settling, 4 many moves, 5 majority, 6 finder, 7 a tree for
@@ -50,7 +64,7 @@ pub fn replay(
     bytes: &[u8],
     scratch: &mut [u32],
     answers: &mut [i64],
-) -> Replayed
+) -> Result<Sizes, ReplayFault>
     ensures call { let ns = literals node_table.old node_bits.old in
         let os = literals output_table.old output_bits.old in
         let l = lent scratch.old (before list) (before bytes) in
@@ -67,54 +81,34 @@ pub fn replay(
         ((replayed_answer result).number ≡ 0 → DemandMet (left (load_call (before file) ns os locks.old)) cs (with_locks (replayed_graph result (literals node_table.new node_bits.new) (literals output_table.new output_bits.new)) locks.new) answers.new) }
 {
     if calls.len() % 3 != 0 {
-        return Replayed::NotCalls(CallsFault::LeftOver);
+        return Err(ReplayFault::NotCalls(CallsFault::LeftOver));
     }
-    let number = faults::words_number(list.len(), calls);
-    if number == 102 {
-        return Replayed::NotCalls(CallsFault::UnknownKind);
+    faults::check_words(list.len(), calls)?;
+    if answers.len().min(1152921504606846976) / 3 < calls.len() / 3 {
+        return Err(ReplayFault::Refused(Refusal::ShortSlice));
     }
-    if number != 0 {
-        return Replayed::NotCalls(CallsFault::PartOutside);
-    }
-    let room = faults::lesser(answers.len(), 1152921504606846976);
-    if room / 3 < calls.len() / 3 {
-        return Replayed::Refused(graph::Refusal::ShortSlice);
-    }
-    let answer = tagged_file::load(
+    let sizes = tagged_file::load(
         file,
         node_table,
         node_bits,
         output_table,
         output_bits,
         locks,
+    )?;
+    let nodes = calls::make_calls(
+        sizes.inputs,
+        sizes.nodes,
+        sizes.outputs,
+        node_table,
+        node_bits,
+        output_table,
+        output_bits,
+        locks,
+        list,
+        bytes,
+        calls,
+        scratch,
+        answers,
     );
-    match answer {
-        Loaded::Refused(refusal) => Replayed::Refused(refusal),
-        Loaded::Graph {
-            inputs,
-            nodes,
-            outputs,
-        } => {
-            let left = calls::make_calls(
-                inputs,
-                nodes,
-                outputs,
-                node_table,
-                node_bits,
-                output_table,
-                output_bits,
-                locks,
-                list,
-                bytes,
-                calls,
-                scratch,
-                answers,
-            );
-            Replayed::Done {
-                inputs,
-                nodes: left,
-                outputs,
-            }
-        }
-    }
+    Ok(Sizes { nodes, ..sizes })
 }

@@ -3,7 +3,8 @@ ghost use Rattle.std.specs.Prelude.{◌≡◌};
 ghost use Rattle.answers.specs.Told.{told};
 ghost use Rattle.replay.specs.Replay.{calls_number, replayed_answer};
 
-use crate::{CallsFault, Replayed};
+use crate::{CallsFault, ReplayFault};
+use tagged_file::Sizes;
 
 pub fn calls_number(fault: CallsFault) -> u32
     ensures { result ≡ calls_number fault }
@@ -15,26 +16,21 @@ pub fn calls_number(fault: CallsFault) -> u32
     }
 }
 
-pub fn replayed_number(answer: Replayed) -> u32
+pub fn replayed_number(answer: Result<Sizes, ReplayFault>) -> u32
     ensures { result ≡ (replayed_answer answer).number }
 {
     match answer {
-        Replayed::Done { .. } => 0,
-        Replayed::NotCalls(fault) => calls_number(fault),
-        Replayed::Refused(refusal) => graph::faults::number_of(refusal),
+        Ok(_) => 0,
+        Err(ReplayFault::NotCalls(fault)) => calls_number(fault),
+        Err(ReplayFault::Refused(refusal)) => u32::from(refusal),
     }
 }
 
-pub fn replayed_told(answer: Replayed, before: [u32; 3]) -> [u32; 3]
+pub fn replayed_told(answer: Result<Sizes, ReplayFault>, before: [u32; 3]) -> [u32; 3]
     ensures { result ≡ told (replayed_answer answer) before }
 {
     match answer {
-        Replayed::Done {
-            inputs,
-            nodes,
-            outputs,
-        } => [inputs, nodes, outputs],
-        Replayed::NotCalls(_) => before,
-        Replayed::Refused(_) => before,
+        Ok(sizes) => [sizes.inputs, sizes.nodes, sizes.outputs],
+        Err(_) => before,
     }
 }

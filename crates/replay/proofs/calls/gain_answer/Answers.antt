@@ -1,9 +1,9 @@
--- `gain_answer` meets its contract. From those of its answer's number and of the saving.
-use mathlib.Core.Path.{refl, ◌∙◌}
-use Rattle.graph.proofs.Difference.{read_as_lem}
-use Rattle.replay.proofs.One.{answer_alone}
+-- `gain_answer` meets its contract: a saving is told in its place.
+use Rattle.std.proofs.Common.{rules, refl}
+use Rattle.graph.specs.Answer.{own_of, whole}
+use Rattle.replay.proofs.One.{by_map}
 use Rattle.replay.proofs.calls.gain_answer.Goals as goal
 
 pub returns : goal.returns
 returns c =
-    answer_alone c.args.answer _ _ _ _ c.gain_number-number.ensures (read_as_lem _ c.gain_told-own.type_inv ∙ c.gain_told-own.ensures) refl
+    by_map own_of whole c.args.answer c.map-saving.result _ _ c.map-saving.ensures.cases (λ k. refl) (λ x s p. record { number = refl; own = search rules; others = search rules }) c.saving_answer.ensures

@@ -1,11 +1,12 @@
--- `majority_answer` meets its contract. From those of its answer's number and value.
-use mathlib.Core.Path.{refl}
-use native.Mathlib.Omega.{arith}
-use mir.Syntax.{w64}
-use mir.ValLaws.{to_z_pos}
-use Rattle.replay.proofs.One.{majority_alone}
+-- `majority_answer` meets its contract: what it says is told as a number.
+use Rattle.std.proofs.Common.{rules}
+use Rattle.hidden.specs.Call.{told_majority}
+use Rattle.hidden.specs.declared.Majority.TheVariants.{Made, NotMajority, NotCovered}
+use Rattle.replay.proofs.One.{by_value}
 use Rattle.replay.proofs.calls.majority_answer.Goals as goal
 
 pub returns : goal.returns
 returns c =
-    majority_alone c.args.answer _ c.majority_told-value.result _ _ _ c.majority_number-number.ensures c.majority_told-value.ensures (to_z_pos w64 _ (omega (arith, c.majority_told-value.type_inv))) refl
+    by_value told_majority c.args.answer c.map.result _ _ c.map.ensures.cases
+    (elim [ Made ↦ λ v p. search rules | NotMajority ↦ λ v p. search rules | NotCovered ↦ λ v p. search rules ])
+    c.value_answer.ensures

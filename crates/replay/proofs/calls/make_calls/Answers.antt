@@ -7,46 +7,50 @@ use mir.ValLaws.{to_z_pos}
 use lib.ListN.{length, length-set}
 use Rattle.graph.proofs.Difference.{read_as_lem}
 use Rattle.file_checks.proofs.Checked.{rest}
-use Rattle.replay.proofs.Left.{calls_more, calls_none}
+use Rattle.replay.proofs.Left.{opened, call_known, calls_more, calls_none}
+use Rattle.replay.proofs.Refusing.{decoded}
 use Rattle.replay.proofs.calls.make_calls.Goals as goal
-use Rattle.replay.proofs.calls.make_calls.Goals.{After-struct_told-in-loop-s-1}
+use Rattle.replay.proofs.calls.make_calls.Goals.{In-len3-up}
 
 -- there is room for the answer of a call that is left
 
-room : (c : After-struct_told-in-loop-s-1) → let l = c.loop-s in (l.at + 3 ≤ length l.answers) × (l.at + 3 ≤ 1152921504606846979)
+room : (c : In-len3-up) → let l = c.loop-s in (l.at + 3 ≤ length l.answers) × (l.at + 3 ≤ 1152921504606846979)
 room c =
     let i = c.loop-s.invariant.5 in
-    (omega (arith, i.fits, c.loop-s-test.true), omega (arith, i.placed, c.loop-s-test.true, c.requires.1))
+    (omega (arith, i.fits, c.in-len3-up.len_at_least), omega (arith, i.placed, c.in-len3-up.len_at_least, c.requires.1))
 
 pub loop-s-init : goal.loop-s-init
-loop-s-init c = (refl, refl, refl, refl, refl, record { long_scratch = refl; long_answers = refl; fits = omega (arith, c.requires.0); placed = omega arith; graph = refl; answers = refl })
+loop-s-init c = (refl, refl, refl, refl, refl, record { long_scratch = refl; long_answers = refl; fits = omega (arith, c.requires.0); placed = omega arith; graph = refl; answers = refl; known = c.requires.2 })
+
+pub unwrap-requires : goal.unwrap-requires
+unwrap-requires c = call_known _ c.loop-s.s.now c.try_from.result c.in-len3-up.len_at_least c.loop-s.invariant.5.known c.try_from.ensures
 
 pub offset_bounds-answers-at : goal.offset_bounds-answers-at
-offset_bounds-answers-at c = omega (arith, room (goal.at.offset_bounds-answers-at c).After-struct_told-in-loop-s-1)
+offset_bounds-answers-at c = omega (arith, room (goal.at.offset_bounds-answers-at c).In-len3-up)
 
 pub bounds-answers-at : goal.bounds-answers-at
-bounds-answers-at c = omega (arith, room (goal.at.bounds-answers-at c).After-struct_told-in-loop-s-1)
+bounds-answers-at c = omega (arith, room (goal.at.bounds-answers-at c).In-len3-up)
 
 pub overflow_add-own : goal.overflow_add-own
-overflow_add-own c = omega (arith, room (goal.at.overflow_add-own c).After-struct_told-in-loop-s-1)
+overflow_add-own c = omega (arith, room (goal.at.overflow_add-own c).In-len3-up)
 
-pub offset_bounds-answers-at-in-loop-s : goal.offset_bounds-answers-at-in-loop-s
-offset_bounds-answers-at-in-loop-s c = omega (arith, room (goal.at.offset_bounds-answers-at-in-loop-s c).After-struct_told-in-loop-s-1)
+pub offset_bounds-answers-at-in-len3-up : goal.offset_bounds-answers-at-in-len3-up
+offset_bounds-answers-at-in-len3-up c = omega (arith, room (goal.at.offset_bounds-answers-at-in-len3-up c).In-len3-up)
 
-pub bounds-answers-at-in-loop-s : goal.bounds-answers-at-in-loop-s
-bounds-answers-at-in-loop-s c = simp length-set (omega (arith, room (goal.at.bounds-answers-at-in-loop-s c).After-struct_told-in-loop-s-1))
+pub bounds-answers-at-in-len3-up : goal.bounds-answers-at-in-len3-up
+bounds-answers-at-in-len3-up c = simp length-set (omega (arith, room (goal.at.bounds-answers-at-in-len3-up c).In-len3-up))
 
 pub overflow_add-others : goal.overflow_add-others
-overflow_add-others c = omega (arith, room (goal.at.overflow_add-others c).After-struct_told-in-loop-s-1)
+overflow_add-others c = omega (arith, room (goal.at.overflow_add-others c).In-len3-up)
 
-pub offset_bounds-answers-at-in-loop-s-2 : goal.offset_bounds-answers-at-in-loop-s-2
-offset_bounds-answers-at-in-loop-s-2 c = omega (arith, room (goal.at.offset_bounds-answers-at-in-loop-s-2 c).After-struct_told-in-loop-s-1)
+pub offset_bounds-answers-at-in-len3-up-2 : goal.offset_bounds-answers-at-in-len3-up-2
+offset_bounds-answers-at-in-len3-up-2 c = omega (arith, room (goal.at.offset_bounds-answers-at-in-len3-up-2 c).In-len3-up)
 
-pub bounds-answers-at-in-loop-s-2 : goal.bounds-answers-at-in-loop-s-2
-bounds-answers-at-in-loop-s-2 c = simp length-set (omega (arith, room (goal.at.bounds-answers-at-in-loop-s-2 c).After-struct_told-in-loop-s-1))
+pub bounds-answers-at-in-len3-up-2 : goal.bounds-answers-at-in-len3-up-2
+bounds-answers-at-in-len3-up-2 c = simp length-set (omega (arith, room (goal.at.bounds-answers-at-in-len3-up-2 c).In-len3-up))
 
 pub overflow_add-at : goal.overflow_add-at
-overflow_add-at c = omega (arith, room (goal.at.overflow_add-at c).After-struct_told-in-loop-s-1)
+overflow_add-at c = omega (arith, room (goal.at.overflow_add-at c).In-len3-up)
 
 pub loop-s-preserved : goal.loop-s-preserved
 loop-s-preserved c =
@@ -57,11 +61,12 @@ loop-s-preserved c =
       k.output_table ∙ l.invariant.2,
       k.output_bits ∙ l.invariant.3,
       k.locks ∙ l.invariant.4,
-      calls_more _ _ _ _ _ _ _ _ l.scratch _ l.answers l.s.now _ l.at c.one_call-answer.result _ _ _
+      calls_more _ _ _ _ _ _ _ _ l.scratch _ l.answers l.s.now _ l.at c.unwrap.result _ _ c.one_call-answer.result _ _ _
           (to_z_pos w64 _ (omega (arith, c.struct_told-1.given.0.1)))
           (read_as_lem _ c.struct_told-1.given.1.0.1)
-          (read_as_lem _ c.struct_told-in-loop-s-1.given.1.1.0.1)
-          (omega (arith, c.loop-s-test.true)) l.invariant.5 c.one_call-answer.ensures k.scratch (rest 3 l.s.now),
+          (read_as_lem _ c.struct_told-in-len3-up-1.given.1.1.0.1)
+          (opened l.s.now _ _ c.in-len3-up.len_at_least (decoded _ c.try_from.result _ c.try_from.ensures c.unwrap.ensures) (rest 3 l.s.now))
+          l.invariant.5 c.one_call-answer.ensures k.scratch,
     )
 
 pub shape_of-node_table : goal.shape_of-node_table

@@ -2,18 +2,18 @@
 use Rattle.replay.proofs.One.{told_moving, told_five, told_six, told_seven, by_answer}
 use Rattle.replay.proofs.calls.one_call.Goals as goal
 
-pub returns-then-kind-lt5 : goal.returns-then-kind-lt5
-returns-then-kind-lt5 c =
-    by_answer _ _ _ _ _ _ _ _ _ (told_moving _ _ _ _ _ _ _ _ _ c.if-kind-lt5.true c.moving_call.ensures)
+pub returns-in-Majority : goal.returns-in-Majority
+returns-in-Majority c =
+    by_answer _ _ _ _ _ _ _ _ _ (told_five _ _ _ _ _ _ _ _ _ c.in-Majority.is c.three_call.ensures)
 
-pub returns-then-kind-eq5 : goal.returns-then-kind-eq5
-returns-then-kind-eq5 c =
-    by_answer _ _ _ _ _ _ _ _ _ (told_five _ _ _ _ _ _ _ _ _ c.if-kind-lt5.false c.if-kind-eq5.true c.three_call.ensures)
+pub returns-in-Finder : goal.returns-in-Finder
+returns-in-Finder c = told_six _ _ _ _ _ _ _ _ _ c.in-Finder.is c.find_call.ensures
 
-pub returns-then-kind-eq6 : goal.returns-then-kind-eq6
-returns-then-kind-eq6 c =
-    told_six _ _ _ _ _ _ _ _ _ c.if-kind-lt5.false c.if-kind-eq5.false c.if-kind-eq6.true c.find_call.ensures
+pub returns-in-Resistive : goal.returns-in-Resistive
+returns-in-Resistive c =
+    by_answer _ _ _ _ _ _ _ _ _ (told_seven _ _ _ _ _ _ _ _ _ c.in-Resistive.is c.memory_call.ensures)
 
-pub returns : goal.returns
-returns c =
-    by_answer _ _ _ _ _ _ _ _ _ (told_seven _ _ _ _ _ _ _ _ _ c.if-kind-lt5.false c.if-kind-eq5.false c.if-kind-eq6.false c.memory_call.ensures)
+pub returns-in_default : goal.returns-in_default
+returns-in_default c =
+    let n = c.in_default in
+    by_answer _ _ _ _ _ _ _ _ _ (told_moving _ _ _ _ _ _ _ _ _ n.not-Majority n.not-Finder n.not-Resistive c.moving_call.ensures)

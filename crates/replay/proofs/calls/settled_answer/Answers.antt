@@ -1,11 +1,10 @@
--- `settled_answer` meets its contract. From those of its answer's number and of both numbers of its saving.
-use mathlib.Core.Path.{◌∙◌}
-use Rattle.settling.specs.Settle.{settled_answer}
-use Rattle.graph.proofs.Difference.{read_as_lem}
-use Rattle.replay.proofs.One.{answers_told}
+-- `settled_answer` meets its contract: a saving is told in its place.
+use Rattle.std.proofs.Common.{rules, refl}
+use Rattle.graph.specs.Answer.{own_of}
+use Rattle.settling.specs.Settle.{rounds_answer}
+use Rattle.replay.proofs.One.{by_map}
 use Rattle.replay.proofs.calls.settled_answer.Goals as goal
 
 pub returns : goal.returns
 returns c =
-    let a = answers_told (settled_answer c.args.answer) _ c.settled_sums-saving.result _ c.settled_number-number.ensures c.settled_sums-saving.ensures in
-    record { number = a.number; own = read_as_lem _ c.result-1.given ∙ a.own; others = read_as_lem _ c.result-2-1.given ∙ a.others; nodes = a.nodes }
+    by_map own_of rounds_answer c.args.answer c.map-saving.result _ _ c.map-saving.ensures.cases (λ k. refl) (λ x s p. record { number = refl; own = search rules; others = search rules }) c.saving_answer.ensures

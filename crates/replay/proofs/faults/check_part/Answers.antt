@@ -1,9 +1,9 @@
--- `part_number` meets its contract. From the laws on tests.
+-- `check_part` meets its contract. From the laws on tests.
 use mathlib.Core.Path.{refl}
 use native.Mathlib.Omega.{arith}
 use Rattle.graph.proofs.Tests.{less, no_less}
 use Rattle.replay.specs.Replay.{part_number}
-use Rattle.replay.proofs.faults.part_number.Goals as goal
+use Rattle.replay.proofs.faults.check_part.Goals as goal
 
 pub returns-then-length-end : goal.returns-then-length-end
 unfolding part_number
