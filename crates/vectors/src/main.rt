@@ -11,112 +11,11 @@ mod listing;
 mod ops;
 mod print;
 mod read;
+mod tables;
 
-use graph::table::Table;
+use ops::Op;
 use std::io;
-
-fn fill(
-    rt: &impl Input,
-    bytes: &mut [u8],
-    node_table: &mut [u32],
-    node_bits: &mut [u64],
-    output_table: &mut [u32],
-    output_bits: &mut [u64],
-    locks: &mut [u8],
-) {
-    read::fill_bytes(rt, bytes);
-    read::fill_words(rt, node_table);
-    read::fill_longs(rt, node_bits);
-    read::fill_words(rt, output_table);
-    read::fill_longs(rt, output_bits);
-    read::fill_bytes(rt, locks);
-}
-
-fn show(
-    rt: &(impl Input + Print),
-    bytes: &[u8],
-    node_table: &Table,
-    output_table: &Table,
-    locks: &[u8],
-) -> io::Result<()> {
-    print::bytes(rt, bytes)?;
-    print::words(rt, node_table.indices)?;
-    print::longs(rt, node_table.bits)?;
-    print::words(rt, output_table.indices)?;
-    print::longs(rt, output_table.bits)?;
-    print::bytes(rt, locks)?;
-    print::end_line(rt)
-}
-
-fn run(
-    rt: &(impl Input + Print),
-    bytes: &mut [u8],
-    node_table: &mut [u32],
-    node_bits: &mut [u64],
-    output_table: &mut [u32],
-    output_bits: &mut [u64],
-    locks: &mut [u8],
-) -> io::Result<()> {
-    fill(
-        rt,
-        bytes,
-        node_table,
-        node_bits,
-        output_table,
-        output_bits,
-        locks,
-    );
-    ops::call(
-        rt,
-        read::word(rt),
-        bytes,
-        node_table,
-        node_bits,
-        output_table,
-        output_bits,
-        locks,
-    )?;
-    show(
-        rt,
-        bytes,
-        &Table {
-            indices: node_table,
-            bits: node_bits,
-        },
-        &Table {
-            indices: output_table,
-            bits: output_bits,
-        },
-        locks,
-    )
-}
-
-// The lengths of a case read, and so much of each slice lent.
-fn lend(
-    rt: &(impl Input + Print),
-    bytes: &mut [u8],
-    node_table: &mut [u32],
-    node_bits: &mut [u64],
-    output_table: &mut [u32],
-    output_bits: &mut [u64],
-    locks: &mut [u8],
-) -> io::Result<()> {
-    let byte_end = read::room_bytes(read::size(rt), bytes);
-    let node_end = read::room_words(read::size(rt), node_table);
-    let node_bits_end = read::room_longs(read::size(rt), node_bits);
-    let output_end = read::room_words(read::size(rt), output_table);
-    let output_bits_end = read::room_longs(read::size(rt), output_bits);
-    let lock_end = read::room_bytes(read::size(rt), locks);
-    run(
-        rt,
-        &mut bytes[..byte_end],
-        &mut node_table[..node_end],
-        &mut node_bits[..node_bits_end],
-        &mut output_table[..output_end],
-        &mut output_bits[..output_bits_end],
-        &mut locks[..lock_end],
-    )
-}
+use tables::Tables;
 
 // Reads and runs one case, and answers whether there was one.
 fn run_case(rt: &(impl Input + Print)) -> io::Result<bool> {
@@ -129,18 +28,24 @@ fn run_case(rt: &(impl Input + Print)) -> io::Result<bool> {
     let mut output_table = [0u32; 4352];
     let mut output_bits = [0u64; 72];
     let mut locks = [0u8; 2048];
-    lend(
-        rt,
-        &mut bytes,
-        &mut node_table,
-        &mut node_bits,
-        &mut output_table,
-        &mut output_bits,
-        &mut locks,
-    )?;
+    let bytes = read::front_mut(rt, &mut bytes);
+    let mut tables = Tables {
+        node_table: read::front_mut(rt, &mut node_table),
+        node_bits: read::front_mut(rt, &mut node_bits),
+        output_table: read::front_mut(rt, &mut output_table),
+        output_bits: read::front_mut(rt, &mut output_bits),
+        locks: read::front_mut(rt, &mut locks),
+    };
+    read::fill_bytes(rt, bytes);
+    tables.fill(rt);
+    ops::call(rt, Op::from(read::word(rt)), bytes, &mut tables)?;
+    print::bytes(rt, bytes)?;
+    tables.show(rt)?;
+    print::end_line(rt)?;
     Ok(true)
 }
 
+// The language wants an end of every loop, so the cases are at most a million.
 fn main(rt: HostRuntime) -> io::Result<()> {
     for _ in 0..1000000 {
         if !run_case(&rt)? {

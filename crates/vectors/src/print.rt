@@ -1,4 +1,5 @@
 // Numbers on standard output. A slice is shown by its length and a checksum.
+use graph::Refusal;
 use std::io;
 
 fn put(rt: &impl Print, n: u64) -> io::Result<()> {
@@ -11,10 +12,11 @@ pub fn size(rt: &impl Print, n: usize) -> io::Result<()> {
 
 // An answer: its number, 0 for accepted, and its values, 0 where it has none.
 pub fn answer(rt: &impl Print, number: u32, values: [u32; 3]) -> io::Result<()> {
-    put(rt, number as u64)?;
-    put(rt, values[0] as u64)?;
-    put(rt, values[1] as u64)?;
-    put(rt, values[2] as u64)
+    put(rt, u64::from(number))?;
+    for value in values {
+        put(rt, u64::from(value))?;
+    }
+    Ok(())
 }
 
 pub fn end_line(rt: &impl Print) -> io::Result<()> {
@@ -22,12 +24,7 @@ pub fn end_line(rt: &impl Print) -> io::Result<()> {
 }
 
 fn mix(sum: u64, word: u32) -> u64 {
-    let low = sum % 4294967291;
-    (low * 16777619 + word as u64) % 4294967291
-}
-
-fn mix_byte(sum: u64, byte: u8) -> u64 {
-    mix(sum, byte as u32)
+    (sum % 4294967291 * 16777619 + u64::from(word)) % 4294967291
 }
 
 // The upper half first.
@@ -38,29 +35,25 @@ fn mix_long(sum: u64, long: u64) -> u64 {
     )
 }
 
-pub fn bytes(rt: &impl Print, bytes: &[u8]) -> io::Result<()> {
-    put(rt, bytes.len() as u64)?;
-    let mut sum: u64 = 0;
-    for i in 0..bytes.len() {
-        sum = mix_byte(sum, bytes[i]);
+fn slice<T: Copy, F: Fn(u64, T) -> u64>(rt: &impl Print, elements: &[T], mix: F) -> io::Result<()>
+    requires { F.IsAlwaysCallable mix }
+{
+    size(rt, elements.len())?;
+    let mut sum = 0;
+    for element in elements {
+        sum = mix(sum, *element);
     }
     put(rt, sum)
+}
+
+pub fn bytes(rt: &impl Print, bytes: &[u8]) -> io::Result<()> {
+    slice(rt, bytes, |sum, byte| mix(sum, u32::from(byte)))
 }
 
 pub fn words(rt: &impl Print, words: &[u32]) -> io::Result<()> {
-    put(rt, words.len() as u64)?;
-    let mut sum: u64 = 0;
-    for i in 0..words.len() {
-        sum = mix(sum, words[i]);
-    }
-    put(rt, sum)
+    slice(rt, words, mix)
 }
 
 pub fn longs(rt: &impl Print, longs: &[u64]) -> io::Result<()> {
-    put(rt, longs.len() as u64)?;
-    let mut sum: u64 = 0;
-    for i in 0..longs.len() {
-        sum = mix_long(sum, longs[i]);
-    }
-    put(rt, sum)
+    slice(rt, longs, mix_long)
 }

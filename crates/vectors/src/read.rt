@@ -1,15 +1,7 @@
 // Big-endian numbers from standard input. What is not there reads as 0.
-ghost use Rattle.std.specs.Prelude.{◌≡◌, ◌≤◌, ◌<◌, length, take};
-
 use std::io::{Input, Read};
 
-fn wide(x: u8) -> u32
-    ensures { result < 256 }
-{
-    x as u32
-}
-
-// Reads until the space is full, the input ends or a read fails.
+// Reads until the space is full, the input ends or a read fails. By hand, since `read_exact` does not say what it leaves where the input ends early.
 fn fill_space<R: Read>(input: &mut R, space: &mut [u8]) {
     let mut done = 0;
     while done < space.len() {
@@ -24,67 +16,47 @@ fn fill_space<R: Read>(input: &mut R, space: &mut [u8]) {
 pub fn word(rt: &impl Input) -> u32 {
     let mut four = [0u8; 4];
     fill_space(&mut rt.reader(), &mut four);
-    ((wide(four[0]) * 256 + wide(four[1])) * 256 + wide(four[2])) * 256 + wide(four[3])
+    u32::from_be_bytes(four)
 }
 
 // A word of 64 bits, from two numbers.
 fn long(rt: &impl Input) -> u64 {
-    let high = word(rt) as u64;
-    high * 4294967296 + word(rt) as u64
+    let mut eight = [0u8; 8];
+    fill_space(&mut rt.reader(), &mut eight);
+    u64::from_be_bytes(eight)
 }
 
-pub fn size(rt: &impl Input) -> usize {
+fn size(rt: &impl Input) -> usize {
     word(rt) as usize
 }
 
-fn least(a: usize, b: usize) -> usize
-    ensures upper_bound { result ≤ a }
-    ensures upper_bound_2 { result ≤ b }
-{
-    if a < b { a } else { b }
+// As many elements at the front of a slice as the input says, or all.
+pub fn front<'a, T>(rt: &impl Input, space: &'a [T]) -> &'a [T] {
+    &space[..size(rt).min(space.len())]
 }
 
-// How many elements at the front of a slice to take: as many as wanted, or all.
-pub fn room_bytes(wanted: usize, space: &[u8]) -> usize
-    ensures { (result ≤ length space.now) × (result ≡ length (take result space.now)) }
-{
-    least(wanted, space.len())
+pub fn front_mut<'a, T>(rt: &impl Input, space: &'a mut [T]) -> &'a mut [T] {
+    let end = size(rt).min(space.len());
+    &mut space[..end]
 }
 
-pub fn room_words(wanted: usize, space: &[u32]) -> usize
-    ensures { (result ≤ length space.now) × (result ≡ length (take result space.now)) }
-{
-    least(wanted, space.len())
-}
-
-pub fn room_longs(wanted: usize, space: &[u64]) -> usize
-    ensures { (result ≤ length space.now) × (result ≡ length (take result space.now)) }
-{
-    least(wanted, space.len())
-}
-
-pub fn room_signed(wanted: usize, space: &[i64]) -> usize
-    ensures { (result ≤ length space.now) × (result ≡ length (take result space.now)) }
-{
-    least(wanted, space.len())
-}
-
-// The bytes and words that the input has for the front of a slice, as many as it says.
+// The bytes and words that the input has for the front of a slice, as many as it says. Bytes are read all at once.
 pub fn fill_bytes(rt: &impl Input, space: &mut [u8]) {
-    let end = room_bytes(size(rt), space);
-    fill_space(&mut rt.reader(), &mut space[..end]);
+    fill_space(&mut rt.reader(), front_mut(rt, space));
+}
+
+fn fill<T: Drop, R: Input, F: Fn(&R) -> T>(rt: &R, space: &mut [T], one: F)
+    requires { F.IsAlwaysCallable one }
+{
+    for x in front_mut(rt, space) {
+        *x = one(rt);
+    }
 }
 
 pub fn fill_words(rt: &impl Input, space: &mut [u32]) {
-    let end = least(size(rt), space.len());
-    for i in 0..end {
-        space[i] = word(rt);
-    }
+    fill(rt, space, word);
 }
 
 pub fn fill_longs(rt: &impl Input, space: &mut [u64]) {
-    let end = least(size(rt), space.len());
-    for i in 0..end {
-        space[i] = long(rt);
-    }
+    fill(rt, space, long);
 }
