@@ -1,5 +1,6 @@
 -- What calls leave: scratch that is kept, the tables of an answered load or replay, the stretch of a field. From the laws on answers
 -- and tests.
+use Rattle.std.proofs.Common.{Result, Ok, Err}
 use mathlib.Core.Path.{◌≡◌, refl, sym, ap, ◌∙◌}
 use mathlib.Core.List.{List, [], ◌∷◌}
 use Prim.Native.Nat.{ℕ, zero, suc}
@@ -12,16 +13,16 @@ use Rattle.tagged_file.specs.Write.{WriteOutcome, write_outcome}
 use Rattle.graph.proofs.Tests.{equal}
 use Rattle.graph.proofs.Answers.{accepted_is}
 use Rattle.file_checks.specs.File.{be2, field_number, field_payload}
-use Rattle.tagged_file.specs.declared.Loaded.{Loaded}
-use Rattle.tagged_file.specs.declared.Loaded.TheVariants as loaded
+use Rattle.graph.specs.declared.Refusal.{Refusal}
+use Rattle.tagged_file.specs.declared.Sizes.{Sizes}
 use Rattle.tagged_file.specs.Load.{loaded_graph}
 use Rattle.class_figures.specs.Call.{ClassOutcome, class_outcome}
 use Rattle.answers.specs.Told.{told, told_one, told_signed}
 use Rattle.answers.proofs.Same.{same_told, same_one, same_signed}
 use Rattle.hidden.specs.Call.{nodes_after_answer}
 use Rattle.promises.specs.Demand.{Call, Locked, with_locks}
-use Rattle.replay.specs.declared.Replayed.{Replayed}
-use Rattle.replay.specs.declared.Replayed.TheVariants as replayed
+use Rattle.replay.specs.declared.ReplayFault.{ReplayFault}
+use Rattle.replay.specs.declared.ReplayFault.TheVariants.{NotCalls, Refused}
 use Rattle.replay.specs.declared.CallsFault.TheVariants.{LeftOver, UnknownKind, PartOutside}
 use Rattle.replay.specs.Replay.{replayed_answer, replayed_graph, DemandMet}
 use Rattle.graph.proofs.Answers.{number_some}
@@ -88,34 +89,32 @@ module _ (r : ℕ) (a : Answer) (number : r ≡ a.number) where
       record { number = number ∙ ap (λ (x : Answer). x.number) e; tells = t ∙ same_told _ e; improves = s ∙ same_signed e refl }
 
 -- the tables that an answered load leaves are those of its graph
-pub loaded_nodes : (r : Loaded) (ns os : List ℕ) → ns ≡ (loaded_graph r ns os).nodes
-loaded_nodes (loaded.Graph i n o) ns os = refl
-loaded_nodes (loaded.Refused r) ns os = refl
+pub loaded_nodes : (r : Result Sizes Refusal) (ns os : List ℕ) → ns ≡ (loaded_graph r ns os).nodes
+loaded_nodes (Ok z) ns os = refl
+loaded_nodes (Err r) ns os = refl
 
-pub loaded_outputs : (r : Loaded) (ns os : List ℕ) → os ≡ (loaded_graph r ns os).outputs
-loaded_outputs (loaded.Graph i n o) ns os = refl
-loaded_outputs (loaded.Refused r) ns os = refl
+pub loaded_outputs : (r : Result Sizes Refusal) (ns os : List ℕ) → os ≡ (loaded_graph r ns os).outputs
+loaded_outputs (Ok z) ns os = refl
+loaded_outputs (Err r) ns os = refl
 
 -- the same of a replay
-pub replayed_nodes : (r : Replayed) (ns os : List ℕ) → ns ≡ (replayed_graph r ns os).nodes
-replayed_nodes (replayed.Done i n o) ns os = refl
-replayed_nodes (replayed.NotCalls f) ns os = refl
-replayed_nodes (replayed.Refused r) ns os = refl
+pub replayed_nodes : (r : Result Sizes ReplayFault) (ns os : List ℕ) → ns ≡ (replayed_graph r ns os).nodes
+replayed_nodes (Ok z) ns os = refl
+replayed_nodes (Err f) ns os = refl
 
-pub replayed_outputs : (r : Replayed) (ns os : List ℕ) → os ≡ (replayed_graph r ns os).outputs
-replayed_outputs (replayed.Done i n o) ns os = refl
-replayed_outputs (replayed.NotCalls f) ns os = refl
-replayed_outputs (replayed.Refused r) ns os = refl
+pub replayed_outputs : (r : Result Sizes ReplayFault) (ns os : List ℕ) → os ≡ (replayed_graph r ns os).outputs
+replayed_outputs (Ok z) ns os = refl
+replayed_outputs (Err f) ns os = refl
 
 -- the graph of an accepted replay is that of the numbers told
-pub replayed_demand : (r : Replayed) (d : Locked) (cs : List Call) (ns os ls : List ℕ) (l : List ℤ) (before m : List ℕ) → m ≡ told (replayed_answer r) before
+pub replayed_demand : (r : Result Sizes ReplayFault) (d : Locked) (cs : List Call) (ns os ls : List ℕ) (l : List ℤ) (before m : List ℕ) → m ≡ told (replayed_answer r) before
     → ((replayed_answer r).number ≡ 0 → DemandMet d cs (with_locks (replayed_graph r ns os) ls) l) → (replayed_answer r).number ≡ 0
     → DemandMet d cs (with_locks (graph_of (get_or m 0 0) (get_or m 1 0) (get_or m 2 0) ns os) ls) l
-replayed_demand (replayed.Done i n o) d cs ns os ls l before m e h z = rw e (h z)
-replayed_demand (replayed.NotCalls LeftOver) d cs ns os ls l before m e h z = absurd (omega arith)
-replayed_demand (replayed.NotCalls UnknownKind) d cs ns os ls l before m e h z = absurd (omega arith)
-replayed_demand (replayed.NotCalls PartOutside) d cs ns os ls l before m e h z = absurd (omega arith)
-replayed_demand (replayed.Refused r) d cs ns os ls l before m e h z = absurd (number_some r z)
+replayed_demand (Ok z) d cs ns os ls l before m e h n = rw e (h n)
+replayed_demand (Err (NotCalls LeftOver)) d cs ns os ls l before m e h n = absurd (omega arith)
+replayed_demand (Err (NotCalls UnknownKind)) d cs ns os ls l before m e h n = absurd (omega arith)
+replayed_demand (Err (NotCalls PartOutside)) d cs ns os ls l before m e h n = absurd (omega arith)
+replayed_demand (Err (Refused r)) d cs ns os ls l before m e h n = absurd (number_some r n)
 
 -- the stretch that a field call tells of is the payload
 take_again : (m : ℕ) (l : List ℕ) → take (length (take m l)) l ≡ take m l

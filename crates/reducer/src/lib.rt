@@ -1,4 +1,6 @@
 // The entries for C: each returns 0 or document 01's number, and leaves what it answers beside it at a place that is lent.
+// The C interface lends a graph's numbers and slices one by one. Each entry makes its `Lent` of them where it is used: a function for that is no
+// plainer, since its contract would tell of every field, and every proof here would cite it.
 #![tactic(auto)]
 
 ghost use Rattle.std.specs.Prelude.{◌≡◌, ◌*◌, [], ◌∷◌, length, get_or, take, drop};
@@ -38,9 +40,9 @@ pub extern "C" fn reducer_field(bytes: &[u8], payload: &mut [usize; 2]) -> u32
     ensures answer { (result ≡ field_number (before bytes)) × (payload.new ≡ told (field_answer (before bytes)) payload.old) }
     ensures stretch { result ≡ 0 → take (get_or payload.new 1 0) (drop (get_or payload.new 0 0) (before bytes)) ≡ field_payload (before bytes) }
 {
-    let number = tagged_file::field_number(bytes);
-    *payload = answers::told::field_told(number, tagged_file::field(bytes).len(), *payload);
-    number
+    let answer = tagged_file::check_field(bytes);
+    *payload = answers::told::field_told(answer, tagged_file::field(bytes).len(), *payload);
+    answers::told::refusal_number(&answer)
 }
 
 // Fills the tables and the locks, and `numbers` with I, N and O.
@@ -68,7 +70,7 @@ pub extern "C" fn reducer_load(
         locks,
     );
     *numbers = answers::told::loaded_told(answer, *numbers);
-    answers::told::loaded_number(answer)
+    answers::told::refusal_number(&answer)
 }
 
 // Fills the tables from ASCII AIGER, frees every node, and fills `numbers` with I, N and O.
@@ -96,7 +98,7 @@ pub extern "C" fn reducer_import(
         locks,
     );
     *numbers = answers::told::loaded_told(answer, *numbers);
-    answers::told::loaded_number(answer)
+    answers::told::refusal_number(&answer)
 }
 
 // Joins two graphs in the tables and locks of a third, output k of the first driving input k of the second, and fills `numbers` with its I, N and O.
@@ -168,7 +170,7 @@ pub extern "C" fn reducer_join(
         joined_locks,
     );
     *numbers = answers::told::loaded_told(answer, *numbers);
-    answers::told::loaded_number(answer)
+    answers::told::refusal_number(&answer)
 }
 
 // Fills the front of `buffer` with the graph's file.
@@ -207,7 +209,7 @@ pub extern "C" fn reducer_write(
         buffer,
     );
     *length = answers::told::written_told(answer, *length);
-    answers::told::written_number(answer)
+    answers::told::refusal_number(&answer)
 }
 
 // Fills the front of `buffer` with the graph's ASCII AIGER text.
@@ -251,7 +253,7 @@ pub extern "C" fn reducer_export(
         buffer,
     );
     *length = answers::told::written_told(answer, *length);
-    answers::told::written_number(answer)
+    answers::told::refusal_number(&answer)
 }
 
 // Fills the first `outputs` words of `results`, each bit place an assignment of its own.
@@ -277,7 +279,7 @@ pub extern "C" fn reducer_evaluate(
         ScratchKept (unless (evaluate_number g (before locks) (length (before input_words)) (length scratch.old) (length results.old)) (accepted []))
         scratch.old scratch.new }
 {
-    answers::told::evaluated_number(evaluation::evaluate(
+    let answer = evaluation::evaluate(
         &Lent {
             inputs,
             nodes,
@@ -295,7 +297,8 @@ pub extern "C" fn reducer_evaluate(
         input_words,
         scratch,
         results,
-    ))
+    );
+    answers::told::refusal_number(&answer)
 }
 
 // The least assignment that gives the pattern `wanted`, a byte an output: 0, 1, or 2 for either. `found` is 1 and its number, or 0 and 0 where none does.
@@ -339,7 +342,7 @@ pub extern "C" fn reducer_assignment(
         scratch,
     );
     *found = answers::told::assigned_told(answer, *found);
-    answers::told::assigned_number(answer)
+    answers::told::refusal_number(&answer)
 }
 
 // How many edges are complemented: document 01's C.
@@ -374,7 +377,7 @@ pub extern "C" fn reducer_count(
         locks,
     });
     *count = answers::told::count_told(answer, *count);
-    answers::told::count_number(answer)
+    answers::told::refusal_number(&answer)
 }
 
 // The best move of one node; `saving` is what it saves.
@@ -408,7 +411,7 @@ pub extern "C" fn reducer_node(
         node,
     );
     *saving = answers::told::saving_told(answer, *saving);
-    answers::told::saving_number(answer)
+    answers::told::refusal_number(&answer)
 }
 
 // The best moves of a node and of the node that one of its words, 1 to 3, names.
@@ -444,7 +447,7 @@ pub extern "C" fn reducer_pair(
         word,
     );
     *saving = answers::told::saving_told(answer, *saving);
-    answers::told::saving_number(answer)
+    answers::told::refusal_number(&answer)
 }
 
 // What a move at the node that a word names and a move at the node itself would save; nothing is changed.
@@ -491,7 +494,7 @@ pub extern "C" fn reducer_trial(
     let before = *gain;
     let after = answers::told::gain_told(answer, before);
     *gain = after;
-    answers::told::gain_number(answer)
+    answers::told::refusal_number(&answer)
 }
 
 // All moves of the list or none: node `list[k]` with move `bytes[k]`. Fills `saving` with what they save, which may be below 0.
@@ -529,7 +532,7 @@ pub extern "C" fn reducer_many(
     let before = *saving;
     let after = answers::told::gain_told(answer, before);
     *saving = after;
-    answers::told::gain_number(answer)
+    answers::told::refusal_number(&answer)
 }
 
 // The best moves of the tree of a root.
@@ -568,7 +571,7 @@ pub extern "C" fn reducer_tree(
         scratch,
     );
     *saving = answers::told::saving_told(answer, *saving);
-    answers::told::saving_number(answer)
+    answers::told::refusal_number(&answer)
 }
 
 // The moves of the tree of a root that are best for resistive memory; `saving` may be below 0.
@@ -607,7 +610,7 @@ pub extern "C" fn reducer_resistive(
         scratch,
     );
     *saving = answers::told::saving_told(answer, *saving);
-    answers::told::saving_number(answer)
+    answers::told::refusal_number(&answer)
 }
 
 // What the tree call would save, and its moves a byte a node; the tables are only read.
@@ -655,7 +658,7 @@ pub extern "C" fn reducer_preview(
         scratch,
     );
     *saving = answers::told::saving_told(answer, *saving);
-    answers::told::saving_number(answer)
+    answers::told::refusal_number(&answer)
 }
 
 // Rounds until one does not lower C; `figures` are the rounds made, C before and C after.
@@ -697,7 +700,7 @@ pub extern "C" fn reducer_settle(
     );
     *figures = answers::told::settled_told(answer, *figures);
     *savings = answers::told::settled_sums(answer, *savings);
-    answers::told::settled_number(answer)
+    answers::told::refusal_number(&answer)
 }
 
 // Settles a graph and enters it into the record of a class, whose words lie in `book`; it tells what `reducer_settle` does.
@@ -738,7 +741,7 @@ pub extern "C" fn reducer_class(
     );
     *figures = answers::told::settled_told(answer, *figures);
     *savings = answers::told::settled_sums(answer, *savings);
-    answers::told::settled_number(answer)
+    answers::told::refusal_number(&answer)
 }
 
 // The figures of all graphs of a class where `latest` is 0, and else of its latest sixteen: the count, C before and after, rounds, cells before and
@@ -755,7 +758,7 @@ pub extern "C" fn reducer_class_figures(
     let answer = class_figures::figures(book, latest);
     *figures = answers::told::figures_told(answer, *figures);
     *improvement = answers::told::improvement_told(answer, *improvement);
-    answers::told::figures_number(answer)
+    answers::told::refusal_number(&answer)
 }
 
 // Makes a node one majority of three lower indices where it is one; `answer` is 0 then, 1 for "not majority", 2 for "not covered".
@@ -802,7 +805,7 @@ pub extern "C" fn reducer_majority(
         scratch,
     );
     *answer = answers::told::majority_told(became, *answer);
-    answers::told::majority_number(became)
+    answers::told::refusal_number(&became)
 }
 
 // Finds hidden majorities, and drops what is not read then; `nodes_after` is the new number of nodes.
@@ -840,7 +843,7 @@ pub extern "C" fn reducer_find(
         scratch,
     );
     *nodes_after = answers::told::found_told(answer, *nodes_after);
-    answers::told::found_number(answer)
+    answers::told::refusal_number(&answer)
 }
 
 // Loads the file and makes a list of calls on the loaded graph and its locks; `numbers` are the I, N and O that are left.
@@ -957,5 +960,5 @@ pub extern "C" fn reducer_compare(
         moves,
     );
     *difference = answers::told::comparison_told(answer, *difference);
-    answers::told::comparison_number(answer)
+    answers::told::refusal_number(&answer)
 }

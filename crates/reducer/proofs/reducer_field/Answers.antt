@@ -1,4 +1,4 @@
--- `reducer_field` meets its contract. From those of `field_number`, `field` and `field_told`.
+-- `reducer_field` meets its contract. From those of `check_field`, `field` and `field_told`.
 use mathlib.Core.Path.{sym, ap, ◌∙◌}
 use mathlib.Core.List.{List, [], ◌∷◌}
 use Prim.Native.Nat.{ℕ}
@@ -15,8 +15,9 @@ unfolding field_answer
 returns c =
     let a = c.args in
     let s = a.bytes.now in
-    let e = c.field_number-number.ensures in
+    let e = c.check_field-answer.ensures in
     let q = c.field_told.ensures
     ∙ same_told _ (ap (λ (k : ℕ). unless k (accepted (3 ∷ length c.field.result.now ∷ []))) e
     ∙ ap (λ (l : List ℕ). unless (field_number s) (accepted (3 ∷ length l ∷ []))) c.field.ensures) in
-    record { answer = (e, q); stretch = λ z. stretch_told s _ _ q (sym e ∙ z) }
+    let n = c.refusal_number.ensures ∙ e in
+    record { answer = (n, q); stretch = λ z. stretch_told s _ _ q (sym n ∙ z) }

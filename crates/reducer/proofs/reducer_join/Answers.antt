@@ -1,8 +1,10 @@
 -- `reducer_join` meets its contract. From those of `join` and of its answer's number and values.
+use mathlib.Core.Path.{refl, ◌∙◌}
+use Rattle.answers.proofs.Same.{numbered}
 use Rattle.reducer.proofs.Left.{loaded_nodes, loaded_outputs, graph_left}
 use Rattle.reducer.proofs.reducer_join.Goals as goal
 
 pub returns : goal.returns
 returns c =
     let l = c.join-answer in
-    graph_left _ _ c.loaded_number.ensures _ _ _ _ _ _ _ _ c.loaded_told.ensures (loaded_nodes l.result _ _) (loaded_outputs l.result _ _) l.ensures
+    graph_left _ _ (c.refusal_number.ensures ∙ numbered _ _ (λ x. refl)) _ _ _ _ _ _ _ _ c.loaded_told.ensures (loaded_nodes l.result _ _) (loaded_outputs l.result _ _) l.ensures

@@ -1,6 +1,8 @@
 -- `reducer_node` meets its contract. From those of `node_call` and of its answer's number and value.
+use mathlib.Core.Path.{refl, ◌∙◌}
+use Rattle.answers.proofs.Same.{numbered}
 use Rattle.reducer.proofs.Left.{saving_left}
 use Rattle.reducer.proofs.reducer_node.Goals as goal
 
 pub returns : goal.returns
-returns c = saving_left _ _ c.saving_number.ensures _ _ _ c.saving_told.ensures c.node_call-answer.ensures
+returns c = saving_left _ _ (c.refusal_number.ensures ∙ numbered _ _ (λ x. refl)) _ _ _ c.saving_told.ensures c.node_call-answer.ensures
