@@ -1,3 +1,4 @@
 pub mod Report
+pub mod Inner
 pub mod All
 pub mod Promises

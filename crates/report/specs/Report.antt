@@ -131,11 +131,6 @@ buffer_number node_room output_room room = if_less room (128 + 18 * (node_room +
 unfoldable pub report_number : ℕ → ℕ → ℕ → ℕ → ℕ
 report_number node_room output_room s room = if_less s (8 * (node_room / 3)) 103 (buffer_number node_room output_room room)
 
--- the number of what refuses a report, 0 where nothing does
-abbrev pub fault_number : {T : Type 0} → Result T RoomFault → ℕ
-fault_number (Ok x) = 0
-fault_number (Err f) = room_number f
-
 abbrev pub reported_answer : Result ℕ RoomFault → Answer
 reported_answer (Ok n) = accepted (n ∷ [])
 reported_answer (Err f) = refused (room_number f)

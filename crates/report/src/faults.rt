@@ -1,6 +1,7 @@
 // What the lengths of the lent slices decide.
 ghost use Rattle.std.specs.Prelude.{◌≡◌};
-ghost use Rattle.report.specs.Report.{buffer_number, report_number, fault_number};
+ghost use Rattle.report.specs.Inner.{fault_number};
+ghost use Rattle.report.specs.Report.{buffer_number, report_number};
 
 use crate::RoomFault;
 
