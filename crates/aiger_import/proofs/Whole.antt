@@ -65,9 +65,6 @@ module _ (s ns os ls : List ℕ) (h : Header) (g : HeaderRead s (held ns) (held 
   pub header_rooms : Rooms h.sizes.inputs h.sizes.nodes h.sizes.outputs (held ns) (held os) (length ls)
   header_rooms = rw (r.inputs_is, r.nodes_is, r.outputs_is) (head_rooms s (held ns) (held os) (length ls) (sym g.fault_is))
 
-  pub header_within : h.size ≤ length s
-  header_within = r.within
-
   -- the bytes after it
   module _ (t : List ℕ) (p : t ≡ drop h.size s) where
     body_is : t ≡ body s

@@ -204,9 +204,6 @@ module _ (i n : ℕ) (ns ls sc : List ℕ) (v : ℕ) (h : v < n) (adm : Admitted
 
 -- a node made, or left
 module _ (g : Graph) (v f : ℕ) (t : Triple) where
-  pub becomes_none : 256 ≤ f → Becomes g v f t g.nodes
-  becomes_none h = record { changed = λ k. absurd (omega arith); kept = λ k. refl }
-
   pub becomes_made : (ns : List ℕ) → f < 256 → nodes_of g.I g.N ns ≡ made g t (node g v) → Becomes g v f t ns
   becomes_made ns h e = record { changed = λ k. e; kept = λ k. absurd (omega arith) }
 

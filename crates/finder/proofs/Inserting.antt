@@ -231,10 +231,6 @@ module _ (c e n l : ℕ) (f : 3 * c ≤ e) (h : n + e ≤ l) where
     pub room_third : (b l₂ : ℕ) → l₂ ≡ l₁ → b ≤ a + c → (b + c ≤ l₂) × (l₂ ≤ 1000)
     room_third b l₂ q r = (omega arith, omega arith)
 
--- and for what the index x leads to, behind itself
-pub room_through : (i j n m x c l l₀ r : ℕ) → j < 3 * n → x < i + 1 + j / 3 → l ≡ l₀ → m + (c + 1) ≤ l₀ → l₀ ≤ 1000 → r ≤ m + 1 → (x < i + 1 + n) × (r + c ≤ l) × (l ≤ 1000)
-room_through i j n m x c l l₀ r h b e k f q = (omega arith, omega arith, omega arith)
-
 -- within no words nothing is reached; and within some, what three words lead to that reach one less
 pub reach_nothing : (g : Graph) (f u n : ℕ) (xs : List ℕ) → f ≡ 0 → Grown (reach_room f) u (reaches g f u) n n xs xs
 unfolding reaches

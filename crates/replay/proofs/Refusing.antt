@@ -11,7 +11,8 @@ use lib.ListN.{length, get_or, drop}
 use Rattle.graph.specs.Finite.{if_less, if_equal, first}
 use Rattle.graph.proofs.Cases.{lt_or_le}
 use Rattle.graph.proofs.Tests.{equal, unequal, less, no_less, fault, none, stops}
-use Rattle.replay.specs.Replay.{calls_number, fault_number, part_number, call_number, words_number, code_number, lesser, usable}
+use Rattle.replay.specs.Replay.{calls_number, part_number, call_number, words_number, code_number, lesser, usable}
+use Rattle.replay.specs.Inner.{fault_number}
 use Rattle.replay.specs.Kind.{word_of, Decodes}
 use Rattle.replay.specs.declared.kind.Kind.{Kind}
 use Rattle.replay.specs.declared.kind.Kind.TheVariants.{Node, Pair, Tree, Settling, Many, Majority, Finder, Resistive}

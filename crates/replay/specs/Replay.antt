@@ -78,11 +78,6 @@ calls_number LeftOver = 101
 calls_number UnknownKind = 102
 calls_number PartOutside = 105
 
--- the number of what refuses words, 0 where nothing does
-abbrev pub fault_number : {T : Type 0} → Result T CallsFault → ℕ
-fault_number (Ok x) = 0
-fault_number (Err f) = calls_number f
-
 -- of entries up to a place, where n nodes are lent; of one call; and of the first call that has a fault
 unfoldable pub part_number : ℕ → ℕ → ℕ
 part_number n end = if_less n end 105 0

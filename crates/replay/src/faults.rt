@@ -1,6 +1,7 @@
 // Whether the words of a list of calls are refused.
 ghost use Rattle.std.specs.Prelude.{◌≡◌};
-ghost use Rattle.replay.specs.Replay.{part_number, call_number, words_number, fault_number};
+ghost use Rattle.replay.specs.Replay.{part_number, call_number, words_number};
+ghost use Rattle.replay.specs.Inner.{fault_number};
 
 use crate::CallsFault;
 use crate::kind::Kind;

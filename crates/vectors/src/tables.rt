@@ -33,14 +33,14 @@ impl Tables<'_> {
         read::fill_bytes(rt, self.locks);
     }
 
-    fn node_table(&self) -> Table<'_> {
+    fn nodes(&self) -> Table<'_> {
         Table {
             indices: self.node_table,
             bits: self.node_bits,
         }
     }
 
-    fn output_table(&self) -> Table<'_> {
+    fn outputs(&self) -> Table<'_> {
         Table {
             indices: self.output_table,
             bits: self.output_bits,
@@ -53,8 +53,8 @@ impl Tables<'_> {
             inputs: read::word(rt),
             nodes: read::word(rt),
             outputs: read::word(rt),
-            node_table: self.node_table(),
-            output_table: self.output_table(),
+            node_table: self.nodes(),
+            output_table: self.outputs(),
             locks: self.locks,
         }
     }
