@@ -1,5 +1,5 @@
 pub mod SameKinds
-pub mod Entered
+pub mod Falling
 pub mod Refusing
 pub mod Answering
 pub mod Standing

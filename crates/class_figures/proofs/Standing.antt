@@ -12,7 +12,7 @@ use Rattle.graph.proofs.Tests.{less, no_less, equal, unequal}
 use Rattle.class_figures.specs.Figures.{total, figures, afresh}
 use Rattle.class_figures.specs.Call.{record_length, entered_at, entered, latest_total, all_of, latest_of}
 use Rattle.class_figures.specs.Promises.{Empty}
-use Rattle.class_figures.proofs.Entered.{at_count, at_total, at_newest, at_older}
+use Rattle.class_figures.proofs.Falling.{at_count, at_total, at_newest, at_older}
 
 -- figure k of row i
 abbrev pub figure_of : List (List ℕ) → ℕ → ℕ → ℕ

@@ -9,17 +9,33 @@ use crate::cells;
 use graph::table::Table;
 use settling::Settled;
 
-// The row is added to the totals. Then the rows move by one, so that the oldest is left out, and the new one is put before them.
+// The word at place j after one more row.
+fn word_after(book: &[u64], row: &[u64; 5], j: usize) -> u64
+    requires { (86 ≤ length book.now) × (j < 86) × (get_or book.now j 0 < 1099511627776) × ((k : ℕ) → k < 5 → get_or row.now k 0 < 1099511627776) }
+    ensures { result ≡ entered_at row.now book.now j }
+{
+    if j == 0 {
+        return book[0] + 1;
+    }
+    if j < 6 {
+        return book[j] + row[j - 1];
+    }
+    if j < 11 {
+        return row[j - 6];
+    }
+    book[j - 5]
+}
+
+// From the last word down, so that a row is moved before another is put in its place: one by one, as crate graph copies
+// words.
 fn enter_row(book: &mut [u64], row: &[u64; 5])
     requires { Roomy book.old × ((k : ℕ) → k < 5 → get_or row.now k 0 < 1099511627776) }
     ensures { book.new ≡ entered row.now book.old }
 {
-    book[0] += 1;
-    for k in 0..5 {
-        book[1 + k] += row[k];
+    for j in (0..86).rev() {
+        let w = word_after(book, row, j);
+        book[j] = w;
     }
-    book.copy_within(6..81, 11);
-    book[6..11].copy_from_slice(row);
 }
 
 // The nodes of the settled graph are those of the graph before, so that they are counted once.

@@ -1,18 +1,19 @@
--- The first fault of an evaluation: what it says where there is none, and the results bit by bit. From the laws on
+-- The first fault of an evaluation: its bound, what it says where there is none, and the results bit by bit. From the laws on
 -- tests and admission.
 use mathlib.Core.Path.{◌≡◌, refl, sym, ap, ◌∙◌}
 use mathlib.Core.List.{List, ◌++◌}
-use Prim.Native.Nat.{ℕ, ◌≤◌, ◌<◌}
+use Prim.Native.Nat.{ℕ, zero, suc, ◌≤◌, ◌<◌}
 use native.Mathlib.Omega.{arith}
 use lib.ListN.{length, get_or, drop, get_or-append}
 use Rattle.graph.specs.Finite.{tab, first}
 use Rattle.graph.specs.Graph.{Graph, output}
 use Rattle.graph.specs.Literals.{bit}
 use Rattle.graph.specs.Value.{values, output_value}
-use Rattle.graph.specs.Admission.{tables_number, content_number, Admitted}
+use Rattle.graph.specs.Admission.{tables_number, content_number, admission_number, Admitted}
 use Rattle.graph.proofs.Finite.{length_tab, get_d_tab}
 use Rattle.graph.proofs.Tests.{less, no_less, equal, fault, both, off}
 use Rattle.graph.proofs.Admit.{admitted_by}
+use Rattle.graph.proofs.Answers.{if_less_le, first_le, admission_le}
 use Rattle.graph.proofs.Values.{literal_bit}
 use Rattle.evaluation.specs.Evaluation.{assignment_at, output_word, slice_number, scratch_number, evaluate_number, results_after}
 use Rattle.evaluation.specs.Promises.{ResultBit}
@@ -21,6 +22,11 @@ use Rattle.evaluation.proofs.Gather.{bit_gather}
 -- a fault that is a number of its own
 pub met : {k : ℕ} (a b : ℕ) → 0 < k → k ≡ a → k ≡ first a b
 met a b h e = fault a b e (λ z. omega arith)
+
+first_within : (t s w q n : ℕ) → first t w ≤ n → s ≤ n → q ≤ n → first t (first s (first w q)) ≤ n
+unfolding first
+first_within (suc t) s w q n h hs hq = h
+first_within zero s w q n h hs hq = first_le s (first w q) n hs (first_le w q n h hq)
 
 -- what an evaluation without a fault has been lent
 pub record Lent (g : Graph) (w s r : ℕ) : Type 0 where
@@ -43,6 +49,13 @@ module _ (g : Graph) (w r : ℕ) where
   long_slices h k = sym (no_less _ _ _ _ h (no_less _ _ _ _ k refl))
 
 module _ (g : Graph) (ls : List ℕ) (w s r : ℕ) where
+  pub evaluate_le : evaluate_number g ls w s r ≤ 13
+  unfolding evaluate_number slice_number scratch_number admission_number
+  evaluate_le =
+      first_within (tables_number g ls) _ (content_number g ls) _ 13 (admission_le g ls)
+      (if_less_le _ _ _ _ _ (omega arith) (if_less_le _ _ _ _ _ (omega arith) (omega arith)))
+      (if_less_le _ _ _ _ _ (omega arith) (omega arith))
+
   pub lent : evaluate_number g ls w s r ≡ 0 → Lent g w s r
   unfolding evaluate_number slice_number scratch_number content_number
   lent e =

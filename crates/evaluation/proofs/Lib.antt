@@ -6,3 +6,4 @@ pub mod Outputs
 pub mod Call
 pub mod Worked
 pub mod Promises
+pub mod Shift

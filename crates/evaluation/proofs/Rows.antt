@@ -6,7 +6,7 @@ use native.Mathlib.Omega.{arith}
 use native.Mathlib.Numerals.{add-one}
 use native.Mathlib.Nat.{not-suc-le-zero, le_of_suc-le-suc}
 use lib.ListN.{length, get_or, take, drop, set}
-use lib.Seq.{take-add, take-set-le, take-suc-set}
+use lib.Seq.{take-add, take-set-le, take-suc, take-suc-set}
 use Rattle.graph.specs.Finite.{tab}
 use Rattle.graph.specs.Graph.{Graph, is_xor}
 use Rattle.graph.specs.Literals.{bit}
@@ -64,10 +64,19 @@ unfolding by_index
 by_index_append i words ns = ap (λ (l : List ℕ). 0 ∷ (l ++ ns)) (sym (append-nil (take i words)))
 
 -- they are put at the front of a list: the constant's, and then the inputs'
-pub low_words : (i : ℕ) (words s ys : List ℕ) → 0 < length s → ys ≡ take i words → take 1 (set s 0 0) ++ ys ≡ by_index i words []
+pub low_none : (words s : List ℕ) → 0 < length s → take (0 + 1) (set s 0 0) ≡ by_index 0 words []
 unfolding by_index
-low_words i words [] ys h e = absurd (omega arith)
-low_words i words (x ∷ s) ys h e = ap (λ (l : List ℕ). 0 ∷ l) (e ∙ sym (append-nil (take i words)))
+low_none words [] h = absurd (omega arith)
+low_none words (x ∷ s) h = refl
+
+pub low_more : (words t : List ℕ) (k : ℕ) → k < length words → k + 1 < length t → take (k + 1) t ≡ by_index k words [] → take (k + 1 + 1) (set t (k + 1) (get_or words k 0)) ≡ by_index (k + 1) words []
+unfolding by_index
+low_more words t k h l e =
+    let o : k + 1 + 1 ≡ suc (k + 1) = omega arith in
+    rw (o, take-suc-set)
+    (ap (λ (m : List ℕ). m ++ (get_or words k 0 ∷ [])) e
+    ∙ ap (λ (m : List ℕ). 0 ∷ m)
+    (ap (λ (m : List ℕ). m ++ (get_or words k 0 ∷ [])) (append-nil (take k words)) ∙ sym (rw add-one (append-nil (take (suc k) words)) ∙ take-suc words k 0 h)))
 
 -- they stand at the front of s: none of a node, one node more, and moved to the front without those before them
 module _ (g : Graph) (words s : List ℕ) where

@@ -7,14 +7,15 @@ ghost use Rattle.graph.specs.Tables.{lent_table};
 use crate::values::{InRow, node_word};
 use graph::Lent;
 
-// Fills in the words of the constant and the inputs, each at its index.
+// Fills in the words of the constant and the inputs, each at its index: one by one, as they are moved below.
 pub fn fill_low(inputs: u32, input_words: &[u64], scratch: &mut [u64])
     requires { (inputs ≤ length input_words.now) × (inputs < length scratch.old) }
     ensures { take (inputs + 1) scratch.new ≡ by_index inputs input_words.now [] }
 {
-    let many = inputs as usize;
     scratch[0] = 0;
-    scratch[1..many + 1].copy_from_slice(&input_words[..many]);
+    for k in 0..inputs as usize {
+        scratch[k + 1] = input_words[k];
+    }
 }
 
 // Fills in the word of node v, at the place of its index.
@@ -43,12 +44,15 @@ pub fn front_nodes(lent: &Lent, begin: usize, end: usize, scratch: &mut [u64])
     }
 }
 
-// Moves so many words, from place `first` on, to the front.
+// Moves so many words, from place `first` on, to the front: one by one, since the library for C would need `memmove` for the library's copies, and for
+// nothing else.
 pub fn shift(first: usize, many: usize, scratch: &mut [u64])
     requires { first + many ≤ length scratch.old }
     ensures { take many scratch.new ≡ take many (drop first scratch.old) }
 {
-    scratch.copy_within(first..first + many, 0);
+    for k in 0..many {
+        scratch[k] = scratch[first + k];
+    }
 }
 
 // Fills the words of the first nodes into the front of `scratch`, as many as there is room for behind the words of the constant and the inputs.

@@ -1,13 +1,13 @@
 -- Answers that go by a number: what they come to at a fault and without one, and that the numbers of an admission are at most 13.
 -- Assumes nothing.
 use Rattle.std.proofs.Common.{◌≡◌, ℕ, zero, suc, ◌≤◌, ltb, ◌≢◌, List, refl, ap, sym, ◌∙◌, ⊎_elim, arith, Result, Ok, Err}
-use Rattle.std.specs.Result.{IsErrAnd}
+use Rattle.std.specs.Result.{IsErrAnd, result_and}
 use Rattle.std.proofs.lemmas.Result.{err_from_is_err_and}
 use Rattle.graph.specs.Finite.{if_less, if_equal, first, first_of}
 use Rattle.graph.specs.Graph.{Graph, is_edge}
-use Rattle.graph.specs.Admission.{room_number, tables_number, word_number, output_number, stray_number, strays_number, literal_number, lock_number, locks_number, content_number}
+use Rattle.graph.specs.Admission.{room_number, tables_number, word_number, output_number, stray_number, strays_number, literal_number, lock_number, locks_number, content_number, admission_number}
 use Rattle.graph.proofs.Cases.{cond_le, eq_or_ne}
-use Rattle.graph.proofs.Tests.{equal, unequal, fault}
+use Rattle.graph.proofs.Tests.{equal, unequal, fault, none}
 use Rattle.graph.specs.Answer.{Answer, Outcome, LockedOutcome, number_of, refusal_number, answer_by, refused, outcome, locked_outcome, unless, guarded, guarded_locks}
 use Rattle.graph.specs.Inner.{IsRefusal}
 use Rattle.graph.specs.declared.Refusal.{Refusal}
@@ -54,6 +54,11 @@ pub ends_row : {T : Type 0} (r : Result T Refusal) (x : Refusal) (a b : ℕ) →
 ends_row r x a b e n =
     let p = err_from_is_err_and r e in
     rw (p.1, p.2) (fault a b n (λ z. number_some x (n ∙ z)))
+
+-- two checks of which both are made before either is told
+pub both_row : {T U : Type 0} (r : Result T Refusal) (s q : Result U Refusal) → q ≡ result_and r s → refusal_number q ≡ first (refusal_number r) (refusal_number s)
+both_row (Ok x) s q e = none 0 (refusal_number s) refl (ap refusal_number e)
+both_row (Err x) s q e = fault (number_of x) (refusal_number s) (ap refusal_number e) (number_some x)
 
 pub ends_call : {T : Type 0} (f : T → Answer) (r : Result T Refusal) (x : Refusal) (m : ℕ) (a : Answer) → IsErrAnd r (λ y. y ≡ x) → number_of x ≡ m → answer_by f r ≡ unless m a
 ends_call f r x m a e n =
@@ -144,3 +149,7 @@ module _ (g : Graph) where
     pub content_le : content_number g ls ≤ 13
     unfolding content_number
     content_le = first_le _ _ _ (omega (arith, literal_le)) (locks_le g.N)
+
+    pub admission_le : admission_number g ls ≤ 13
+    unfolding admission_number
+    admission_le = first_le _ _ _ (omega (arith, tables_le)) content_le

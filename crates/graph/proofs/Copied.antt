@@ -1,7 +1,6 @@
 -- A table whose first words of bits, and the indices beside them, are copied to the front of another: it is that one, filled. From the laws of places and of
 -- sweeps.
-use Rattle.std.proofs.Common.{◌≡◌, ℕ, ◌*◌, ◌/◌, ◌<◌, ◌≤◌, List, ◌++◌, length, get_or, take, drop, sym, ap, ◌∙◌, ⊎_elim, arith, ext_get_or}
-use Rattle.std.proofs.lemmas.List.{get_or-take, length-take-le}
+use Rattle.std.proofs.Common.{◌≡◌, ℕ, ◌+◌, ◌*◌, ◌/◌, ◌<◌, ◌≤◌, List, ◌++◌, length, get_or, drop, set, sym, ◌∙◌, ⊎_elim, add-one, arith, ext_get_or}
 use lib.ListN.{get_or-eq_default}
 use Rattle.graph.specs.Finite.{tab}
 use Rattle.graph.specs.Literals.{bit_at, index_at, literal_at, literals, held, filled}
@@ -9,14 +8,11 @@ use Rattle.graph.proofs.Cases.{lt_or_le}
 use Rattle.graph.proofs.Filled.{length_filled, filled_in, filled_past}
 use Rattle.graph.proofs.Finite.{length_tab, get_d_tab}
 use Rattle.graph.proofs.Literals.{length_literals, literals_at, literal_in, held_literals, held_le, held_at}
-use Rattle.graph.proofs.Sweep.{swept, length_swept, swept_done, swept_left, swept_front}
+use Rattle.graph.proofs.Sweep.{swept, length_swept, swept_done, swept_left, swept_suc, swept_front}
 
--- the front of a list, place by place
-front : (l : List ℕ) (n : ℕ) → n ≤ length l → take n l ≡ tab n (λ j. get_or l j 0)
-front l n h =
-    let k = length-take-le n l h in
-    ext_get_or 0 _ _ (k ∙ sym (length_tab n (λ j. get_or l j 0)))
-    (λ i p. get_or-take n l i 0 (omega (arith, k)) ∙ sym (get_d_tab n (λ j. get_or l j 0) i (omega (arith, k))))
+-- one place more of a list that is copied
+pub copy_next : (f : ℕ → ℕ) (l t : List ℕ) (j : ℕ) → j < length l → t ≡ swept f l j → set t j (f j) ≡ swept f l (j + 1)
+copy_next f l t j h e = rw (add-one j, e) (swept_suc f l j h)
 
 copied_past : (f : ℕ → ℕ) (l : List ℕ) (n i : ℕ) → n ≤ i → get_or (swept f l n) i 0 ≡ get_or l i 0
 copied_past f l n i h =
@@ -87,11 +83,9 @@ module _ (us bs vs ds : List ℕ) (m : ℕ) (from : 64 * m ≤ held (literals us
       (λ (h : 64 * m ≤ i). place_past i h ∙ sym (filled_past ws l i q (rw ws_long (omega arith)) ∙ literals_at vs ds i (omega (arith, length_literals vs ds))))
       (lt_or_le i (64 * m)))
 
-  -- as copies of the fronts leave them
-  pub copied : (vs₁ ds₁ : List ℕ) → vs₁ ≡ take (64 * m) us ++ drop (64 * m) vs → ds₁ ≡ take m bs ++ drop m ds → literals vs₁ ds₁ ≡ filled ws l
+  -- as the two loops leave them
+  pub copied : (vs₁ ds₁ : List ℕ) → vs₁ ≡ tab (64 * m) (λ j. get_or us j 0) ++ drop (64 * m) vs → ds₁ ≡ tab m (λ j. get_or bs j 0) ++ drop m ds → literals vs₁ ds₁ ≡ filled ws l
   copied vs₁ ds₁ p q =
-      let h = held_literals us bs in
-      let k = held_literals vs ds in
-      let a : vs₁ ≡ vs' = p ∙ ap (λ (xs : List ℕ). xs ++ drop (64 * m) vs) (front us (64 * m) (omega (arith, h))) ∙ sym (swept_front (λ j. get_or us j 0) vs (64 * m) (omega (arith, k))) in
-      let b : ds₁ ≡ ds' = q ∙ ap (λ (xs : List ℕ). xs ++ drop m ds) (front bs m (omega (arith, h))) ∙ sym (swept_front (λ j. get_or bs j 0) ds m (omega (arith, k))) in
+      let a : vs₁ ≡ vs' = p ∙ sym (swept_front (λ j. get_or us j 0) vs (64 * m) (omega (arith, held_literals vs ds))) in
+      let b : ds₁ ≡ ds' = q ∙ sym (swept_front (λ j. get_or bs j 0) ds m (omega (arith, held_literals vs ds))) in
       rw (a, b) words_copied

@@ -345,6 +345,26 @@ pub fn put_last(bits: &mut [u64], j: usize, got: u64)
     bits[j / 64] = got >> (64 - many);
 }
 
+// Copies the first n indices. Neither copy is `copy_from_slice`: the library for C would need `memmove` for it, which it needs for nothing else.
+fn copy_indices(n: usize, table: &[u32], to: &mut [u32])
+    requires { (n ≤ length table.now) × (n ≤ length to.old) }
+    ensures { to.new ≡ tab n (λ j. slice_index table.now j) ++ drop n to.old }
+{
+    for j in 0..n {
+        to[j] = table[j];
+    }
+}
+
+// The same of words of bits.
+fn copy_bits(n: usize, bits: &[u64], to: &mut [u64])
+    requires { (n ≤ length bits.now) × (n ≤ length to.old) }
+    ensures { to.new ≡ tab n (λ j. slice_index bits.now j) ++ drop n to.old }
+{
+    for j in 0..n {
+        to[j] = bits[j];
+    }
+}
+
 // Copies what stands at the places of the first so many words of bits.
 pub fn copy_words(words: usize, table: &Table, to_table: &mut [u32], to_bits: &mut [u64])
     requires { let room = held (literals to_table.old to_bits.old) in
@@ -353,9 +373,8 @@ pub fn copy_words(words: usize, table: &Table, to_table: &mut [u32], to_bits: &m
         let before = literals to_table.old to_bits.old in
         literals to_table.new to_bits.new ≡ filled (tab (64 * words) (λ j. slice_index l j)) before }
 {
-    let places = 64 * words;
-    to_table[..places].copy_from_slice(&table.indices[..places]);
-    to_bits[..words].copy_from_slice(&table.bits[..words]);
+    copy_indices(64 * words, table.indices, to_table);
+    copy_bits(words, table.bits, to_bits);
 }
 
 // The byte at place k of a slice of bytes, as a word.

@@ -166,12 +166,13 @@ pub fn meet_outputs(
     put_last(joined_output_bits, end, got);
 }
 
-// Copies so many lock bytes to place `start` on.
+// Copies so many lock bytes to place `start` on, one by one, as crate graph copies words.
 pub fn copy_locks(count: u32, locks: &[u8], start: u32, joined_locks: &mut [u8])
     requires { (count ≤ length locks.now) × (start + count ≤ length joined_locks.old) }
     ensures { joined_locks.new ≡ paste joined_locks.old start locks.now count }
 {
     let first = start as usize;
-    let end = count as usize;
-    joined_locks[first..first + end].copy_from_slice(&locks[..end]);
+    for v in 0..count as usize {
+        joined_locks[first + v] = locks[v];
+    }
 }

@@ -1,25 +1,38 @@
--- `entering::enter_row` meets its contract. From the laws on entering.
-use Rattle.std.proofs.Common.{◌≡◌, ℕ, ◌+◌, ◌<◌, length, get_or, length-set, get_or-set_same, get_or-set_other, ap, ◌∙◌, arith, rules}
-use borrow.Rule.Slice.PartMut.{put_mid}
-use Rattle.class_figures.proofs.Entered.{Grown, entered_is}
+-- `entering::enter_row` meets its contract. The invariant: the words from place j on are as they will be. From the laws on entering.
+use mathlib.Core.Path.{◌≡◌, refl, ap, ◌∙◌}
+use mathlib.Core.List.{List}
+use Prim.Native.Nat.{ℕ, ◌+◌, ◌-◌}
+use native.Mathlib.Omega.{arith}
+use lib.ListN.{get_or, length-set}
+use Rattle.class_figures.proofs.Falling.{fallen_left, fallen_start, fallen_end, fallen_next}
 use Rattle.class_figures.proofs.entering.enter_row.Goals as goal
-use Rattle.class_figures.proofs.entering.enter_row.Goals.{After-loop-k}
 
-grown : (c : After-loop-k) → Grown c.args.row.now c.args.book.now c.loop-k.book
-grown c =
-    let r = c.args.book.now in
-    let i = c.loop-k.invariant in
-    let e : c.loop-k.k ≡ 5 = omega arith in
-    let long : 0 < length r = omega (arith, c.requires.0.long) in
-    record {
-      long = i.0 ∙ length-set r 0 _;
-      count = i.1 ∙ get_or-set_same r 0 _ 0 long;
-      totals = λ j h. i.3 j (omega arith) ∙ ap (λ (n : ℕ). n + get_or c.args.row.now j 0) (get_or-set_other r 0 (1 + j) _ 0 (λ z. omega arith));
-      rest = λ j h. i.2 j (omega arith) ∙ get_or-set_other r 0 j _ 0 (λ z. omega arith);
-    }
+pub loop-j-init : goal.loop-j-init
+loop-j-init c = let a = c.args in (omega arith, refl, fallen_start a.row.now a.book.now)
+
+pub word_after-w-requires : goal.word_after-w-requires
+word_after-w-requires c =
+    let a = c.args in
+    let j = c.loop-j.j - 1 in
+    let e : get_or c.loop-j.book j 0 ≡ get_or a.book.now j 0 =
+    ap (λ (b : List ℕ). get_or b j 0) c.loop-j.invariant.2 ∙ fallen_left a.row.now a.book.now c.loop-j.j j (omega (arith, c.requires.0.long)) (omega arith) in
+    (omega (arith, c.requires.0.long), omega arith, rw e (c.requires.0.low j (omega arith)), c.requires.1)
+
+pub bounds-book-j : goal.bounds-book-j
+bounds-book-j c = omega (arith, c.requires.0.long)
+
+pub loop-j-preserved : goal.loop-j-preserved
+loop-j-preserved c =
+    let a = c.args in
+    let j = c.loop-j.j - 1 in
+    let e : j + 1 ≡ c.loop-j.j = omega arith in (
+      omega arith,
+      simp length-set c.loop-j.invariant.1,
+      fallen_next a.row.now a.book.now c.loop-j.book j c.word_after-w.result (omega (arith, c.requires.0.long)) (rw e c.loop-j.invariant.2) c.word_after-w.ensures,
+    )
 
 pub returns : goal.returns
 returns c =
-    let b = c.copy_within.ensures.by_index in
-    ap (put_mid 6 5 c.copy_within.new.self) c.copy_from_slice.ensures.after
-    ∙ entered_is c.args.row.now c.args.book.now c.loop-k.book c.copy_within.new.self (grown (goal.at.returns c).After-loop-k) c.requires.0.long (search rules) c.copy_within.ensures.len b.0 b.1 b.2
+    let a = c.args in
+    let e : c.loop-j.j ≡ 0 = omega arith in
+    rw e at c.loop-j.invariant.2 ∙ fallen_end a.row.now a.book.now
