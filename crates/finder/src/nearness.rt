@@ -52,7 +52,8 @@ fn add(list: &mut [u32], n: usize, index: u32) -> usize
     insert(list, n, index)
 }
 
-// What the word at place j names, and what that index reaches.
+// What the word at place j names, and what that index reaches. Most words are the last on their way or name no node, and are
+// not asked what they reach.
 #[cycle(reach)]
 fn through(graph: &Nodes, list: &mut [u32], n: usize, j: usize, far: u32) -> usize
     requires { let g = nodes_in graph.now in
@@ -62,6 +63,12 @@ fn through(graph: &Nodes, list: &mut [u32], n: usize, j: usize, far: u32) -> usi
 {
     let x = graph.table.index_at(j);
     let m = add(list, n, x);
+    if far == 0 {
+        return m;
+    }
+    if x <= graph.inputs {
+        return m;
+    }
     reach(graph, list, m, x, far)
 }
 

@@ -1,12 +1,12 @@
 -- A node's rows and its costs as numbers: bounds, and how the words' costs are met. From the laws on tests.
-use Rattle.std.proofs.Common.{◌≡◌, ℕ, zero, suc, ◌+◌, ◌-◌, ◌*◌, ◌%◌, ◌<◌, ◌≤◌, Bool, true, false, cond, eqb, List, [], ◌∷◌, get_or, sym, refl, arith}
+use Rattle.std.proofs.Common.{◌≡◌, ℕ, zero, suc, ◌+◌, ◌-◌, ◌*◌, ◌%◌, ◌<◌, ◌≤◌, Bool, true, false, cond, eqb, List, [], ◌∷◌, get_or, sym, refl, arith, lt-ltb}
 use borrow.Author.Tests.{eqb-false}
 use Rattle.graph.specs.Admission.{Admitted}
 use Rattle.graph.specs.Count.{adds, named, output_named, node_readers, readers}
-use Rattle.graph.specs.Finite.{if_equal, count}
+use Rattle.graph.specs.Finite.{if_less, if_equal, count}
 use Rattle.graph.specs.Graph.{Graph, mark, node, word, index, turn, is_edge, is_xor}
 use Rattle.graph.specs.Inner.{IsWord}
-use Rattle.moves.specs.Rows.{arity, flag}
+use Rattle.moves.specs.Rows.{rows, first_row, arity, flag}
 use Rattle.moves.specs.Decide.{cost_by, cost_with, Weighed, Numbers, LeastBelow, Answered, FirstPair, word_after, bits_add, own_costs, swapped, given, others, cost_of, cost_given, pair_cost, numbers_of, naming, Counted}
 use Rattle.moves.specs.declared.decide.NodeNumbers.{NodeNumbers}
 use Rattle.choice.specs.Inner.{FirstBelow}
@@ -18,6 +18,16 @@ use Rattle.moves.proofs.Shown.{shown_both}
 use Rattle.moves.proofs.Flags.{by_flag}
 use Rattle.moves.proofs.Moves.{moves_of}
 use Rattle.moves.proofs.Tally.{if_bit}
+
+-- the table has the flags
+pub row_is : (x : Bool) (m k : ℕ) → m < arity x → get_or (get_or rows (first_row x + m) []) k 0 ≡ flag x m k
+unfolding flag if_less
+row_is x m k h = rw (lt-ltb m (arity x) h)
+
+pub row_low : (x : Bool) (m : ℕ) → m < arity x → first_row x + m < 6
+unfolding first_row arity
+row_low true m h = omega arith
+row_low false m h = omega arith
 
 pub arity_low : (x : Bool) → (2 ≤ arity x) × (arity x ≤ 4)
 unfolding arity

@@ -54,12 +54,14 @@ pub fn check_locked(lock: u8, m: u32) -> Result<(), Refusal>
     Err(Refusal::LockedNode)
 }
 
-// Whether node v, counted from 0, can have move m: by its kind, then by its lock.
+// Whether node v, counted from 0, can have move m: by its kind, then by its lock. Both are tested before either is told, so that nothing jumps by the
+// move, which a processor could not foresee.
 pub fn check_move(node_table: &Table, locks: &[u8], v: usize, m: u32) -> Result<(), Refusal>
     requires { Readable (lent_table node_table.now) v × (v < length locks.now) }
     ensures { let ns = lent_table node_table.now in
         ((i n o : ℕ) (os : List ℕ) → v < n → refusal_number result ≡ move_number (graph_of i n o ns os) locks.now (i + 1 + v) m) }
 {
-    check_kind(rows::is_xor(node_table, v), m)?;
-    check_locked(locks[v], m)
+    let lacked = check_kind(rows::is_xor(node_table, v), m);
+    let locked = check_locked(locks[v], m);
+    lacked.and(locked)
 }

@@ -8,11 +8,15 @@ ghost use Rattle.graph.specs.Tables.{lent_table};
 use graph::table;
 use graph::table::Table;
 
-// Whether words 1 to 3, and every reader, are turned by each move of a majority.
-const MAJORITY: [[u32; 4]; 2] = [[0, 0, 0, 0], [1, 1, 1, 1]];
-
-// And of an XOR.
-const XOR: [[u32; 4]; 4] = [[0, 0, 0, 0], [1, 1, 0, 0], [1, 0, 0, 1], [0, 1, 0, 1]];
+// Whether words 1 to 3, and every reader, are turned: a majority's two rows, then an XOR's four.
+const ROWS: [[u32; 4]; 6] = [
+    [0, 0, 0, 0],
+    [1, 1, 1, 1],
+    [0, 0, 0, 0],
+    [1, 1, 0, 0],
+    [1, 0, 0, 1],
+    [0, 1, 0, 1],
+];
 
 // A third word that is the mark makes an XOR.
 pub fn is_xor(node_table: &Table, v: usize) -> bool
@@ -43,9 +47,6 @@ pub fn flag_of(xor: bool, m: u32, k: usize) -> u32
     requires { (m < arity xor) × (k < 4) }
     ensures { (result ≡ flag xor m k) × (result ≤ 1) }
 {
-    let row = m as usize;
-    if xor {
-        return XOR[row][k];
-    }
-    MAJORITY[row][k]
+    let row = 2 * xor as usize + m as usize;
+    ROWS[row][k]
 }

@@ -16,16 +16,18 @@ pub fn fill_scratch(lent: &Lent, scratch: &mut [u32])
         Ordered g scratch.new × (stands g scratch.new ≡ g) }
 {
     let n = lent.nodes as usize;
+    // Copied, so that where the tables lie need not be read again after each store to scratch.
+    let own = *lent;
     clear(n, scratch);
-    fill::note_all(lent.inputs, n, &lent.node_table, 3 * n, 4, scratch);
+    fill::note_all(own.inputs, n, &own.node_table, 3 * n, 4, scratch);
     fill::note_all(
-        lent.inputs,
+        own.inputs,
         n,
-        &lent.output_table,
-        lent.outputs as usize,
+        &own.output_table,
+        own.outputs as usize,
         6,
         scratch,
     );
-    fill::gather_all(n, &lent.node_table, scratch);
+    fill::gather_all(n, &own.node_table, scratch);
     links::link_all(n, scratch);
 }

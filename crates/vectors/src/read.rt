@@ -13,6 +13,8 @@ fn fill_space<R: Read>(input: &mut R, space: &mut [u8]) {
     }
 }
 
+// Inlined, so that the compiler need not clear a reader's whole buffer for each word.
+#[inline(always)]
 pub fn word(rt: &impl Input) -> u32 {
     let mut four = [0u8; 4];
     fill_space(&mut rt.reader(), &mut four);

@@ -79,6 +79,25 @@ reach-returns t c =
     reach_less g (reach_room a.far) a.far a.u a.n z.result a.list.now _ n
     (reach_three g (a.far - 1) (reach_room (a.far - 1) + 1) (reach_room a.far) a.u w.result (omega (arith, reach_rooms a.far n)) (omega (arith, c.if-u-graph.false)) w.ensures a.n x.result y.result a.list.now _ _ x.ensures y.ensures _ _ z.ensures)
 
+pub through-returns-then-far-eq0 : goal.through-returns-then-far-eq0
+through-returns-then-far-eq0 t c =
+    let o = c.add-m in
+    let x = c.index_at-x in
+    let a = c.args in
+    let g = nodes_in a.graph.now in
+    let e = word_named g c.requires.0 a.j x.result c.requires.1 c.requires.2 x.ensures in
+    through_more g a.far (reach_room a.far) a.j x.result a.n o.result _ a.list.now _ _ c.requires.2 e.0 e.1 o.ensures (reach_nothing g a.far x.result o.result _ c.if-far-eq0.true)
+
+pub through-returns-then-x-graph : goal.through-returns-then-x-graph
+through-returns-then-x-graph t c =
+    let o = c.add-m in
+    let x = c.index_at-x in
+    let a = c.args in
+    let g = nodes_in a.graph.now in
+    let e = word_named g c.requires.0 a.j x.result c.requires.1 c.requires.2 x.ensures in
+    through_more g a.far (reach_room a.far) a.j x.result a.n o.result _ a.list.now _ _ c.requires.2 e.0 e.1 o.ensures
+    (reach_less g (reach_room a.far) a.far x.result o.result o.result _ _ c.if-far-eq0.false (reach_input g (a.far - 1) (reach_room a.far) x.result o.result _ c.if-x-graph.true))
+
 pub through-returns : goal.through-returns
 through-returns t c =
     let z = c.reach in
