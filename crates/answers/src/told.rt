@@ -31,13 +31,13 @@ pub fn refusal_number<T>(answer: &Result<T, Refusal>) -> u32
 }
 
 // The payload of a field starts after the 3 bytes of its head.
-pub fn field_told(answer: Result<(), Refusal>, length: usize, before: [usize; 2]) -> [usize; 2]
-    ensures { result ≡ told (unless (refusal_number answer) (accepted (3 ∷ length ∷ []))) before }
+pub fn field_told(number: u32, length: usize, before: [usize; 2]) -> [usize; 2]
+    ensures { result ≡ told (unless number (accepted (3 ∷ length ∷ []))) before }
 {
-    match answer {
-        Ok(()) => [3, length],
-        Err(_) => before,
+    if number != 0 {
+        return before;
     }
+    [3, length]
 }
 
 pub fn count_told(count: Result<u32, Refusal>, before: u32) -> u32

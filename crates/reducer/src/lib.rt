@@ -40,9 +40,9 @@ pub extern "C" fn reducer_field(bytes: &[u8], payload: &mut [usize; 2]) -> u32
     ensures answer { (result ≡ field_number (before bytes)) × (payload.new ≡ told (field_answer (before bytes)) payload.old) }
     ensures stretch { result ≡ 0 → take (get_or payload.new 1 0) (drop (get_or payload.new 0 0) (before bytes)) ≡ field_payload (before bytes) }
 {
-    let answer = tagged_file::check_field(bytes);
-    *payload = answers::told::field_told(answer, tagged_file::field(bytes).len(), *payload);
-    answers::told::refusal_number(&answer)
+    let number = answers::told::refusal_number(&tagged_file::check_field(bytes));
+    *payload = answers::told::field_told(number, tagged_file::field(bytes).len(), *payload);
+    number
 }
 
 // Fills the tables and the locks, and `numbers` with I, N and O.

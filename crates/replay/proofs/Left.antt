@@ -1,7 +1,5 @@
 -- What the loop over the calls keeps: what the calls that are left make of the graph and its locks as they stand is what all make of the start. From the
 -- laws on one call and on runs of stores.
-use Rattle.std.proofs.Common.{Result}
-use Rattle.std.specs.Result.{IsOk}
 use mathlib.Core.Path.{◌≡◌, refl, sym, ap, ◌∙◌, subst}
 use mathlib.Core.List.{List, [], ◌∷◌, ◌++◌}
 use Prim.Native.Nat.{ℕ, suc, ◌+◌, ◌*◌, ◌/◌, ◌≤◌, ◌<◌}
@@ -10,16 +8,11 @@ use native.Mathlib.Nat.{zero-add}
 use lib.IntN.{ℤ, pos}
 use lib.ListN.{length, get_or, drop, set, length-set}
 use lib.Seq.{sets, sets-eq}
-use Rattle.graph.proofs.Tests.{both}
 use Rattle.promises.specs.Demand.{Call, Locked, step, left, run}
-use Rattle.replay.specs.Replay.{Lent, lent, call_of, decode, answers_of, call_number, words_number}
-use Rattle.replay.specs.Kind.{word_of, Decodes}
-use Rattle.replay.specs.declared.CallsFault.{CallsFault}
-use Rattle.replay.specs.declared.kind.Kind.{Kind}
+use Rattle.replay.specs.Replay.{Lent, lent, call_of, decode, answers_of}
 use Rattle.replay.specs.Inner.{Tells}
 use Rattle.replay.specs.declared.calls.CallAnswer.{CallAnswer}
 use Rattle.replay.proofs.One.{tells_alike}
-use Rattle.replay.proofs.Refusing.{known, words_step}
 
 -- a run of stores from the front
 front : (vs t : List ℤ) (k : ℕ) → length vs ≡ k → k ≤ length t → sets t 0 vs ≡ vs ++ drop k t
@@ -41,15 +34,12 @@ three_stores l at x y z vs =
 answers_step : (d h : Locked) (c : Call) (t : CallAnswer) (cs : List Call) → Tells d c h t → pos t.number ∷ t.own ∷ t.others ∷ answers_of h cs ≡ answers_of d (c ∷ cs)
 answers_step d h c t cs q = λ i. pos (q.answer.number i) ∷ q.answer.own i ∷ q.answer.others i ∷ answers_of (q.leaves i) cs
 
--- a list of words opened at its first call, and that call's kind
-pub opened : (s s' : List ℕ) (k : ℕ) → 3 ≤ length s → k ≡ get_or s 0 0 → s' ≡ drop 3 s → s ≡ k ∷ get_or s 1 0 ∷ get_or s 2 0 ∷ s'
-opened [] s' k h e f = absurd (omega arith)
-opened (x ∷ []) s' k h e f = absurd (omega arith)
-opened (x ∷ u ∷ []) s' k h e f = absurd (omega arith)
-opened (x ∷ u ∷ w ∷ s) s' k h e f = λ i. sym e i ∷ u ∷ w ∷ sym f i
-
-pub call_known : (n : ℕ) (s : List ℕ) (r : Result Kind CallsFault) → 3 ≤ length s → words_number n s ≡ 0 → Decodes (get_or s 0 0) r → IsOk r
-call_known n s r h z d = known n (get_or s 0 0) (get_or s 1 0) (get_or s 2 0) r d (both _ _ (sym (words_step n s h) ∙ z)).0
+-- a list of words opened at its first call
+pub opened : (s s' : List ℕ) → 3 ≤ length s → s' ≡ drop 3 s → s ≡ get_or s 0 0 ∷ get_or s 1 0 ∷ get_or s 2 0 ∷ s'
+opened [] s' h f = absurd (omega arith)
+opened (x ∷ []) s' h f = absurd (omega arith)
+opened (x ∷ u ∷ []) s' h f = absurd (omega arith)
+opened (x ∷ u ∷ w ∷ s) s' h f = λ i. x ∷ u ∷ w ∷ sym f i
 
 pub record CallsLeft (d₀ : Locked) (sc₀ us ms ws : List ℕ) (l₀ : List ℤ) (d : Locked) (sc : List ℕ) (l : List ℤ) (s : List ℕ) (at : ℕ) : Type 0 where
   pub long_scratch : length sc ≡ length sc₀
@@ -58,17 +48,16 @@ pub record CallsLeft (d₀ : Locked) (sc₀ us ms ws : List ℕ) (l₀ : List �
   pub placed : at + length s ≡ length ws
   pub graph : run d (decode (lent sc₀ us ms) s) ≡ run d₀ (decode (lent sc₀ us ms) ws)
   pub answers : sets l at (answers_of d (decode (lent sc₀ us ms) s)) ≡ sets l₀ 0 (answers_of d₀ (decode (lent sc₀ us ms) ws))
-  pub known : words_number (length us) s ≡ 0
 
 module _ (d₀ : Locked) (sc₀ us ms ws : List ℕ) (l₀ : List ℤ) where
-  pub calls_more : (d h : Locked) (sc sc' : List ℕ) (l : List ℤ) (s s' : List ℕ) (at : ℕ) (k : Kind) (u w : ℕ) (t : CallAnswer) (x y z : ℤ) → x ≡ pos t.number → y ≡ t.own → z ≡ t.others → s ≡ word_of k ∷ u ∷ w ∷ s' → CallsLeft d₀ sc₀ us ms ws l₀ d sc l s at
-      → Tells d (call_of (lent sc us ms) (word_of k) u w) h t → length sc' ≡ length sc
+  pub calls_more : (d h : Locked) (sc sc' : List ℕ) (l : List ℤ) (s s' : List ℕ) (at : ℕ) (k u w : ℕ) (t : CallAnswer) (x y z : ℤ) → x ≡ pos t.number → y ≡ t.own → z ≡ t.others → s ≡ k ∷ u ∷ w ∷ s' → CallsLeft d₀ sc₀ us ms ws l₀ d sc l s at
+      → Tells d (call_of (lent sc us ms) k u w) h t → length sc' ≡ length sc
       → CallsLeft d₀ sc₀ us ms ws l₀ h sc' (set (set (set l at x) (at + 1) y) (at + 2) z) s' (at + 3)
   calls_more d h sc sc' l s s' at k u w t x y z ex ey ez p c q e =
       let e₂ : length (set (set (set l at x) (at + 1) y) (at + 2) z) ≡ length l = simp length-set in
-      let i : CallsLeft d₀ sc₀ us ms ws l₀ d sc l (word_of k ∷ u ∷ w ∷ s') at = subst (λ (v : List ℕ). CallsLeft d₀ sc₀ us ms ws l₀ d sc l v at) p c in
+      let i : CallsLeft d₀ sc₀ us ms ws l₀ d sc l (k ∷ u ∷ w ∷ s') at = subst (λ (v : List ℕ). CallsLeft d₀ sc₀ us ms ws l₀ d sc l v at) p c in
       let b : at + 3 * (suc (suc (suc (length s'))) / 3) ≤ length l = i.fits in
-      let n = tells_alike d h sc sc₀ us ms (word_of k) u w t i.long_scratch q in
+      let n = tells_alike d h sc sc₀ us ms k u w t i.long_scratch q in
       record {
         long_scratch = e ∙ i.long_scratch;
         long_answers = e₂ ∙ i.long_answers;
@@ -78,9 +67,8 @@ module _ (d₀ : Locked) (sc₀ us ms ws : List ℕ) (l₀ : List ℤ) where
         answers =
             three_stores l at x y z (answers_of h (decode (lent sc₀ us ms) s'))
             ∙ (λ j. sets l at (ex j ∷ ey j ∷ ez j ∷ answers_of h (decode (lent sc₀ us ms) s')))
-            ∙ ap (λ (vs : List ℤ). sets l at vs) (answers_step d h (call_of (lent sc₀ us ms) (word_of k) u w) t (decode (lent sc₀ us ms) s') n)
+            ∙ ap (λ (vs : List ℤ). sets l at vs) (answers_step d h (call_of (lent sc₀ us ms) k u w) t (decode (lent sc₀ us ms) s') n)
             ∙ i.answers;
-        known = (both (call_number (length us) (word_of k) u w) (words_number (length us) s') i.known).1;
       }
 
   pub calls_none : (d : Locked) (sc : List ℕ) (l : List ℤ) (s : List ℕ) (at : ℕ) → length s < 3 → 3 * (length ws / 3) ≤ length l₀ → CallsLeft d₀ sc₀ us ms ws l₀ d sc l s at

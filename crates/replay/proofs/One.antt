@@ -14,7 +14,7 @@ use Rattle.graph.specs.Finite.{if_less, if_equal}
 use Rattle.graph.specs.Graph.{Graph, graph_of}
 use Rattle.graph.specs.Answer.{Answer, accepted, own_of, others_of, refused, number_of, answer_by, count_answer, outcome, LockedOutcome, locked_outcome}
 use Rattle.graph.specs.declared.Refusal.{Refusal}
-use Rattle.graph.proofs.Tests.{less}
+use Rattle.graph.proofs.Tests.{less, no_less, unequal}
 use Rattle.moves.specs.Call.{node_call, pair_call, tree_call, saving_answer}
 use Rattle.moves.specs.declared.Saving.{Saving}
 use Rattle.many.specs.Many.{many_call}
@@ -24,10 +24,11 @@ use Rattle.answers.specs.Told.{told_by, told_signed}
 use Rattle.hidden.specs.Truth.{Triple, triple}
 use Rattle.hidden.specs.Call.{majority_call, find_call, found_answer, nodes_after_answer}
 use Rattle.promises.specs.Demand.{Call, node_at, pair_at, tree_at, settling, many_at, majority_at, finding, resistive_at, Locked, with_locks, beside, step, left, rewires}
-use Rattle.replay.specs.Replay.{lent, part, three_at, moving_of, call_of, value_of, second_of}
+use Rattle.replay.specs.Replay.{Lent, lent, part, three_at, moving_of, call_of, value_of, second_of}
 use Rattle.replay.specs.Inner.{Answers, Tells}
-use Rattle.replay.specs.Kind.{word_of}
+use Rattle.replay.specs.Kind.{word_of, Decodes}
 use Rattle.replay.specs.declared.calls.CallAnswer.{CallAnswer}
+use Rattle.replay.specs.declared.CallsFault.{CallsFault}
 use Rattle.replay.specs.declared.kind.Kind.{Kind}
 use Rattle.replay.specs.declared.kind.Kind.TheVariants.{Node, Pair, Tree, Settling, Many, Majority, Finder, Resistive}
 
@@ -126,6 +127,22 @@ module _ (d h : Locked) (sc us ms : List ℕ) (k : Kind) (u w : ℕ) (t : CallAn
   pub told_seven : k ≡ Resistive → Tells d (resistive_at u sc) h t → Told_call
   unfolding call_of if_less if_equal
   told_seven e q = rw e q
+
+-- a word that is no kind's makes the last kind's call
+last_kind : (t : Lent) (u w : ℕ) → call_of t 7 u w ≡ resistive_at u t.scratch
+unfolding call_of if_less if_equal
+last_kind t u w = refl
+
+no_kind : (t : Lent) (n u w : ℕ) → 7 < n → resistive_at u t.scratch ≡ call_of t n u w
+unfolding call_of
+no_kind t n u w l = no_less n 5 _ _ (omega arith) (unequal n 5 _ _ (λ z. omega arith) (unequal n 6 _ _ (λ z. omega arith) refl))
+
+-- so that each word's call is that of the kind decoded from it, or else of the last kind
+pub decoded_or : (d h : Locked) (t : Lent) (n u w : ℕ) (k : Kind) (a : CallAnswer) (r : Result Kind CallsFault) → Decodes n r → k ≡ result_unwrap_or r Resistive
+    → Tells d (call_of t (word_of k) u w) h a → Tells d (call_of t n u w) h a
+decoded_or d h t n u w k a (Ok c) e q s = subst (λ (x : ℕ). Tells d (call_of t x u w) h a) (ap word_of q ∙ e) s
+decoded_or d h t n u w k a (Err f) e q s =
+    subst (λ (c : Call). Tells d c h a) (ap (λ (x : Kind). call_of t (word_of x) u w) q ∙ last_kind t u w ∙ no_kind t n u w e.1) s
 
 -- the number of nodes is the one that it answers
 pub by_answer : (d : Locked) (c : Call) (i n o : ℕ) (ns os ls : List ℕ) (t : CallAnswer) → Tells d c (with_locks (graph_of i n o ns os) ls) t

@@ -1,8 +1,8 @@
 -- What refuses one call of a list, the walk over all of them, and what refuses the list at each test. From the laws on tests.
-use Rattle.std.proofs.Common.{Result, Ok, Err}
-use Rattle.std.specs.Result.{IsErrAnd, IsOk}
+use Rattle.std.proofs.Common.{Result}
+use Rattle.std.specs.Result.{IsErrAnd}
 use Rattle.std.proofs.lemmas.Result.{err_from_is_err_and}
-use mathlib.Core.Path.{◌≡◌, refl, sym, ap, ◌∙◌, subst}
+use mathlib.Core.Path.{◌≡◌, refl, sym, ap, ◌∙◌}
 use mathlib.Core.List.{List, [], ◌∷◌}
 use mathlib.Core.Logic.{⊎_elim, ◌≢◌}
 use Prim.Native.Nat.{ℕ, ◌+◌, ◌*◌, ◌/◌, ◌%◌, ◌≤◌, ◌<◌, min}
@@ -13,7 +13,7 @@ use Rattle.graph.proofs.Cases.{lt_or_le}
 use Rattle.graph.proofs.Tests.{equal, unequal, less, no_less, fault, none, stops}
 use Rattle.replay.specs.Replay.{calls_number, part_number, call_number, words_number, code_number, lesser, usable}
 use Rattle.replay.specs.Inner.{fault_number}
-use Rattle.replay.specs.Kind.{word_of, Decodes}
+use Rattle.replay.specs.Kind.{word_of}
 use Rattle.replay.specs.declared.kind.Kind.{Kind}
 use Rattle.replay.specs.declared.kind.Kind.TheVariants.{Node, Pair, Tree, Settling, Many, Majority, Finder, Resistive}
 use Rattle.replay.specs.declared.CallsFault.{CallsFault}
@@ -73,14 +73,6 @@ pub other_call : (n k u w : ℕ) (c : Kind) → word_of c ≡ k → (c ≡ Many 
 other_call n k u w c q m j =
     let o = other_word c m j in
     no_part n k u w (omega (arith, o.0, q)) (λ z. o.1 (q ∙ z)) (λ z. o.2 (q ∙ z))
-
--- a kind that no fault of its call keeps off is known
-pub known : (n w u v : ℕ) (r : Result Kind CallsFault) → Decodes w r → call_number n w u v ≡ 0 → IsOk r
-known n w u v (Ok c) d e = refl
-known n w u v (Err f) d e = absurd (omega (arith, kind_unknown n w u v d.1, e))
-
-pub decoded : (w : ℕ) (r : Result Kind CallsFault) (c : Kind) → Decodes w r → r ≡ Ok c → word_of c ≡ w
-decoded w r c d e = subst (Decodes w) e d
 
 -- a walk that stops at a fault
 pub stops_at : {T : Type 0} (r : Result T CallsFault) (f : CallsFault) {W D : ℕ} (a R : ℕ) → IsErrAnd r (λ y. y ≡ f) → calls_number f ≡ a → W ≡ D → W ≡ first a R → fault_number r ≡ D

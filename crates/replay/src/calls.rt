@@ -6,7 +6,7 @@ ghost use Rattle.moves.specs.Call.{saving_answer, gain_answer};
 ghost use Rattle.settling.specs.Settle.{settled_answer};
 ghost use Rattle.hidden.specs.Call.{majority_answer, found_answer, nodes_after_answer};
 ghost use Rattle.promises.specs.Demand.{many_at, majority_at, finding, resistive_at, with_locks, run};
-ghost use Rattle.replay.specs.Replay.{lent, part, three_at, words_number, moving_of, call_of, decode, value_of, answers_of};
+ghost use Rattle.replay.specs.Replay.{lent, part, three_at, moving_of, call_of, decode, value_of, answers_of};
 ghost use Rattle.replay.specs.Kind.{word_of};
 ghost use Rattle.replay.specs.Inner.{Answers, Tells};
 
@@ -419,7 +419,8 @@ pub fn one_call(
     }
 }
 
-// Every call of the list, on what the one before left; the answers go in front. Answers how many nodes are left.
+// Every call of the list, on what the one before left; the answers go in front. Answers how many nodes are left. A word that is no kind's
+// makes the last kind's call, as `call_of` has it.
 pub fn make_calls(
     inputs: u32,
     nodes: u32,
@@ -435,7 +436,7 @@ pub fn make_calls(
     scratch: &mut [u32],
     answers: &mut [i64],
 ) -> u32
-    requires { (3 * (length calls.now / 3) ≤ length answers.old) × (3 * (length calls.now / 3) ≤ 1152921504606846976) × (words_number (length list.now) calls.now ≡ 0) }
+    requires { (3 * (length calls.now / 3) ≤ length answers.old) × (3 * (length calls.now / 3) ≤ 1152921504606846976) }
     ensures graph { let g = graph_in inputs nodes outputs node_table.old node_bits.old output_table.old output_bits.old in
         let k = graph_in inputs result outputs node_table.new node_bits.new output_table.new output_bits.new in
         let cs = decode (lent scratch.old list.now bytes.now) calls.now in
@@ -460,7 +461,7 @@ pub fn make_calls(
             locks,
             list,
             bytes,
-            Kind::try_from(*kind).unwrap(),
+            Kind::try_from(*kind).unwrap_or(Kind::Resistive),
             *node,
             *word,
             scratch,

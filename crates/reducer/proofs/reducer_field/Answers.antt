@@ -15,9 +15,8 @@ unfolding field_answer
 returns c =
     let a = c.args in
     let s = a.bytes.now in
-    let e = c.check_field-answer.ensures in
+    let n = c.refusal_number-number.ensures ∙ c.check_field.ensures in
     let q = c.field_told.ensures
-    ∙ same_told _ (ap (λ (k : ℕ). unless k (accepted (3 ∷ length c.field.result.now ∷ []))) e
+    ∙ same_told _ (ap (λ (k : ℕ). unless k (accepted (3 ∷ length c.field.result.now ∷ []))) n
     ∙ ap (λ (l : List ℕ). unless (field_number s) (accepted (3 ∷ length l ∷ []))) c.field.ensures) in
-    let n = c.refusal_number.ensures ∙ e in
     record { answer = (n, q); stretch = λ z. stretch_told s _ _ q (sym n ∙ z) }

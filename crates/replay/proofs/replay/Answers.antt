@@ -22,7 +22,7 @@ returns-then-min-calls c =
     refused_words _ _ _ _ _ _ _ 4 (code_short _ _ _ c.if-calls-ne0.false (sym c.in_ok-check_words.ensures) (omega (arith, c.if-min-calls.true, lesser_min (length c.args.answers.now) 1152921504606846976))) (λ z. omega arith)
 
 pub make_calls-nodes-requires : goal.make_calls-nodes-requires
-make_calls-nodes-requires c = (omega (arith, c.if-min-calls.false), omega (arith, c.if-min-calls.false), sym c.in_ok-check_words.ensures)
+make_calls-nodes-requires c = (omega (arith, c.if-min-calls.false), omega (arith, c.if-min-calls.false))
 
 pub returns-in_err-sizes : goal.returns-in_err-sizes
 returns-in_err-sizes c =

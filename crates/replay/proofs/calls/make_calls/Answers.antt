@@ -7,8 +7,8 @@ use mir.ValLaws.{to_z_pos}
 use lib.ListN.{length, length-set}
 use Rattle.graph.proofs.Difference.{read_as_lem}
 use Rattle.file_checks.proofs.Checked.{rest}
-use Rattle.replay.proofs.Left.{opened, call_known, calls_more, calls_none}
-use Rattle.replay.proofs.Refusing.{decoded}
+use Rattle.replay.proofs.Left.{opened, calls_more, calls_none}
+use Rattle.replay.proofs.One.{decoded_or}
 use Rattle.replay.proofs.calls.make_calls.Goals as goal
 use Rattle.replay.proofs.calls.make_calls.Goals.{In-len3-up}
 
@@ -20,10 +20,7 @@ room c =
     (omega (arith, i.fits, c.in-len3-up.len_at_least), omega (arith, i.placed, c.in-len3-up.len_at_least, c.requires.1))
 
 pub loop-s-init : goal.loop-s-init
-loop-s-init c = (refl, refl, refl, refl, refl, record { long_scratch = refl; long_answers = refl; fits = omega (arith, c.requires.0); placed = omega arith; graph = refl; answers = refl; known = c.requires.2 })
-
-pub unwrap-requires : goal.unwrap-requires
-unwrap-requires c = call_known _ c.loop-s.s.now c.try_from.result c.in-len3-up.len_at_least c.loop-s.invariant.5.known c.try_from.ensures
+loop-s-init c = (refl, refl, refl, refl, refl, record { long_scratch = refl; long_answers = refl; fits = omega (arith, c.requires.0); placed = omega arith; graph = refl; answers = refl })
 
 pub offset_bounds-answers-at : goal.offset_bounds-answers-at
 offset_bounds-answers-at c = omega (arith, room (goal.at.offset_bounds-answers-at c).In-len3-up)
@@ -61,12 +58,12 @@ loop-s-preserved c =
       k.output_table ∙ l.invariant.2,
       k.output_bits ∙ l.invariant.3,
       k.locks ∙ l.invariant.4,
-      calls_more _ _ _ _ _ _ _ _ l.scratch _ l.answers l.s.now _ l.at c.unwrap.result _ _ c.one_call-answer.result _ _ _
+      calls_more _ _ _ _ _ _ _ _ l.scratch _ l.answers l.s.now _ l.at _ _ _ c.one_call-answer.result _ _ _
           (to_z_pos w64 _ (omega (arith, c.struct_told-1.given.0.1)))
           (read_as_lem _ c.struct_told-1.given.1.0.1)
           (read_as_lem _ c.struct_told-in-len3-up-1.given.1.1.0.1)
-          (opened l.s.now _ _ c.in-len3-up.len_at_least (decoded _ c.try_from.result _ c.try_from.ensures c.unwrap.ensures) (rest 3 l.s.now))
-          l.invariant.5 c.one_call-answer.ensures k.scratch,
+          (opened l.s.now _ c.in-len3-up.len_at_least (rest 3 l.s.now))
+          l.invariant.5 (decoded_or _ _ _ _ _ _ _ _ c.try_from.result c.try_from.ensures c.unwrap_or.ensures c.one_call-answer.ensures) k.scratch,
     )
 
 pub shape_of-node_table : goal.shape_of-node_table
